@@ -39,6 +39,7 @@ module _ {M : Type 0} (at : M → View → Type 0) (old mid : Lane M) (v : View)
         ready = put.ready;
         draws = put.draws;
         written = put.written;
+        may_draw = put.may_draw;
         rests = put.rests;
         listed = subst (IsPendingAs pending) (sym (pending_drawn z lane.last)) listed;
         entries = λ j. drawn_more (entries j) lane.last (call j);

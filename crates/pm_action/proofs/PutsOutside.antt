@@ -127,7 +127,7 @@ module _ (o : Opening) (header : Header) (pool : PoolView) (start : View) (steps
     unfolding puts_range
     put_stops new stops = any.own_write_stops w base id off bytes own op new stops
 
-    put_is : put_view w id off bytes ≡ after (after_all w (writes (id.off + off) bytes w)) (Tell (WriteReserved id off bytes) None)
+    pub put_is : put_view w id off bytes ≡ after (after_all w (writes (id.off + off) bytes w)) (Tell (WriteReserved id off bytes) None)
     unfolding puts_range
     put_is = (any.sequence w base id off bytes own op).1
 

@@ -87,6 +87,7 @@ module _ {M : Type 0} (at : M → View → Type 0) (lane mid : Lane M) (w : View
           room = room;
           undrawn = made_entries t.0 t.1 t.2 t.3 t.4 w lane.shape t.5 u size kind block makes;
           untold = made_call t.0 t.1 t.2 t.3 t.4 w lane.shape t.5 u size kind block makes;
+          may_draw = told_may_draw at mid u made_begun (Reserve size kind) (Some (Offset (block.place + 64))) next.last;
           rests = rests;
           listed = subst (IsPendingAs pending) (sym (made_pending t.0 t.1 t.2 t.3 t.4 w lane.shape t.5 u size kind block makes)) (listed (pending_in w) are);
           ended = λ o header pool start steps between. reserved_ends o header pool start steps w next.shape between u size kind block makes some most room;
@@ -109,6 +110,7 @@ module _ {M : Type 0} (at : M → View → Type 0) (lane mid : Lane M) (w : View
         reason = reason;
         undrawn = looks.entries;
         untold = looks.call;
+        may_draw = told_may_draw at mid x begun (Reserve size kind) (Some (Refused r)) next.last;
         rests = rests;
         ended = λ o header pool start steps between. refusal_ends w x looks o header pool start steps next.shape between size kind r reason;
         keeps = λ o header pool start steps between.

@@ -54,6 +54,7 @@ module _ {M : Type 0} (at : M → View → Type 0) (old mid : Lane M) (v : View)
         some = has.some;
         most = has.most;
         room = subst (λ (p : Pending). pending_count p < max_actions) pending_is has.room;
+        may_draw = has.may_draw;
         rests = has.rests;
         listed = subst (IsPendingAs pending) (sym (pending_drawn z lane.last)) has.listed;
         entries = λ j. drawn_more (entries j) lane.last (call j);
@@ -73,6 +74,7 @@ module _ {M : Type 0} (at : M → View → Type 0) (old mid : Lane M) (v : View)
         view = has.view;
         came = has.came;
         reason = subst (λ (p : Pending). IsReserveReason p size why) pending_is has.reason;
+        may_draw = has.may_draw;
         rests = has.rests;
         entries = λ j. drawn_more (entries j) lane.last (call j);
         pending = pending_drawn z lane.last ∙ (pending_once_more w z (Reserve size kind) (Some (Refused why)) has.undrawn told ∙ pending_is);

@@ -17,6 +17,7 @@ use Rattle.pm_view.specs.Steps.{Step}
 use Rattle.pm_view.specs.Steps.Step.{Draw}
 use Rattle.pm_view.specs.View.{View}
 use Rattle.pm_view.specs.Views.{after, after_all}
+use Rattle.pm_world.specs.Lawful.{Allowed}
 use Rattle.pm_world.specs.Opening.{Opening}
 use Rattle.pm_world.specs.Sequences.{Ready}
 use Rattle.pm_world.specs.declared.lane.Lane.{Lane}
@@ -47,6 +48,7 @@ pub record HasPutBegun {M : Type 0} (at : M → View → Type 0) (lane : Lane M)
   pub ready : Ready w (puts_range id off bytes w)
   pub draws : DrawEnded w (puts_range id off bytes w)
   pub written : WritesReserved w (put_view w id off bytes) id off bytes
+  pub may_draw : Allowed (put_view w id off bytes) (Draw lane.last)
   pub rests : IsAtRest at lane (put_drawn w id off bytes lane.last)
   pub ended : (o : Opening) (header : Header) (pool : PoolView) (start : View) (steps : List Step) → IsAloneBetween o header pool start steps w lane.shape → IsEndedCall (put_view w id off bytes)
   pub keeps : (o : Opening) (header : Header) (pool : PoolView) (start : View) (steps : List Step) → IsAloneBetween o header pool start steps w lane.shape → RestsStill o header pool (put_drawn w id off bytes lane.last) lane.shape
@@ -60,6 +62,7 @@ pub record HasPutOutside {M : Type 0} (at : M → View → Type 0) (lane : Lane 
   pub ready : Ready (with_next_call v) (puts_range id off bytes (with_next_call v))
   pub draws : DrawEnded (with_next_call v) (puts_range id off bytes (with_next_call v))
   pub written : WritesReserved (with_next_call v) (put_view (with_next_call v) id off bytes) id off bytes
+  pub may_draw : Allowed (put_view (with_next_call v) id off bytes) (Draw lane.last)
   pub rests : IsAtRest at lane (put_drawn (with_next_call v) id off bytes lane.last)
   pub listed : IsPendingAs pending (pending_before (put_drawn (with_next_call v) id off bytes lane.last))
   pub entries : (put_drawn (with_next_call v) id off bytes lane.last).entries ≡ drawn_more v.entries lane.last (record { operation = WriteReserved id off bytes; reply = None } ∷ [])

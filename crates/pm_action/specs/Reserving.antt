@@ -21,6 +21,7 @@ use Rattle.pm_view.specs.Steps.{Step}
 use Rattle.pm_view.specs.Steps.Step.{Draw, Tell}
 use Rattle.pm_view.specs.View.{View}
 use Rattle.pm_view.specs.Views.{after}
+use Rattle.pm_world.specs.Lawful.{Allowed}
 use Rattle.pm_world.specs.Opening.{Opening}
 use Rattle.pm_world.specs.declared.lane.Lane.{Lane}
 use Rattle.pm_blocks.specs.declared.making.NoBlock.TheVariants as no_block
@@ -60,6 +61,7 @@ pub record HasReservedBegun {M : Type 0} (at : M → View → Type 0) (lane : La
   pub room : pending_count (pending_in w) < max_actions
   pub undrawn : view.entries ≡ w.entries
   pub untold : view.call ≡ w.call
+  pub may_draw : Allowed (with_object_reserved view (object_in_block block size kind)) (Draw lane.last)
   pub rests : IsAtRest at lane (reserved_drawn view block size kind lane.last)
   pub listed : IsPendingAs pending (pending_in (with_object_reserved view (object_in_block block size kind)))
   pub ended : (o : Opening) (header : Header) (pool : PoolView) (start : View) (steps : List Step) → IsAloneBetween o header pool start steps w lane.shape → IsEndedCall (with_object_reserved view (object_in_block block size kind))
@@ -72,6 +74,7 @@ pub record HasRefusedBegun {M : Type 0} (at : M → View → Type 0) (lane : Lan
   pub reason : IsReserveReason (pending_in w) size r
   pub undrawn : view.entries ≡ w.entries
   pub untold : view.call ≡ w.call
+  pub may_draw : Allowed (refused_view view size kind r) (Draw lane.last)
   pub rests : IsAtRest at lane (refused_drawn view size kind r lane.last)
   pub ended : (o : Opening) (header : Header) (pool : PoolView) (start : View) (steps : List Step) → IsAloneBetween o header pool start steps w lane.shape → IsEndedCall (refused_view view size kind r)
   pub keeps : (o : Opening) (header : Header) (pool : PoolView) (start : View) (steps : List Step) → IsAloneBetween o header pool start steps w lane.shape → RestsStill o header pool (refused_drawn view size kind r lane.last) lane.shape
@@ -92,6 +95,7 @@ pub record HasReservedOutside {M : Type 0} (at : M → View → Type 0) (lane : 
   pub some : 1 ≤ size
   pub most : size ≤ 262080
   pub room : pending_count (pending_before v) < max_actions
+  pub may_draw : Allowed (with_object_reserved view (object_in_block block size kind)) (Draw lane.last)
   pub rests : IsAtRest at lane (reserved_drawn view block size kind lane.last)
   pub listed : IsPendingAs pending (pending_before (reserved_drawn view block size kind lane.last))
   pub entries : (reserved_drawn view block size kind lane.last).entries ≡ drawn_more v.entries lane.last (record { operation = Reserve size kind; reply = Some (Offset (block.place + 64)) } ∷ [])
@@ -105,6 +109,7 @@ pub record HasRefusedOutside {M : Type 0} (at : M → View → Type 0) (lane : L
   pub view : View
   pub came : CameToRefuse (with_next_call v) size r view
   pub reason : IsReserveReason (pending_before v) size r
+  pub may_draw : Allowed (refused_view view size kind r) (Draw lane.last)
   pub rests : IsAtRest at lane (refused_drawn view size kind r lane.last)
   pub entries : (refused_drawn view size kind r lane.last).entries ≡ drawn_more v.entries lane.last (record { operation = Reserve size kind; reply = Some (Refused r) } ∷ [])
   pub pending : pending_before (refused_drawn view size kind r lane.last) ≡ pending_before v

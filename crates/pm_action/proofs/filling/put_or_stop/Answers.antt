@@ -1,15 +1,17 @@
-use Rattle.std.proofs.Common.{◌+◌, None, Err, refl, subst, arith}
+use Rattle.std.proofs.Common.{◌+◌, None, Err, refl, sym, subst, arith}
 use Rattle.pm_objects.specs.declared.calls.Operation.TheVariants.{WriteReserved}
 use Rattle.pm_lock.specs.Resting.{IsAtRest}
-use Rattle.pm_view.specs.Steps.Step.{Tell}
+use Rattle.pm_view.specs.Steps.Step.{Draw, Tell}
 use Rattle.pm_words.specs.Words.{AreBytes}
 use Rattle.pm_world.proofs.Sequencing.{runs_err}
+use Rattle.pm_view.specs.View.{View}
+use Rattle.pm_world.specs.Lawful.{Allowed}
 use Rattle.pm_world.specs.Sequences.{one}
 use Rattle.pm_tx.proofs.Telling.{is_ready, was_made, was_stopped}
 use Rattle.pm_tx.specs.Sequences.{writes}
 use Rattle.pm_transaction.specs.Filling.{puts_range}
 use Rattle.pm_action.proofs.BegunOn.{told_may_draw}
-use Rattle.pm_action.proofs.PutsOutside.{begun_filled, put_alone, put_draws, put_drawn_is, put_ended, put_is_low, put_ready, put_rests_still, put_stops, put_written, puts_first}
+use Rattle.pm_action.proofs.PutsOutside.{begun_filled, put_alone, put_draws, put_drawn_is, put_ended, put_is, put_is_low, put_ready, put_rests_still, put_stops, put_written, puts_first}
 use Rattle.pm_action.specs.Filling.{put_drawn}
 use Rattle.pm_action.proofs.filling.put_or_stop.Goals as goal
 
@@ -51,6 +53,7 @@ returns-in-Ok-clause-done g c w b range =
       ready = put_ready t.0 t.1 t.2 t.3 t.4 w c.args.lane.now.shape t.5 id off bytes range;
       draws = put_draws t.0 t.1 t.2 t.3 t.4 w c.args.lane.now.shape t.5 id off bytes range;
       written = put_written t.0 t.1 t.2 t.3 t.4 w c.args.lane.now.shape t.5 id off bytes range are;
+      may_draw = subst (λ (z : View). Allowed z (Draw new.last)) (sym (put_is t.0 t.1 t.2 t.3 t.4 w c.args.lane.now.shape t.5 id off bytes range)) (told_may_draw g.M.LaneMem.at _ _ begun (WriteReserved id off bytes) None new.last);
       rests = rests;
       ended = λ o header pool start steps between. put_ended o header pool start steps w new.shape between id off bytes range are;
       keeps = λ o header pool start steps between.
