@@ -17,9 +17,9 @@ use Rattle.pm_tx.specs.Beginning.{IsBegunBy}
 use Rattle.pm_tx.specs.Ending.{drawn_more}
 use Rattle.pm_tx.specs.Ranges.{StopsUndrawn}
 use Rattle.pm_tx.specs.Sequences.{starts}
-use Rattle.pm_transaction.specs.Filling.{puts_range}
+use Rattle.pm_transaction.specs.Filling.{HasReservedRange, puts_range}
 use Rattle.pm_action.proofs.BeginningAlone.{next_is, next_led, rests_no_table}
-use Rattle.pm_action.proofs.NextBegun.{between_next, has_next_begun, next_before}
+use Rattle.pm_action.proofs.NextBegun.{between_next, has_next_begun, next_before, next_below}
 use Rattle.pm_action.proofs.Started.{told_at_once_since}
 use Rattle.pm_action.specs.Filling.{HasPutBegun, HasPutOutside, HasRefusedPutOutside, HasStoppedPutting, put_view}
 use Rattle.pm_action.specs.Outside.{IsToldAtOnce, RestsAlone}
@@ -36,6 +36,7 @@ module _ {M : Type 0} (at : M → View → Type 0) (old mid : Lane M) (v : View)
       put.written.tells.call ∙ ap (λ (call : List Told). call ++ record { operation = WriteReserved id off bytes; reply = None } ∷ []) (has_next_begun at mid v n (rests_no_table at old mid v n r started) started).untold in
       record {
         led = next_led at old mid v n r started;
+        below = next_below at mid v n (rests_no_table at old mid v n r started) started;
         ready = put.ready;
         draws = put.draws;
         written = put.written;
@@ -55,10 +56,12 @@ module _ {M : Type 0} (at : M → View → Type 0) (old mid : Lane M) (v : View)
         (subst (λ (u : View). IsToldAtOnce at lane u (WriteReserved id off bytes) (Some (Refused why))) (sym (next_is at old mid v n r started)) refused.told);
   }
 
-  pub stopped_since_rest : mid ≡ record old { memory = mid.memory } → (lane : Lane M) → lane ≡ record mid { memory = lane.memory; stopped = true } → StopsUndrawn (at lane.memory) (with_next_call v) (puts_range id off bytes) → HasStoppedPutting at lane v id off bytes
+  pub stopped_since_rest : mid ≡ record old { memory = mid.memory } → (lane : Lane M) → lane ≡ record mid { memory = lane.memory; stopped = true } → HasReservedRange (with_next_call v) id off (length bytes) × StopsUndrawn (at lane.memory) (with_next_call v) (puts_range id off bytes) → HasStoppedPutting at lane v id off bytes
   stopped_since_rest same lane fields stops = record {
     led = next_led at old mid v n r started;
-    stops = stops;
+        below = next_below at mid v n (rests_no_table at old mid v n r started) started;
+    range = stops.0;
+    stops = stops.1;
     stopped = ap (λ (l : Lane M). l.stopped) fields;
     undrawn = ap (λ (l : Lane M). l.drawn) fields ∙ (ap (λ (l : Lane M). l.drawn) same ∙ r.rests.answered);
   }

@@ -23,7 +23,7 @@ use Rattle.pm_tx.specs.Beginning.{IsBegunBy}
 use Rattle.pm_tx.specs.Ending.{drawn_more}
 use Rattle.pm_tx.specs.Sequences.{starts}
 use Rattle.pm_action.proofs.BeginningAlone.{next_led, next_pending, rests_no_table}
-use Rattle.pm_action.proofs.NextBegun.{between_next, has_next_begun, next_before}
+use Rattle.pm_action.proofs.NextBegun.{between_next, has_next_begun, next_before, next_below}
 use Rattle.pm_action.specs.Outside.{RestsAlone}
 use Rattle.pm_action.specs.Reserving.{HasRefusedBegun, HasRefusedOutside, HasReservedBegun, HasReservedOutside, HasStoppedReserving, refused_view}
 
@@ -46,6 +46,7 @@ module _ {M : Type 0} (at : M → View → Type 0) (old mid : Lane M) (v : View)
       ap (λ (call : List Told). call ++ record { operation = Reserve size kind; reply = Some (Offset (n.place + 64)) } ∷ []) (has.untold ∙ untold) in
       record {
         led = next_led at old mid v _ r started;
+        below = next_below at mid v _ (rests_no_table at old mid v _ r started) started;
         block = n;
         is = has.is ∙ ap (λ (pool : ℕ). let id : Oid = record { pool = pool; off = n.place + 64 } in id) (next_before v).pool;
         view = has.view;
@@ -71,6 +72,7 @@ module _ {M : Type 0} (at : M → View → Type 0) (old mid : Lane M) (v : View)
       let call : z.call ≡ record { operation = Reserve size kind; reply = Some (Refused why) } ∷ [] = told ∙ ap (λ (call : List Told). call ++ record { operation = Reserve size kind; reply = Some (Refused why) } ∷ []) untold in
       record {
         led = next_led at old mid v n r started;
+        below = next_below at mid v n (rests_no_table at old mid v n r started) started;
         view = has.view;
         came = has.came;
         reason = subst (λ (p : Pending). IsReserveReason p size why) pending_is has.reason;
@@ -86,6 +88,7 @@ module _ {M : Type 0} (at : M → View → Type 0) (old mid : Lane M) (v : View)
       → ((stop : Stopped) × GivesNoObject (at lane.memory) (with_next_call v) size kind (no_block.Stopped stop)) → HasStoppedReserving at lane v size kind
   stopped_since_rest same lane fields gives = record {
     led = next_led at old mid v n r started;
+        below = next_below at mid v n (rests_no_table at old mid v n r started) started;
     stop = gives.0;
     gives = gives.1;
     stopped = ap (λ (l : Lane M). l.stopped) fields;

@@ -1,5 +1,5 @@
 -- Bytes that are written into an object that is reserved where no transaction is open (pmemobj_reserve(3)): the write is a call of its own, of a lane that is alone.
-use Rattle.std.specs.Prelude.{◌≡◌, ℕ, ◌∷◌, true, false, Bool, List, [], length, None, Some}
+use Rattle.std.specs.Prelude.{◌≡◌, ℕ, ◌∷◌, ◌<◌, true, false, Bool, List, [], length, None, Some}
 use Rattle.pm_header.specs.declared.header.Header.{Header}
 use Rattle.pm_crash.specs.HeldHistory.{IsEndedCall}
 use Rattle.pm_crash.specs.Pending.{pending_before}
@@ -17,7 +17,8 @@ use Rattle.pm_view.specs.Steps.{Step}
 use Rattle.pm_view.specs.Steps.Step.{Draw}
 use Rattle.pm_view.specs.View.{View}
 use Rattle.pm_view.specs.Views.{after, after_all}
-use Rattle.pm_world.specs.Lawful.{Allowed}
+use Rattle.pm_world.specs.Lawful.{Allowed, generation_limit}
+use Rattle.pm_world.specs.Records.{generation_of}
 use Rattle.pm_world.specs.Opening.{Opening}
 use Rattle.pm_world.specs.Sequences.{Ready}
 use Rattle.pm_world.specs.declared.lane.Lane.{Lane}
@@ -59,6 +60,7 @@ pub record HasPutBegun {M : Type 0} (at : M → View → Type 0) (lane : Lane M)
 -- lane rests. The list is what is pending still; and in whatever world the lane rested with what it had reserved, it rests with that now
 pub record HasPutOutside {M : Type 0} (at : M → View → Type 0) (lane : Lane M) (pending : PendingActions) (v : View) (id : Oid) (off : ℕ) (bytes : List ℕ) : Type 0 where
   pub led : IsLed v (with_next_call v)
+  pub below : generation_of v < generation_limit
   pub ready : Ready (with_next_call v) (puts_range id off bytes (with_next_call v))
   pub draws : DrawEnded (with_next_call v) (puts_range id off bytes (with_next_call v))
   pub written : WritesReserved (with_next_call v) (put_view (with_next_call v) id off bytes) id off bytes
@@ -78,6 +80,8 @@ pub record HasRefusedPutOutside {M : Type 0} (at : M → View → Type 0) (lane 
 -- the lane began its next call, and stopped as it wrote the bytes, before that was told. It tells no number, since none was drawn
 pub record HasStoppedPutting {M : Type 0} (at : M → View → Type 0) (lane : Lane M) (v : View) (id : Oid) (off : ℕ) (bytes : List ℕ) : Type 0 where
   pub led : IsLed v (with_next_call v)
+  pub below : generation_of v < generation_limit
+  pub range : HasReservedRange (with_next_call v) id off (length bytes)
   pub stops : StopsUndrawn (at lane.memory) (with_next_call v) (puts_range id off bytes)
   pub stopped : lane.stopped ≡ true
   pub undrawn : lane.drawn ≡ None

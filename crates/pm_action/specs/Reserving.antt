@@ -21,7 +21,8 @@ use Rattle.pm_view.specs.Steps.{Step}
 use Rattle.pm_view.specs.Steps.Step.{Draw, Tell}
 use Rattle.pm_view.specs.View.{View}
 use Rattle.pm_view.specs.Views.{after}
-use Rattle.pm_world.specs.Lawful.{Allowed}
+use Rattle.pm_world.specs.Lawful.{Allowed, generation_limit}
+use Rattle.pm_world.specs.Records.{generation_of}
 use Rattle.pm_world.specs.Opening.{Opening}
 use Rattle.pm_world.specs.declared.lane.Lane.{Lane}
 use Rattle.pm_blocks.specs.declared.making.NoBlock.TheVariants as no_block
@@ -86,6 +87,7 @@ pub record HasRefusedBegun {M : Type 0} (at : M → View → Type 0) (lane : Lan
 -- what it had reserved, it rests with that and with the object now.
 pub record HasReservedOutside {M : Type 0} (at : M → View → Type 0) (lane : Lane M) (pending : PendingActions) (v : View) (size kind : ℕ) (id : Oid) : Type 0 where
   pub led : IsLed v (with_next_call v)
+  pub below : generation_of v < generation_limit
   pub block : Block
   pub is : id ≡ record { pool = v.pool; off = block.place + 64 }
   -- once the object is made, and before it is told
@@ -106,6 +108,7 @@ pub record HasReservedOutside {M : Type 0} (at : M → View → Type 0) (lane : 
 -- of an ended call, what is pending stays, and in whatever world the lane rested with what it had reserved, it rests with that now.
 pub record HasRefusedOutside {M : Type 0} (at : M → View → Type 0) (lane : Lane M) (v : View) (size kind : ℕ) (r : Refusal) : Type 0 where
   pub led : IsLed v (with_next_call v)
+  pub below : generation_of v < generation_limit
   pub view : View
   pub came : CameToRefuse (with_next_call v) size r view
   pub reason : IsReserveReason (pending_before v) size r
@@ -119,6 +122,7 @@ pub record HasRefusedOutside {M : Type 0} (at : M → View → Type 0) (lane : L
 -- the lane began its next call, and stopped as it made the object: as it made a run for the block, or filled that. It tells no number, since none was drawn
 pub record HasStoppedReserving {M : Type 0} (at : M → View → Type 0) (lane : Lane M) (v : View) (size kind : ℕ) : Type 0 where
   pub led : IsLed v (with_next_call v)
+  pub below : generation_of v < generation_limit
   pub stop : Stopped
   pub gives : GivesNoObject (at lane.memory) (with_next_call v) size kind (no_block.Stopped stop)
   pub stopped : lane.stopped ≡ true

@@ -109,7 +109,8 @@ fn put_begun<M: ReservedMem>(
     ensures refuses { IfErr result (λ r. r ≢ refusal.Stopped → (w : View) → BeginsAlone M.at lane.old w → IsPendingAs pending.now (pending_in w) → HasRefusedPutOutside M.at lane.new w id off bytes.now r) }
     ensures free { result ≢ Err refusal.Stopped → lane.new.locks.items ≡ [] }
     ensures lane { result ≢ Err refusal.Stopped → lane.new ≡ record lane.old { memory = lane.new.memory; locks = lane.new.locks; drawn = None; last = lane.new.last } }
-    ensures stops { IfErr result (λ r. r ≡ refusal.Stopped → (w : View) → BeginsAlone M.at lane.old w → IsPendingAs pending.now (pending_in w) → StopsUndrawn (M.at lane.new.memory) w (puts_range id off bytes.now)) }
+    ensures stops { IfErr result (λ r. r ≡ refusal.Stopped → (w : View) → BeginsAlone M.at lane.old w → IsPendingAs pending.now (pending_in w)
+        → HasReservedRange w id off (length bytes.now) × StopsUndrawn (M.at lane.new.memory) w (puts_range id off bytes.now)) }
     ensures stopped_lane { result ≡ Err refusal.Stopped → lane.new ≡ record lane.old { memory = lane.new.memory; stopped = true } }
     ensures causes { IfErr result (λ r. (r ≡ refusal.NotReserved) ⊎ (r ≡ refusal.OutOfRange) ⊎ (r ≡ refusal.Stopped)) }
 {

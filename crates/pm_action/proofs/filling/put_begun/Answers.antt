@@ -36,7 +36,9 @@ returns-in-Ok-clause-refuses g c = IfErr-weaker c.put_or_stop.result (λ r. r �
 pub returns-in-Ok-clause-stops : goal.returns-in-Ok-clause-stops
 returns-in-Ok-clause-stops g c =
     if_err_so _ _
-    (λ r stops stopped w b are. stops w b (range_reserved g.M.LaneMem.at c.args.lane.now w b.begun c.args.id c.args.off (length c.args.bytes.now) (c.in-Ok.ensures.inside (pending_in w) are))) c.put_or_stop.result
+    (λ r stops stopped w b are.
+    let range = range_reserved g.M.LaneMem.at c.args.lane.now w b.begun c.args.id c.args.off (length c.args.bytes.now) (c.in-Ok.ensures.inside (pending_in w) are) in
+    (range, stops w b range)) c.put_or_stop.result
     c.put_or_stop.ensures.stops
 
 pub returns-in-Err-clause-refuses : goal.returns-in-Err-clause-refuses
