@@ -1,17 +1,7 @@
 pub mod ToldOutside
 pub mod Started
-pub mod NextBegun
-pub mod RestingStill
-pub mod AloneStill
-pub mod BegunOn
-pub mod BeginningAlone
-pub mod PutsOutside
-pub mod PutSinceRest
-pub mod ReservesOutside
-pub mod RefusesOutside
-pub mod ReservedBegun
-pub mod ReservedSinceRest
 pub mod Answered
+pub mod Canceled
 pub mod Settled
 pub mod RestingAgain
 pub mod WantedObjects
@@ -27,8 +17,3 @@ pub mod PendingLists
 pub mod LoggedSteps
 pub mod PublishedAlone
 pub mod PublishedAll
-pub mod GivenInTurn
-pub mod SameOwn
-pub mod AloneAtRest
-pub mod FinishedAtRest
-pub mod CanceledOutside

@@ -160,12 +160,12 @@ module _ {M : Type 0} (at : M → View → Type 0) (new : Lane M) (v u : View) (
 
   none_further : HasFoundNone at new items u → HasFoundNone at new items v
   unfolding told_further
-  none_further was = record { told = told_further at new v u Publish (Some (Refused refusal.NoObject)) led entries was.told; lacking = was.lacking }
+  none_further was = record { told = told_further at new items v u Publish (Some (Refused refusal.NoObject)) led entries was.told; lacking = was.lacking }
 
   short_further : HasFoundShort at new items u → HasFoundShort at new items v
   unfolding told_further
   short_further was = record {
-    told = told_further at new v u Publish (Some (Refused refusal.OutOfRange)) led entries was.told;
+    told = told_further at new items v u Publish (Some (Refused refusal.OutOfRange)) led entries was.told;
     holding = was.holding;
     led = led_then v u was.holding led was.led;
     undrawn = was.undrawn ∙ entries;

@@ -1,5 +1,5 @@
 -- A publish that is refused for its objects is a whole call, and is told so; one that finds a lock of another lane is not told.
-use Rattle.std.proofs.Common.{◌≡◌, ◌≢◌, ◌⊎◌, ⊎_elim, inl, IsTrue, not, ℕ, ◌+◌, ◌<◌, ◌≤◌, suc, Bool, true, false, cond, List, [], ◌∷◌, ◌++◌, length, map, Option, Some, Err, refl, sym, ap, ◌∙◌, subst, arith}
+use Rattle.std.proofs.Common.{◌≡◌, ◌≢◌, ◌⊎◌, ⊎_elim, IsTrue, not, ℕ, ◌+◌, ◌<◌, ◌≤◌, suc, Bool, true, false, cond, List, [], ◌∷◌, ◌++◌, length, map, Option, Some, Err, refl, sym, ap, ◌∙◌, subst, arith}
 use Rattle.std.specs.List.{Any, filter, list_any}
 use Rattle.std.proofs.lemmas.List.{length-map}
 use Rattle.pm_crash.proofs.PublishOutside.{refused_publish_is_step}
@@ -36,7 +36,7 @@ use Rattle.pm_tx.proofs.BeganWanted.{form_lacks}
 use Rattle.pm_action.specs.Holding.{GoesOnTo, HasFoundNone, HasFoundShort, IsHoldCause, IsHoldReason, RefusesToHold, SeeksObjects}
 use Rattle.pm_tx.specs.Ending.{LiesUnlocked}
 use Rattle.pm_action.specs.Publishing.{StaysSound}
-use Rattle.pm_action.specs.Outside.{IsEndedOnceTold, IsToldAtOnce, IsToldOutside}
+use Rattle.pm_action.specs.Outside.{IsLeftPending, IsToldAtOnce, IsToldOutside, IsWholeOnceTold}
 use Rattle.pm_action.proofs.Started.{told_further}
 use Rattle.pm_action.proofs.WantedObjects.{want_for}
 
@@ -146,24 +146,25 @@ module _ (w : View) (reply : Option Value) where
 module _ {M : Type 0} (at : M → View → Type 0) (mid new : Lane M) (actions : List SetAction) (v : View) (stays : StaysSound at v) (same : pending_of actions ≡ pending_before v) where
   abbrev Ends : Refusal → Type 0
   Ends r =
-      (w : View) → IsBegun at mid w → LiesUnlocked w → IsEndedOnceTold w Publish (Some (Refused r)) → IsToldAtOnce at new w Publish (Some (Refused r))
+      (w : View) (actions : List SetAction) → IsBegun at mid w → LiesUnlocked w → IsWholeOnceTold w Publish (Some (Refused r)) → IsLeftPending actions w Publish (Some (Refused r)) → IsToldAtOnce at new actions w Publish (Some (Refused r))
 
   -- the refusal is told, from the view at which there was the reason
-  told_there : (r : Refusal) → Ends r → (goes : GoesOnTo at mid v (λ w. IsHoldReason w (sets_of actions) r)) → IsToldAtOnce at new goes.view Publish (Some (Refused r))
+  told_there : (r : Refusal) → Ends r → (goes : GoesOnTo at mid v (λ w. IsHoldReason w (sets_of actions) r)) → IsToldAtOnce at new actions goes.view Publish (Some (Refused r))
   told_there r ends goes =
       let w : View = goes.view in
       let is : IsBegun at mid w = goes.begun in
       let now : pending_of actions ≡ pending_before w = same ∙ sym (same_before v w goes.entries) in
-      ends w is (stays mid.memory w goes.led is.seen.memory).apart
-      (inl (refused_publish_is_step (after w (Tell Publish (Some (Refused r)))) r (record {
+      ends w actions is (stays mid.memory w goes.led is.seen.memory).apart
+      (refused_publish_is_step (after w (Tell Publish (Some (Refused r)))) r (record {
         call = ap (λ (told : List Told). told ++ record { operation = Publish; reply = Some (Refused r) } ∷ []) is.untold;
         no_records = ap (λ (log : Log). log.records) is.log;
         no_entries = ap (λ (log : Log). log.entries) is.log;
         reason = reason_told w (Some (Refused r)) (sets_of actions) r is.area.lane now goes.holds;
-      }) (sets_alone (pending_before w) (sets_of actions) now)))
+      }) (sets_alone (pending_before w) (sets_of actions) now))
+      now
 
-  told_refused : (r : Refusal) → Ends r → GoesOnTo at mid v (λ w. IsHoldReason w (sets_of actions) r) → IsToldOutside at new v Publish (Some (Refused r))
-  told_refused r ends goes = told_further at new v goes.view Publish (Some (Refused r)) goes.led goes.entries (told_there r ends goes).told
+  told_refused : (r : Refusal) → Ends r → GoesOnTo at mid v (λ w. IsHoldReason w (sets_of actions) r) → IsToldOutside at new actions v Publish (Some (Refused r))
+  told_refused r ends goes = told_further at new actions v goes.view Publish (Some (Refused r)) goes.led goes.entries (told_there r ends goes).told
 
   found_none : Ends refusal.NoObject → GoesOnTo at mid v (λ w. IsHoldReason w (sets_of actions) refusal.NoObject) → HasFoundNone at new actions v
   unfolding told_refused told_further

@@ -94,13 +94,13 @@ SeeksObjects at lane actions v (Err r) = GoesOnTo at lane v (λ w. IsHoldReason 
 
 -- the publish was refused with NoObject, and told so, and by the words of the view then an action names no object
 pub record HasFoundNone {M : Type 0} (at : M → View → Type 0) (lane : Lane M) (actions : List SetAction) (v : View) : Type 0 where
-  pub told : IsToldOutside at lane v Publish (Some (Refused refusal.NoObject))
+  pub told : IsToldOutside at lane actions v Publish (Some (Refused refusal.NoObject))
   pub lacking : Any (LacksObject told.view) (wants_for (sets_of actions))
 
 -- the publish was refused with OutOfRange, and told so: without a counted call or a draw it came to hold the objects of the actions, one of which passes
 -- its object's end, and looked at no word since
 pub record HasFoundShort {M : Type 0} (at : M → View → Type 0) (lane : Lane M) (actions : List SetAction) (v : View) : Type 0 where
-  pub told : IsToldOutside at lane v Publish (Some (Refused refusal.OutOfRange))
+  pub told : IsToldOutside at lane actions v Publish (Some (Refused refusal.OutOfRange))
   pub holding : View
   pub led : IsLed v holding
   pub undrawn : holding.entries ≡ v.entries

@@ -90,7 +90,7 @@ pub record IsStoppedPublishing {M : Type 0} (at : M → View → Type 0) (lane :
 
 -- what a publish leaves that is done: of no actions it is told, and that is all
 abbrev pub IsPublished : {M : Type 0} → (M → View → Type 0) → Lane M → List SetAction → View → Type 0
-IsPublished at lane [] v = IsToldAtOnce at lane v Publish None
+IsPublished at lane [] v = IsToldAtOnce at lane [] v Publish None
 IsPublished at lane (a ∷ actions) v = IsPublishedBy at lane (sets_of (a ∷ actions)) v
 
 -- what a publish of these actions that answers so leaves of a lane that was at rest

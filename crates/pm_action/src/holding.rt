@@ -15,7 +15,7 @@ ghost use Rattle.pm_action.specs.Publishing.{StaysSound};
 use crate::telling::end_outside;
 use pm_layout::{LINE_BYTES, WORD_BYTES};
 use pm_lock::{find_objects, give_back, plan_locks, take_all};
-use pm_objects::{Oid, Operation, Refusal, Value, Want};
+use pm_objects::{Oid, Operation, Refusal, Want};
 use pm_pending::{MAX_ACTIONS, SetAction};
 use pm_world::{HeldLock, Lane, LawfulMem};
 
@@ -132,7 +132,7 @@ pub fn hold_actions<M: LawfulMem>(lane: &mut Lane<M>, actions: &[SetAction]) -> 
         return Ok(());
     };
     if refusal != Refusal::Busy {
-        end_outside(lane, &Operation::Publish, Some(&Value::Refused(refusal)));
+        end_outside(lane, &Operation::Publish, Some(refusal));
     }
     Err(refusal)
 }

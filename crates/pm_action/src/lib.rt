@@ -5,21 +5,15 @@
 //! objects, on `pm_tx` for the ends of a call, on `pm_pending` for the list and on `pm_crash` for what is a step of the plain model.
 #![tactic(auto)]
 
-mod canceling;
-mod deferring;
-mod filling;
 mod holding;
 mod laws;
 mod publishing;
 mod publishing_all;
-mod reserving;
+mod setting;
 mod telling;
 
-pub use canceling::{cancel, finish};
-pub use deferring::{defer_free, set_value};
-pub use filling::write_reserved;
 pub use holding::hold_actions;
 pub use laws::a_lane_alone_publishes_all_at_once;
 pub use publishing::publish;
-pub use reserving::reserve;
+pub use setting::{cancel, set_value};
 pub use telling::{come_to_rest, end_outside};

@@ -12,8 +12,10 @@ use Rattle.pm_objects.specs.declared.calls.Operation.TheVariants as operation
 use Rattle.pm_script.specs.declared.script.ScriptLine.{ScriptLine}
 use Rattle.pm_script.specs.declared.script.ScriptOp.TheVariants as op
 use Rattle.pm_lock.proofs.Leading.{ready_leads}
+use Rattle.pm_lock.proofs.Undrained.{led_changes}
+use Rattle.pm_tx.proofs.DrainedBegins.{never_stops, refused_led}
 use Rattle.pm_lock.specs.Lacking.{LacksObject}
-use Rattle.pm_lock.specs.Leading.{IsLed, KeepsHeap}
+use Rattle.pm_lock.specs.Leading.{IsLed, KeepsHeap, LeaveBlocks}
 use Rattle.pm_lock.specs.Locking.{IsBusy, takes}
 use Rattle.pm_tx.specs.Beginning.{IsSpent, RestsBehind}
 use Rattle.pm_made.specs.Made.{BlockLists}
@@ -52,7 +54,7 @@ use Rattle.pm_crash.proofs.SeenAlone.{works_where_seen}
 use Rattle.pm_crash.specs.Operations.{entries_so_far}
 use Rattle.pm_crash.specs.CallBlocks.{CallBlocks, blocks_in, blocks_told, no_blocks}
 use Rattle.pm_pending.specs.Pending.{pending_of}
-use Rattle.pm_pending.specs.declared.pending.PendingActions.{PendingActions}
+use Rattle.pm_pending.specs.declared.actions.SetAction.{SetAction}
 use Rattle.pm_crash.specs.Pending.{pending_before, pending_from, pending_in, pending_told}
 use Rattle.pm_model.specs.Actions.{none_pending}
 use Rattle.pm_exec.proofs.PendingLists.{has_none_reserved, none_within}
@@ -62,7 +64,7 @@ use Rattle.pm_exec.specs.Bounds.{log_due, logs_of, stores_of_call}
 use Rattle.pm_exec.specs.Progress.{IsPending}
 use Rattle.pm_exec.proofs.PendingLists.{uncounted_raises}
 
-module _ (o : Opening) (first : View) (lane new : Lane Solo) (blocks : BlockLists) (actions : PendingActions) (names : Names) (is : IsStart o lane blocks actions first) where
+module _ (o : Opening) (first : View) (lane new : Lane Solo) (blocks : BlockLists) (actions : List SetAction) (names : Names) (is : IsStart o lane blocks actions first) where
   -- no lock is refused
   pub not_busy : IsBusy Sees new first → ⊥
   not_busy b = refuted b.write (All-contains IsGranted b.view.seen (takes b.line b.write false) b.rests.seen.memory.alone b.refused) where
@@ -104,20 +106,33 @@ module _ (o : Opening) (first : View) (lane new : Lane Solo) (blocks : BlockList
       let m : View = after first (Load (area_word first.lane) (slice_index first.words (area_word first.lane))) in
       let kept = begun_heap m.log.phase m in record { zone_locks = kept.zone_locks; reserved = kept.reserved; freed = kept.freed }
 
-  behind : (steps : Sequence) → (after_all first (steps first)).entries ≡ first.entries → counted (steps first) ≡ 0 → KeepsHeap first (after_all first (steps first)) → IsUsedUp first → RestsBehind Sees new first steps → IsUnbegun first new
-  behind steps kept free heap used r = record {
-    view = after_all first (steps first);
-    free = record { led = record { steps = steps first; leads = ready_leads first (steps first) r.ready r.draws; uncounted = free; heap = heap }; undrawn = kept };
-    seen = r.rests.seen.memory;
-    used_up = used;
-    fresh = r.rests.fresh;
-    drained = r.rests.drained;
-  }
+  -- nor what it has reserved
+  looks_leave : LeaveBlocks first (sees_generation first)
+  unfolding sees_generation by_lane by_view looks LeaveBlocks
+  looks_leave = ((λ i. first.reserved), tt)
+
+  starts_leave : (n : ℕ) → LeaveBlocks first (starts n first)
+  unfolding starts sees_generation by_lane by_view looks in_turn one after_all LeaveBlocks
+  starts_leave n =
+      let m : View = after first (Load (area_word first.lane) (slice_index first.words (area_word first.lane))) in
+      let kept = begun_heap m.log.phase m in ((λ i. first.reserved), (kept.reserved, tt))
+
+  behind : (steps : Sequence) → (after_all first (steps first)).entries ≡ first.entries → counted (steps first) ≡ 0 → LeaveBlocks first (steps first) → KeepsHeap first (after_all first (steps first)) → IsUsedUp first → RestsBehind Sees new first steps → IsUnbegun first new
+  behind steps kept free leaves heap used r =
+      let led : IsLed first (after_all first (steps first)) = record { steps = steps first; leads = ready_leads first (steps first) r.ready r.draws; uncounted = free; leaves = leaves; heap = heap } in
+      record {
+        view = after_all first (steps first);
+        free = record { led = led; undrawn = kept };
+        seen = r.rests.seen.memory;
+        used_up = used;
+        fresh = r.rests.fresh;
+        drained = led_changes first (after_all first (steps first)) led ∙ is.drained;
+      }
 
   pub spent : IsSpent Sees new first → IsUnbegun first new
   spent s =
-      ⊎_elim (λ t. behind sees_generation none_drawn_yet looks_free looks_heap (inl t.0) t.1)
-      (λ t. behind (starts t.0) (none_drawn t.0) (starts_free t.0) (starts_heap t.0) (inr (subst (λ n. generation_limit ≤ n) (number_is t.0 t.1.1.ready) t.1.0)) t.1.1) s
+      ⊎_elim (λ t. behind sees_generation none_drawn_yet looks_free looks_leave looks_heap (inl t.0) t.1)
+      (λ t. behind (starts t.0) (none_drawn t.0) (starts_free t.0) (starts_leave t.0) (starts_heap t.0) (inr (subst (λ n. generation_limit ≤ n) (number_is t.0 t.1.1.ready) t.1.0)) t.1.1) s
 
   module _ (said : ScriptLine) (asked : List ScriptWant) (begins : said.operation ≡ op.Begin asked) (wants : List Want) (wants_are : wants ≡ map (want_of names) asked) where
     begin_is : operation_of names said.operation ≡ operation.Begin wants
@@ -193,14 +208,15 @@ module _ (o : Opening) (first : View) (lane new : Lane Solo) (blocks : BlockList
     }
 
     module _ (rest : List ScriptLine) where
-      refused_led : (r : Refusal) (w : View) → IsLed first w → IsBeginRefusal names asked r first → IsRefusalMade names said.operation r first w
-      refused_led r w led why = subst (λ (x : ScriptOp). IsRefusalMade names x r first w) (sym begins) (led, why)
+      refusal_made : (r : Refusal) (w : View) → IsLed first w → IsBeginRefusal names asked r first → IsRefusalMade names said.operation r first w
+      refusal_made r w led why = subst (λ (x : ScriptOp). IsRefusalMade names x r first w) (sym begins) (led, why)
 
       refused_at : (r : Refusal) → IsBeginRefusal names asked r first → HasRefused Sees new first wants r → new.level ≡ 1 → new.stage ≡ stage.OnAbort → new.error ≡ error.Refused r → IsGivenUpAt o first new blocks actions names (said ∷ rest) [] said.line r
       unfolding LinesMade values_of
       refused_at r why b level at fails =
-          let same = same_along first b.view b.led.steps b.led.leads in
-          let nothing = nothing_still first b.view same.zones b.led.heap is.has_none in
+          let led : IsLed first b.view = refused_led Sees new first wants is.drained r b in
+          let same = same_along first b.view led.steps led.leads in
+          let nothing = nothing_still first b.view same.zones led.heap is.has_none in
           record {
             told = refused (operation_of names said.operation) r ∷ [];
             at = record { front = []; said = said; rest = rest; is_lines = refl; of_line = refl; gives_up = ap is_action begin_is; before = []; done = tt; gave = refl; told_so = refl };
@@ -209,7 +225,7 @@ module _ (o : Opening) (first : View) (lane new : Lane Solo) (blocks : BlockList
               header = is.header;
               pool = is.pool;
               begins = is.begins;
-              passed = passed o new first b.view b.led.steps (stores_of_call names (said ∷ rest)) b.led.leads b.over.seen.memory (makes_none b.view nothing) (let none = led_stores first b.view b.led in omega (arith, none));
+              passed = passed o new first b.view led.steps (stores_of_call names (said ∷ rest)) led.leads b.over.seen.memory (makes_none b.view nothing) (let none = led_stores first b.view led in omega (arith, none));
               behind = b.over;
               unlocked = nothing.unlocked;
               pages = (let pages = is.pages in let lanes = same.lanes in let zones = same.zones in omega (arith, pages, lanes, zones));
@@ -221,12 +237,13 @@ module _ (o : Opening) (first : View) (lane new : Lane Solo) (blocks : BlockList
               left = ap is_work at;
               fails = fails;
               pending = still_pending b.view new.last (ap (λ (ts : List Told). ts) b.call) b.entries;
-              made = record { front = []; said = said; rest = rest; is = refl; middle = first; made = refl; refused = refused_led r b.view b.led why };
+              made = record { front = []; said = said; rest = rest; is = refl; middle = first; made = refl; refused = refusal_made r b.view led why };
             };
           }
 
       -- why it did not begin
       pub not_begun : (r : Refusal) → (r ≡ refusal.NoObject → Any (LacksObject first) wants) → FailsToBegin Sees new first wants r → LeavesLane r lane new → IsNotDone o first new blocks actions names (said ∷ rest) [] (not_done said.line r)
+      not_begun refusal.Stopped missing fails leaves = absurd (never_stops Sees new first wants is.drained fails)
       not_begun refusal.Spent missing fails leaves = (spent fails, refl)
       not_begun refusal.Busy missing fails leaves = absurd (not_busy fails)
       not_begun refusal.LocksFull missing fails leaves = refused_at refusal.LocksFull tt fails (ap (λ (l : Lane Solo). l.level) leaves) (ap (λ (l : Lane Solo). l.stage) leaves) (ap (λ (l : Lane Solo). l.error) leaves)

@@ -15,7 +15,7 @@ use Rattle.pm_view.specs.View.{Numbered, View}
 use Rattle.pm_world.specs.Opening.{Opening}
 use Rattle.pm_world.specs.Records.{generation_of}
 use Rattle.pm_world.specs.declared.lane.Lane.{Lane}
-use Rattle.pm_exec.proofs.FewStores.{walked_then, walked_within, calls_more}
+use Rattle.pm_exec.proofs.FewStores.{bounded_then, bounded_within, calls_more}
 use Rattle.pm_exec.specs.Bounds.{stores_of_call, stores_of_calls}
 use Rattle.pm_exec.specs.Calls.{call_of, numbers_of}
 use Rattle.pm_exec.specs.Course.{CallsMade, IsCallMade}
@@ -25,7 +25,7 @@ use Rattle.pm_exec.specs.Running.{AreEntries, HasComeTo, HasHalted, IsEntryOf, o
 use Rattle.pm_exec.specs.declared.calls.Names.{Names}
 use Rattle.pm_exec.specs.declared.running.Halt.{Halt}
 use Rattle.pm_exec.proofs.Starts.{start_lane}
-use Rattle.pm_pending.specs.declared.pending.PendingActions.{PendingActions}
+use Rattle.pm_pending.specs.declared.actions.SetAction.{SetAction}
 use Rattle.pm_exec.specs.declared.ending.CallAnswer.{CallAnswer}
 
 -- its entry is the last
@@ -47,13 +47,14 @@ made_then names [] (h ∷ history) call d e u v w made settled is = absurd made
 made_then names (c ∷ calls) [] call d e u v w made settled is = absurd made
 made_then names (c ∷ calls) (h ∷ history) call d e u v w made settled is = (made.0, made.1, made.2, made.3, made_then names calls history call d e made.0 v w made.4 settled is)
 
-module _ (o : Opening) (first : View) (lane : Lane Solo) (blocks : BlockLists) (actions : PendingActions) (names : Names) (calls : List (List ScriptLine)) (history : List Entry) (h : HasComeTo o first lane blocks actions names calls history) where
+module _ (o : Opening) (first : View) (lane : Lane Solo) (blocks : BlockLists) (actions : List SetAction) (names : Names) (calls : List (List ScriptLine)) (history : List Entry) (h : HasComeTo o first lane blocks actions names calls history) where
   -- where those were answered, the lane may begin it
   pub begins : IsStart (standing o h.answered.view) lane blocks actions h.answered.view
   begins =
       let a = h.answered in
       record {
         rests = a.rests;
+        drained = a.drained;
         header = h.header;
         pool = h.pool;
         begins = a.called.again h.header h.pool h.begins;
@@ -77,7 +78,7 @@ module _ (o : Opening) (first : View) (lane : Lane Solo) (blocks : BlockLists) (
 
   module _ (lines : List ScriptLine) (new : Lane Solo) where
     -- it was answered too
-    pub one_more : (now : BlockLists) (left : PendingActions) (number : ℕ) (e : CallAnswer) (reply : Reply) (call : Call) (fate : Fate) → IsAnswered (standing o h.answered.view) h.answered.view new now left names lines number e reply → call ≡ call_of names lines → fate ≡ settled_fate e
+    pub one_more : (now : BlockLists) (left : List SetAction) (number : ℕ) (e : CallAnswer) (reply : Reply) (call : Call) (fate : Fate) → IsAnswered (standing o h.answered.view) h.answered.view new now left names lines number e reply → call ≡ call_of names lines → fate ≡ settled_fate e
         → HasComeTo o first new now left names (calls ++ lines ∷ []) (history ++ record { number = number; call = call; reply = reply; fate = fate } ∷ [])
     one_more now left number e reply call fate x is settled =
         let a = h.answered in
@@ -96,10 +97,11 @@ module _ (o : Opening) (first : View) (lane : Lane Solo) (blocks : BlockLists) (
               same = same_lane-then first a.view x.view a.called.same x.link.same;
               made = made_then names calls history lines (record { number = number; call = call; reply = reply; fate = fate }) e first a.view x.view a.called.made settled x.made;
               bound =
-                  walked_within first x.view (stores_of_calls names calls + stores_of_call names lines) (stores_of_calls names (calls ++ lines ∷ [])) (let more = calls_more names calls lines in omega (arith, more))
-                  (walked_then first a.view x.view (stores_of_calls names calls) (stores_of_call names lines) a.called.bound x.link.bound);
+                  bounded_within first x.view (stores_of_calls names calls + stores_of_call names lines) (stores_of_calls names (calls ++ lines ∷ [])) (let more = calls_more names calls lines in omega (arith, more))
+                  (bounded_then first a.view x.view (stores_of_calls names calls) (stores_of_call names lines) a.called.bound (x.link.bound a.drained));
             };
             rests = x.rests;
+            drained = x.drained;
             idle = x.idle;
             has_none = x.has_none;
             pages = x.pages;
@@ -115,7 +117,7 @@ module _ (o : Opening) (first : View) (lane : Lane Solo) (blocks : BlockLists) (
       before = h.answered.view;
       called = h.answered.called;
       idle = h.answered.idle;
-      drained = h.answered.rests.drained;
+      drained = h.answered.drained;
       number = number;
       reply = reply;
       halted = x;
@@ -131,7 +133,7 @@ module _ (o : Opening) (first : View) (lane : Lane Solo) (blocks : BlockLists) (
       before = h.answered.view;
       called = h.answered.called;
       idle = h.answered.idle;
-      drained = h.answered.rests.drained;
+      drained = h.answered.drained;
       unbegun = x;
       is_open = is_open;
       generation = generation ∙ generation_seen found is;

@@ -18,10 +18,11 @@ use Rattle.pm_objects.specs.declared.history.TxErr.{TxErr}
 use Rattle.pm_objects.specs.declared.history.TxErr.TheVariants as error
 use Rattle.pm_objects.specs.declared.pool.PoolView.{PoolView}
 use Rattle.pm_objects.specs.declared.refusal.Refusal.{Refusal}
-use Rattle.pm_pending.specs.declared.pending.PendingActions.{PendingActions}
+use Rattle.pm_pending.specs.declared.actions.SetAction.{SetAction}
 use Rattle.pm_reclaim.proofs.Pools.{nothing_left}
 use Rattle.pm_reclaim.specs.Reclaims.{IsReclaiming}
 use Rattle.pm_script.specs.declared.script.ScriptLine.{ScriptLine}
+use Rattle.pm_lock.proofs.GivenBack.{all_gives_leave}
 use Rattle.pm_lock.proofs.Drawless.{drawless}
 use Rattle.pm_lock.proofs.Leading.{ready_leads}
 use Rattle.pm_lock.specs.Leading.{KeepsHeap}
@@ -44,8 +45,8 @@ use Rattle.pm_world.specs.Sequences.{one}
 use Rattle.pm_world.specs.declared.lane.HeldLock.{HeldLock}
 use Rattle.pm_world.specs.declared.lane.Lane.{Lane}
 use Rattle.pm_exec.proofs.Along.{alone_along, same_along}
-use Rattle.pm_exec.proofs.FewStores.{walked, walked_then, walked_within}
-use Rattle.pm_exec.specs.Bounds.{IsWalked, stores_of_call}
+use Rattle.pm_exec.proofs.FewStores.{bounded, bounded_then, bounded_within}
+use Rattle.pm_exec.specs.Bounds.{IsBounded, stores_of_call}
 use Rattle.pm_exec.specs.Calls.{starts_alone}
 use Rattle.pm_exec.specs.Course.{AreMade}
 use Rattle.pm_exec.specs.Links.{IsLink, WorksOn}
@@ -91,7 +92,7 @@ begins_works_alone o header pool first v steps works = alone_along first v steps
 
 -- ---- the end answers the call, and the lane rests
 
-module _ (o : Opening) (first : View) (lane new : Lane Solo) (blocks : BlockLists) (actions : PendingActions) (names : Names) (lines : List ScriptLine) (told : List Told) (error : TxErr) (over : IsOver o first lane blocks actions names lines told error) where
+module _ (o : Opening) (first : View) (lane new : Lane Solo) (blocks : BlockLists) (actions : List SetAction) (names : Names) (lines : List ScriptLine) (told : List Told) (error : TxErr) (over : IsOver o first lane blocks actions names lines told error) where
   abbrev v : View
   v = over.view
 
@@ -143,12 +144,12 @@ module _ (o : Opening) (first : View) (lane new : Lane Solo) (blocks : BlockList
     words_w : w.words ≡ v.words
     words_w = ap (λ (z : View). z.words) same_w ∙ ap (λ (z : View). z.words) same_u
 
-    bound_w : IsWalked first w (stores_of_call names lines)
-    bound_w =
+    bound_w : first.changes ≡ [] → IsBounded first w (stores_of_call names lines)
+    bound_w drained =
         let on : Leads v (gives locks v ++ e.reclaims.steps) w = leads_then v u w (gives locks v) e.reclaims.steps on_u e.reclaims.leads in
         let none : stores_among (gives locks v ++ e.reclaims.steps) ≤ 0 = (let both = stores_append (gives locks v) e.reclaims.steps in let one = stores_counted (gives locks v) in let two = stores_counted e.reclaims.steps in let a = given_none in let b = reclaimed_none in omega (arith, both, one, two, a, b)) in
-        walked_within first w (stores_of_call names lines + 0) (stores_of_call names lines) (omega arith)
-        (walked_then first v w (stores_of_call names lines) 0 over.passed.bound (walked v w 0 (gives locks v ++ e.reclaims.steps) on none))
+        bounded_within first w (stores_of_call names lines + 0) (stores_of_call names lines) (omega arith)
+        (bounded_then first v w (stores_of_call names lines) 0 (over.passed.bound drained) (bounded v w 0 (gives locks v ++ e.reclaims.steps) over.behind.drained on none))
 
     link : IsLink o first w (stores_of_call names lines)
     link = record {
@@ -177,6 +178,7 @@ module _ (o : Opening) (first : View) (lane new : Lane Solo) (blocks : BlockList
       view = w;
       link = link;
       rests = e.rests;
+      drained = e.drained;
       idle = ap (λ (z : View). z.log) same_w ∙ (ap (λ (z : View). z.log) same_u ∙ over.behind.log);
       has_none = has_none;
       pages = (let pages = over.pages in let lanes = ap (λ (z : View). z.lanes) same_w ∙ ap (λ (z : View). z.lanes) same_u in let zones = ap (λ (z : View). z.zones) same_w ∙ ap (λ (z : View). z.zones) same_u in omega (arith, pages, lanes, zones));
@@ -188,19 +190,19 @@ module _ (o : Opening) (first : View) (lane new : Lane Solo) (blocks : BlockList
         over = v;
         made = subst (λ (x : TxErr). AreMade names lines x first v) (sym (is ∙ over.fails)) over.made;
         unlocked = u;
-        closed = record { led = record { steps = gives locks v; leads = on_u; uncounted = given_none; heap = heap_u }; undrawn = entries_u };
+        closed = record { led = record { steps = gives locks v; leads = on_u; uncounted = given_none; leaves = all_gives_leave locks v; heap = heap_u }; undrawn = entries_u };
         reclaims = e.reclaims;
       };
     }
 
 -- what was given up at a line has ended with that line's reply
-pub ended_refused : (o : Opening) (first : View) (lane : Lane Solo) (blocks : BlockLists) (actions : PendingActions) (names : Names) (lines : List ScriptLine) (values : Values) (line : ℕ) (r : Refusal) (reply : Reply) → starts_alone lines ≡ false → (g : IsGivenUpAt o first lane blocks actions names lines values line r) → reply.values ≡ values → reply.at ≡ line
+pub ended_refused : (o : Opening) (first : View) (lane : Lane Solo) (blocks : BlockLists) (actions : List SetAction) (names : Names) (lines : List ScriptLine) (values : Values) (line : ℕ) (r : Refusal) (reply : Reply) → starts_alone lines ≡ false → (g : IsGivenUpAt o first lane blocks actions names lines values line r) → reply.values ≡ values → reply.at ≡ line
     → TransactionEnded names lines (error.Refused r) reply g.told
 ended_refused o first lane blocks actions names lines values line r reply inside g gave at =
     (inside, inr (r, refl, subst (λ (n : ℕ). IsRefusedAt names lines n r reply.values g.told) (sym at) (subst (λ (vs : Values). IsRefusedAt names lines line r vs g.told) (sym gave) g.at)))
 
 -- and one whose lines were all done with none
-pub ended_done : (o : Opening) (first : View) (lane : Lane Solo) (blocks : BlockLists) (actions : PendingActions) (names : Names) (lines : List ScriptLine) (values : Values) (reply : Reply) → starts_alone lines ≡ false → (d : IsCommitted o first lane blocks actions names lines values) → reply.values ≡ values → reply.at ≡ 0 → TransactionEnded names lines error.None reply d.told
+pub ended_done : (o : Opening) (first : View) (lane : Lane Solo) (blocks : BlockLists) (actions : List SetAction) (names : Names) (lines : List ScriptLine) (values : Values) (reply : Reply) → starts_alone lines ≡ false → (d : IsCommitted o first lane blocks actions names lines values) → reply.values ≡ values → reply.at ≡ 0 → TransactionEnded names lines error.None reply d.told
 ended_done o first lane blocks actions names lines values reply inside d gave at = (inside, inl (refl, at, d.done, gave ∙ d.gave))
 
 -- one in which the lane stopped is halted

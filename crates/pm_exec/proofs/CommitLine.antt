@@ -31,7 +31,7 @@ use Rattle.pm_model.specs.Shown.{answer_of}
 use Rattle.pm_objects.specs.declared.calls.Operation.TheVariants.{Commit}
 use Rattle.pm_objects.specs.declared.pool.PoolView.{PoolView}
 use Rattle.pm_pending.specs.Pending.{entry_of}
-use Rattle.pm_pending.specs.declared.pending.PendingActions.{PendingActions}
+use Rattle.pm_pending.specs.declared.actions.SetAction.{SetAction}
 use Rattle.pm_record.specs.declared.redo.Redo.{Redo}
 use Rattle.pm_redo.specs.Entering.{EntersHeap, IsOfPool, MayEnter}
 use Rattle.pm_script.specs.declared.script.ScriptLine.{ScriptLine}
@@ -73,7 +73,7 @@ use Rattle.pm_exec.proofs.Along.{same_along}
 use Rattle.pm_exec.proofs.AreaSteps.{StoresArea, area_alone, ends_in_area, found_where_foreseen}
 use Rattle.pm_exec.proofs.ChangeLines.{front_of}
 use Rattle.pm_exec.proofs.CommitFront.{commit_flies}
-use Rattle.pm_exec.proofs.FewStores.{lines_within, walks_then}
+use Rattle.pm_exec.proofs.FewStores.{bounded_walk, lines_within, walks_then}
 use Rattle.pm_exec.proofs.HeapStill.{commits_heapless, heap_along}
 use Rattle.pm_exec.proofs.LineLists.{gave_nothing, made_more, told_more}
 use Rattle.pm_exec.proofs.LineStores.{entries_count, listed_few}
@@ -123,7 +123,7 @@ ready_front v steps zero ready = tt
 ready_front v [] (suc k) ready = tt
 ready_front v (s ∷ steps) (suc k) ready = (ready.0, ready.1, ready_front (after v s) steps k ready.2)
 
-module _ (o : Opening) (first : View) (lane : Lane Solo) (blocks : BlockLists) (actions : PendingActions) (names : Names) (front : List ScriptLine) (values : Values) (a : IsAtLine o first lane blocks actions names front values) (new : Lane Solo) (said : ScriptLine)
+module _ (o : Opening) (first : View) (lane : Lane Solo) (blocks : BlockLists) (actions : List SetAction) (names : Names) (front : List ScriptLine) (values : Values) (a : IsAtLine o first lane blocks actions names front values) (new : Lane Solo) (said : ScriptLine)
     (is : said.operation ≡ op.Commit) where
   abbrev v : View
   v = a.view
@@ -235,7 +235,7 @@ module _ (o : Opening) (first : View) (lane : Lane Solo) (blocks : BlockLists) (
       passed_publishing some = record {
         same = same_lane-then first v w (same_along first v a.steps a.leads) (same_lane-after_all v (steps v));
         page = λ header pool begins. commit_keeps_page o header pool first v a.steps Sees lane blocks own lane.records.items new.last (commits_alone header pool begins some) h.ready counts;
-        bound = record { steps = a.steps ++ steps v; walks = walked; stores = few_in (steps v) commit_stores };
+        bound = λ drained. bounded_walk first w (stores_of_call names all) (a.steps ++ steps v) drained walked (few_in (steps v) commit_stores);
         came = λ header pool begins. inl (commit_ends o header pool first v a.steps Sees lane blocks own lane.records.items new.last (commits_alone header pool begins some) h.ready counts);
       }
 
@@ -317,11 +317,8 @@ module _ (o : Opening) (first : View) (lane : Lane Solo) (blocks : BlockLists) (
       cut_by way = record {
         view = x;
         same = same_lane-then first v x (same_along first v a.steps a.leads) (same_lane-after_all v (take k (steps v)));
-        bound = record {
-          steps = a.steps ++ take k (steps v);
-          walks = walks_then first v x a.steps (take k (steps v)) (walks_of first v a.steps a.leads) (ready_walks v (take k (steps v)) x_ready);
-          stores = few_in (take k (steps v)) x_few;
-        };
+        bound = λ drained. bounded_walk first x (stores_of_call names all) (a.steps ++ take k (steps v)) drained
+            (walks_then first v x a.steps (take k (steps v)) (walks_of first v a.steps a.leads) (ready_walks v (take k (steps v)) x_ready)) (few_in (take k (steps v)) x_few);
         seen = s.stops.seen;
         drawn = s.drawn;
         way = way;

@@ -27,8 +27,8 @@ use Rattle.pm_world.specs.Crash.{loses}
 use Rattle.pm_world.specs.Records.{generation_of}
 use Rattle.pm_view.proofs.SameLane.{same_lane, same_lane-then}
 use Rattle.pm_view.specs.Constants.{IsSameLane}
-use Rattle.pm_exec.specs.Bounds.{IsWalked, stores_of_call, stores_of_calls}
-use Rattle.pm_exec.proofs.FewStores.{walked, walked_then, walked_within, calls_within, led_stores}
+use Rattle.pm_exec.specs.Bounds.{IsBounded, stores_of_call, stores_of_calls}
+use Rattle.pm_exec.proofs.FewStores.{bounded, bounded_then, bounded_within, calls_within, led_stores}
 use Rattle.pm_exec.specs.declared.ending.CallAnswer.{CallAnswer}
 use Rattle.pm_exec.specs.declared.ending.CallAnswer.TheVariants as answer
 use Rattle.pm_objects.specs.declared.history.TxErr.TheVariants as error
@@ -131,7 +131,7 @@ pub record IsEnded (o : Opening) (first : View) (lane : Lane Solo) (names : Name
   pub settled_first : history ≡ settled ++ others
   pub called : HasCalled o first names answered settled middle
   pub same : IsSameLane middle last
-  pub bound : IsWalked first last (stores_of_calls names all)
+  pub bound : IsBounded first last (stores_of_calls names all)
   pub seen : Sees lane.memory last
   pub ends : ComesToEnd names behind ended middle last
   pub numbered : List (List ScriptLine)
@@ -172,7 +172,7 @@ module _ (o : Opening) (first : View) (names : Names) (all : List (List ScriptLi
       let view : View = f.answered.view in
       let called = f.answered.called in
       let nothing : all ≡ all ++ [] = sym (append-nil all) in
-      let rests : Rests view = record { empty = inl f.answered.idle; drained = λ slot low. all_drained view slot f.answered.rests.drained } in
+      let rests : Rests view = record { empty = inl f.answered.idle; drained = λ slot low. all_drained view slot f.answered.drained } in
       let many = as_many_calls all [] nothing history view.entries called.are in
       subst (λ (x : Option Entry). IsEnded o first lane names all decided halt.generation (closed_history history x decided) halt.end) (sym f.is_open)
       (subst (IsEnded o first lane names all decided halt.generation history) (sym f.ends) (record {
@@ -208,10 +208,10 @@ module _ (o : Opening) (first : View) (names : Names) (all : List (List ScriptLi
     stores_within = subst (λ (calls : List (List ScriptLine)). stores_of_calls names answered + stores_of_call names lines ≤ stores_of_calls names calls) (sym are) (calls_within names answered behind lines)
 
     -- with those of the call in which the lane came to its end
-    within_all : {before : View} (last : View) → IsWalked first before (stores_of_calls names answered) → IsWalked before last (stores_of_call names lines) → IsWalked first last (stores_of_calls names all)
+    within_all : {before : View} (last : View) → IsBounded first before (stores_of_calls names answered) → IsBounded before last (stores_of_call names lines) → IsBounded first last (stores_of_calls names all)
     within_all {before} last first_bound last_bound =
-        walked_within first last (stores_of_calls names answered + stores_of_call names lines) (stores_of_calls names all) stores_within
-        (walked_then first before last (stores_of_calls names answered) (stores_of_call names lines) first_bound last_bound)
+        bounded_within first last (stores_of_calls names answered + stores_of_call names lines) (stores_of_calls names all) stores_within
+        (bounded_then first before last (stores_of_calls names answered) (stores_of_call names lines) first_bound last_bound)
 
     pub ended_spent : HasSpent o first lane names answered lines history halt → IsEnded o first lane names all decided halt.generation (closed_history history halt.is_open decided) halt.end
     ended_spent s =
@@ -231,7 +231,7 @@ module _ (o : Opening) (first : View) (names : Names) (all : List (List ScriptLi
           called = called;
           same = same_along s.before view s.unbegun.free.led.steps s.unbegun.free.led.leads;
           last = view;
-          bound = within_all view called.bound (walked s.before view (stores_of_call names lines) s.unbegun.free.led.steps s.unbegun.free.led.leads (let none = led_stores s.before view s.unbegun.free.led in omega (arith, none)));
+          bound = within_all view called.bound (bounded s.before view (stores_of_call names lines) s.unbegun.free.led.steps s.drained s.unbegun.free.led.leads (let none = led_stores s.before view s.unbegun.free.led in omega (arith, none)));
           seen = s.unbegun.seen;
           ends = record { call = lines; behind = behind; are = refl; of_line = s.of_line; free = s.unbegun.free; used_up = s.unbegun.used_up };
           numbered = answered;
@@ -286,7 +286,7 @@ module _ (o : Opening) (first : View) (names : Names) (all : List (List ScriptLi
             called = s.called;
             same = s.halted.cut.same;
             last = last;
-            bound = within_all last s.called.bound s.halted.cut.bound;
+            bound = within_all last s.called.bound (s.halted.cut.bound s.drained);
             seen = s.halted.cut.seen;
             ends = record { call = lines; behind = behind; are = refl; stops = s.halted.cut.stops; at_stop = sym exact };
             numbered = numbered;

@@ -16,7 +16,7 @@ use Rattle.pm_world.specs.Lanes.{IsIdle, IsOfShape, IsSeenAs}
 use Rattle.pm_world.specs.declared.lane.Lane.{Lane}
 use Rattle.pm_exec.specs.Openings.{first_view, opening_of}
 use Rattle.pm_exec.specs.Progress.{IsStart}
-use Rattle.pm_pending.specs.declared.pending.PendingActions.{PendingActions}
+use Rattle.pm_pending.specs.declared.actions.SetAction.{SetAction}
 use Rattle.pm_crash.specs.Pending.{pending_before, pending_from}
 use Rattle.pm_exec.specs.Progress.{IsPending}
 use Rattle.std.proofs.lemmas.List.Elements.{All-nil}
@@ -89,10 +89,11 @@ is_start pool words stop lane begun seen idle unharmed unlisted blocks pages = r
     unstopped = idle.unstopped;
     unlisted = unlisted;
     fresh = inl refl;
-    drained = refl;
+    undrained = inl refl;
     free = refl;
     place = (let shape = begun.1.holds.has_header.has_shape in let some = shape.shape.lanes_from in let bytes = shape.size in record { lane = omega (arith, some); few = omega arith; inside = omega (arith, some, bytes) });
   };
+  drained = refl;
   header = begun.0;
   pool = pool;
   begins = inl begun.1;

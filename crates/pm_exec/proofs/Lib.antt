@@ -47,5 +47,3 @@ pub mod EndedRuns
 pub mod RunEnds
 pub mod FewStores
 pub mod LineStores
-pub mod PutLine
-pub mod RefusedLines

@@ -4,7 +4,7 @@ use Rattle.std.proofs.lemmas.List.{map-append, take-append-drop}
 use Rattle.std.proofs.lemmas.List.Elements.{All-cons, All-get_or, All-head, All-nil, All-tail}
 use Rattle.pm_made.specs.Made.{BlockLists}
 use Rattle.pm_memory.specs.Solo.{Solo}
-use Rattle.pm_pending.specs.declared.pending.PendingActions.{PendingActions}
+use Rattle.pm_pending.specs.declared.actions.SetAction.{SetAction}
 use Rattle.pm_script.specs.Scripts.{IsChange, operations}
 use Rattle.pm_script.specs.declared.script.ScriptLine.{ScriptLine}
 use Rattle.pm_view.specs.View.{View}
@@ -19,7 +19,7 @@ use Rattle.pm_exec.proofs.GivenLetters.{StandsBefore, all_drop, all_stay, all_ta
 use Rattle.pm_exec.proofs.ScriptParts.{Parts, first_line, lines_taken, middle}
 
 -- an answer that is not for want of memory has its fact where letters are kept
-pub unless_memory : (lines : List ScriptLine) (a b : Values) (o : Opening) (first : View) (lane : Lane Solo) (blocks : BlockLists) (actions : PendingActions) (names : Names) (ls : List ScriptLine) (values : Values) (why : NotDone)
+pub unless_memory : (lines : List ScriptLine) (a b : Values) (o : Opening) (first : View) (lane : Lane Solo) (blocks : BlockLists) (actions : List SetAction) (names : Names) (ls : List ScriptLine) (values : Values) (why : NotDone)
     → LettersKept {T = Unit {0}} lines a b (Err why) → (KeepsLetters lines a b → IsNotDone o first lane blocks actions names ls values why) → IsNotDone o first lane blocks actions names ls values why
 unless_memory lines a b o first lane blocks actions names ls values (GivenUp line r) kept so = so kept
 unless_memory lines a b o first lane blocks actions names ls values Stopped kept so = so kept

@@ -35,7 +35,7 @@ use Rattle.pm_world.specs.declared.lane.Lane.{Lane}
 use Rattle.pm_memory.specs.Solo.{Solo}
 use Rattle.pm_view.specs.Counts.{among}
 use Rattle.pm_exec.specs.Bounds.{stores_of_script}
-use Rattle.pm_exec.proofs.FewStores.{bounded, calls_bounded, walked}
+use Rattle.pm_exec.proofs.FewStores.{bounded, calls_bounded}
 use Rattle.pm_exec.specs.Calls.{call_of, names_of, numbers_of, call_lines}
 use Rattle.pm_exec.specs.Histories.{closed_history}
 use Rattle.pm_exec.specs.Openings.{first_view, opening_of}
@@ -71,9 +71,10 @@ begins_run pool words stop lane blocks names history none is = record {
       page = λ header pool begins i low. refl;
       same = same_lane (first_view pool words stop);
       made = subst (λ (es : List Entry). CallsMade names [] es (first_view pool words stop) (first_view pool words stop)) (sym none) refl;
-      bound = walked (first_view pool words stop) (first_view pool words stop) 0 [] refl (omega arith);
+      bound = bounded (first_view pool words stop) (first_view pool words stop) 0 [] refl refl (omega arith);
     };
     rests = is.rests;
+    drained = is.drained;
     idle = refl;
     has_none = is.has_none;
     pages = is.pages;
@@ -174,8 +175,8 @@ module _ (pool : PoolView) (words : List ℕ) (stop : Option ℕ) (script : List
         ends = e.ends;
         within = within_stop first e.last lane.memory same e.seen;
         image = image_kept;
-        bound = bounded first e.last (stores_of_script names script) refl e.bound;
-        few = calls_bounded first e.last (stores_of_script names script) refl (bounded first e.last (stores_of_script names script) refl e.bound);
+        bound = e.bound;
+        few = calls_bounded first e.last (stores_of_script names script) refl e.bound;
         numbers = as_many_numbered names e.numbered closed e.last.entries e.shown;
         fates = e.fates;
         losses = losses;

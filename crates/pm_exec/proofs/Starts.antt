@@ -8,7 +8,7 @@ use Rattle.pm_lock.proofs.LookedAlone.{led_words}
 use Rattle.pm_lock.specs.Leading.{IsLed}
 use Rattle.pm_made.specs.Made.{BlockLists}
 use Rattle.pm_memory.specs.Solo.{Sees, Solo}
-use Rattle.pm_pending.specs.declared.pending.PendingActions.{PendingActions}
+use Rattle.pm_pending.specs.declared.actions.SetAction.{SetAction}
 use Rattle.pm_undo.specs.Working.{FindsOpening}
 use Rattle.pm_view.specs.Founds.{IsAlone}
 use Rattle.pm_view.specs.Log.{no_log}
@@ -18,7 +18,7 @@ use Rattle.pm_world.specs.Opening.{IsSound, Opening}
 use Rattle.pm_world.specs.declared.lane.Lane.{Lane}
 use Rattle.pm_exec.specs.Progress.{IsStart}
 
-module _ (o : Opening) (lane : Lane Solo) (blocks : BlockLists) (actions : PendingActions) (v : View) (is : IsStart o lane blocks actions v) where
+module _ (o : Opening) (lane : Lane Solo) (blocks : BlockLists) (actions : List SetAction) (v : View) (is : IsStart o lane blocks actions v) where
   pub start_lane : v.lane ≡ 0
   start_lane = begins_lane o is.header is.pool v is.begins
 

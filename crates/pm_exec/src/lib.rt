@@ -8,7 +8,6 @@
 #![tactic(auto)]
 
 mod acting;
-mod actions;
 mod bounds;
 mod calls;
 mod ending;

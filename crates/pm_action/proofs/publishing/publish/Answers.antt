@@ -1,4 +1,4 @@
-use Rattle.std.proofs.Common.{◌≡◌, ◌≤◌, ◌∙◌, None, rules, inl, length, ap, sym}
+use Rattle.std.proofs.Common.{◌≡◌, ◌≤◌, ◌∙◌, [], None, rules, length, ap, refl, sym}
 use Rattle.std.proofs.lemmas.Bool.{false≢true}
 use Rattle.pm_world.specs.declared.lane.Lane.{Lane}
 use Rattle.pm_objects.specs.declared.calls.Operation.TheVariants.{Publish}
@@ -18,8 +18,8 @@ returns-then-is_empty-clause-ends g c v rests stays same =
     let s = c.in_ok-start.ensures.begun v rests in
     let pending = pending_started g.M.LaneMem.at c.start.new.lane v n s ∙ (sym same ∙ ap pending_of (no_elements c.args.actions.now.items none)) in
     published_nothing g.M.LaneMem.at c.end_outside.new.lane c.args.actions.now.items v none
-    (told_at_once_since g.M.LaneMem.at c.start.new.lane v n s c.end_outside.new.lane Publish None
-    (c.end_outside.ensures.told _ s.begun (begun_unlocked g.M.LaneMem.at c.start.new.lane _ s.begun (no_locks g.M.LaneMem.at c.args.lane.now c.start.new.lane v n s rests c.start.ensures.else_same)) (inl (empty_whole g.M.LaneMem.at c.start.new.lane _ s.begun (no_locks g.M.LaneMem.at c.args.lane.now c.start.new.lane v n s rests c.start.ensures.else_same) pending))))
+    (told_at_once_since g.M.LaneMem.at c.start.new.lane v n s c.end_outside.new.lane [] Publish None
+    (c.end_outside.ensures.told _ [] s.begun (begun_unlocked g.M.LaneMem.at c.start.new.lane _ s.begun (no_locks g.M.LaneMem.at c.args.lane.now c.start.new.lane v n s rests c.start.ensures.else_same)) (empty_whole g.M.LaneMem.at c.start.new.lane _ s.begun (no_locks g.M.LaneMem.at c.args.lane.now c.start.new.lane v n s rests c.start.ensures.else_same) pending) refl))
 
 pub publish_begun-requires-clause-begun : goal.publish_begun-requires-clause-begun
 publish_begun-requires-clause-begun g c =

@@ -11,7 +11,7 @@ returns-in_ok-said-clause-made c o first is =
     let one = one_line c.args.lines.now raw c.requires.call c.index-lines-0.is (search rules) in
     let so : c.in_ok-said.said ≡ resolved_line (c.args.given.now ++ offsets_in []) raw = c.in_ok-said.ensures in
     let all : resolved (c.args.given.now ++ offsets_in []) c.args.lines.now ≡ c.in_ok-said.said ∷ [] = ap (resolved (c.args.given.now ++ offsets_in [])) one ∙ ap (λ (l : ScriptLine). l ∷ []) (sym so) in
-    subst (λ (ls : List ScriptLine). HasCome o first c.run_outside.new.lane c.args.blocks.now c.run_outside.new.pending c.args.names ls c.run_outside.result)
+    subst (λ (ls : List ScriptLine). HasCome o first c.run_outside.new.lane c.args.blocks.now c.run_outside.new.actions.items c.args.names ls c.run_outside.result)
     (sym (ap (λ (vs : Values). resolved (c.args.given.now ++ offsets_in vs) c.args.lines.now) c.run_outside.ensures.gives ∙ all))
     (c.run_outside.ensures.made o first c.args.blocks.now is)
 

@@ -14,7 +14,7 @@ returns-in-Ok-clause-made c o first is =
     let g : Offsets = c.args.given.now ++ offsets_in values in
     let lines : List ScriptLine = resolved g c.args.lines.now in
     let d = c.in-Ok.ensures.made o first is in
-    let left = c.transact.new.pending in
+    let left = c.transact.new.actions.items in
     let blocks = c.transact.new.blocks in
     subst (λ (vs : Values). HasCome o first c.answer.new.lane blocks left c.args.names (resolved (c.args.given.now ++ offsets_in vs) c.args.lines.now) c.answer.result) (sym (c.answer.ensures.gives ∙ c.reply_of.ensures.values))
     (c.answer.ensures.made o first blocks left c.args.names lines d.told _ d.over
@@ -30,7 +30,7 @@ returns-in-Err-GivenUp-clause-made c o first is =
     let values : Values = c.transact.new.values.items in
     let g : Offsets = c.args.given.now ++ offsets_in values in
     let lines : List ScriptLine = resolved g c.args.lines.now in
-    let left = c.transact.new.pending in
+    let left = c.transact.new.actions.items in
     let blocks = c.transact.new.blocks in
     let n = subst (λ (why : NotDone). IsNotDone o first c.transact.new.lane blocks left c.args.names lines values why) w.field-0-is (w.ensures.made o first is) in
     subst (λ (vs : Values). HasCome o first c.answer-in-Err-GivenUp.new.lane blocks left c.args.names (resolved (c.args.given.now ++ offsets_in vs) c.args.lines.now) c.answer-in-Err-GivenUp.result)
@@ -53,7 +53,7 @@ returns-in-Err-Stopped-clause-made c o first is =
     let lines : List ScriptLine = resolved (c.args.given.now ++ offsets_in values) c.args.lines.now in
     subst (λ (vs : Values). IsHalted o first c.transact.new.lane c.args.names (resolved (c.args.given.now ++ offsets_in vs) c.args.lines.now) c.transact.new.lane.drawn reply.result) (sym reply.ensures.values)
     (halted o first c.transact.new.lane c.args.names lines values reply.result
-    (subst (λ (why : NotDone). IsNotDone o first c.transact.new.lane c.transact.new.blocks c.transact.new.pending c.args.names lines values why) w.field-0-is (w.ensures.made o first is)) reply.ensures.values reply.ensures.at)
+    (subst (λ (why : NotDone). IsNotDone o first c.transact.new.lane c.transact.new.blocks c.transact.new.actions.items c.args.names lines values why) w.field-0-is (w.ensures.made o first is)) reply.ensures.values reply.ensures.at)
 
 pub returns-in-Err-Stopped-clause-letters : goal.returns-in-Err-Stopped-clause-letters
 returns-in-Err-Stopped-clause-letters c =
@@ -69,7 +69,7 @@ returns-in-Err-Spent-clause-made c o first is =
     let g : Offsets = c.args.given.now ++ offsets_in values in
     let before : Offsets = c.args.given.now ++ offsets_in [] in
     let lines : List ScriptLine = resolved g c.args.lines.now in
-    let n = subst (λ (why : NotDone). IsNotDone o first c.transact.new.lane c.transact.new.blocks c.transact.new.pending c.args.names lines values why) w.field-0-is (w.ensures.made o first is) in
+    let n = subst (λ (why : NotDone). IsNotDone o first c.transact.new.lane c.transact.new.blocks c.transact.new.actions.items c.args.names lines values why) w.field-0-is (w.ensures.made o first is) in
     (n.0, ap (λ (ns : List ℕ). slice_index ns 0) (numbers_resolved before c.args.lines.now ∙ sym (numbers_resolved g c.args.lines.now)) ∙ n.1)
 
 pub returns-in-Err-Spent-clause-letters : goal.returns-in-Err-Spent-clause-letters
@@ -80,12 +80,12 @@ answer-requires c =
     let f = c.requires.first in
     let d = c.in-Ok.ensures.made f.0 f.1.0 f.1.1 in
     let lines : List ScriptLine = resolved (c.args.given.now ++ offsets_in c.transact.new.values.items) c.args.lines.now in
-    (f.0, (f.1.0, (c.transact.new.blocks, (c.args.names, (lines, (d.told, (_, (c.transact.new.pending, d.over))))))))
+    (f.0, (f.1.0, (c.transact.new.blocks, (c.args.names, (lines, (d.told, (_, (c.transact.new.actions.items, d.over))))))))
 
 pub answer-requires-in-Err-GivenUp : goal.answer-requires-in-Err-GivenUp
 answer-requires-in-Err-GivenUp c =
     let f = c.requires.first in
     let w = c.in-Err-GivenUp in
     let lines : List ScriptLine = resolved (c.args.given.now ++ offsets_in c.transact.new.values.items) c.args.lines.now in
-    let n = subst (λ (why : NotDone). IsNotDone f.0 f.1.0 c.transact.new.lane c.transact.new.blocks c.transact.new.pending c.args.names lines c.transact.new.values.items why) w.field-0-is (w.ensures.made f.0 f.1.0 f.1.1) in
-    (f.0, (f.1.0, (c.transact.new.blocks, (c.args.names, (lines, (n.told, (_, (c.transact.new.pending, n.over))))))))
+    let n = subst (λ (why : NotDone). IsNotDone f.0 f.1.0 c.transact.new.lane c.transact.new.blocks c.transact.new.actions.items c.args.names lines c.transact.new.values.items why) w.field-0-is (w.ensures.made f.0 f.1.0 f.1.1) in
+    (f.0, (f.1.0, (c.transact.new.blocks, (c.args.names, (lines, (n.told, (_, (c.transact.new.actions.items, n.over))))))))

@@ -1,7 +1,7 @@
 use Rattle.std.proofs.Common.{[], List, All, inl, inr, refl, sym, ◌∙◌, subst, arith}
 use Rattle.std.proofs.lemmas.List.Elements.{All-head, All-nil, All-tail}
 use Rattle.pm_objects.specs.declared.history.Entry.{Entry}
-use Rattle.pm_pending.specs.declared.pending.PendingActions.{PendingActions}
+use Rattle.pm_pending.specs.declared.actions.SetAction.{SetAction}
 use Rattle.pm_script.specs.declared.script.ScriptLine.{ScriptLine}
 use Rattle.pm_exec.specs.Calls.{call_lines}
 use Rattle.pm_exec.specs.Letters.{AreInOrder, AreTold, KeepsGiven}
@@ -17,7 +17,7 @@ pub loop-rest-init : goal.loop-rest-init
 loop-rest-init c =
     let begun : (o : Opening) (first : View) → MayRun o first c.args.lane.now c.args.names c.args.history.now.items
     → HasComeTo o first c.args.lane.now c.in_ok-blocks.blocks c.new-actions.result.items c.args.names [] c.args.history.now.items = λ o first h.
-    subst (λ (actions : PendingActions). HasComeTo o first c.args.lane.now c.in_ok-blocks.blocks actions c.args.names [] c.args.history.now.items) (sym c.new-actions.ensures)
+    subst (λ (actions : List SetAction). HasComeTo o first c.args.lane.now c.in_ok-blocks.blocks actions c.args.names [] c.args.history.now.items) (sym c.new-actions.ensures)
     (h.begins c.in_ok-blocks.blocks (let pages = c.in_ok-blocks.ensures.pages in let lanes = h.of_shape.lanes in let zones = h.of_shape.zones in omega (arith, pages, lanes, zones))) in (
       are_calls c.args.lines.now c.requires.calls,
       c.requires.ordered,
@@ -50,7 +50,7 @@ returns-in-Some-clause-made c o first h =
     let split = split_call rest call behind n c.first_call.ensures.first c.split_at.ensures.front c.split_at.ensures.back in
     let t = c.loop-rest.invariant.3 o first h in
     let halts = rw c.in-Some.is at c.in_ok-halt.ensures.halted in
-    inr (halted_next o first c.loop-rest.lane c.loop-rest.blocks c.loop-rest.pending c.args.names c.loop-rest.given.items c.args.lines.now rest c.loop-rest.history.items t
+    inr (halted_next o first c.loop-rest.lane c.loop-rest.blocks c.loop-rest.actions.items c.args.names c.loop-rest.given.items c.args.lines.now rest c.loop-rest.history.items t
     c.loop-rest.invariant.1 n c.first_call.ensures.some c.first_call.ensures.inside call behind c.split_at.ensures.front c.split_at.ensures.back split c.run_next.new.given.items c.in_ok-halt.ensures.letters
     c.run_next.new.lane c.run_next.new.history.items c.in-Some.halt (halts o first _))
 
@@ -67,9 +67,9 @@ loop-rest-preserved c =
       subst AreInOrder (sym c.split_at.ensures.back) (order_drop n rest c.loop-rest.invariant.1),
       gives c.loop-rest.invariant.2,
       λ o first h.
-          one_call_more o first c.loop-rest.lane c.loop-rest.blocks c.loop-rest.pending c.args.names c.loop-rest.given.items c.args.lines.now rest c.loop-rest.history.items (c.loop-rest.invariant.3 o first h)
+          one_call_more o first c.loop-rest.lane c.loop-rest.blocks c.loop-rest.actions.items c.args.names c.loop-rest.given.items c.args.lines.now rest c.loop-rest.history.items (c.loop-rest.invariant.3 o first h)
           c.loop-rest.invariant.1 n c.first_call.ensures.some c.first_call.ensures.inside call behind c.split_at.ensures.front c.split_at.ensures.back split c.run_next.new.given.items c.in_ok-halt.ensures.letters
-          c.run_next.new.lane c.run_next.new.blocks c.run_next.new.pending c.run_next.new.history.items (answers o first _),
+          c.run_next.new.lane c.run_next.new.blocks c.run_next.new.actions.items c.run_next.new.history.items (answers o first _),
     )
 
 pub returns-clause-made : goal.returns-clause-made
@@ -77,11 +77,11 @@ returns-clause-made c o first h =
     let rest = c.loop-rest.rest.now in
     let t = c.loop-rest.invariant.3 o first h in
     let none = none_left rest (sym c.loop-rest-test.false ∙ c.is_empty.ensures) in
-    let all = through_all o first c.loop-rest.lane c.loop-rest.blocks c.loop-rest.pending c.args.names c.loop-rest.given.items c.args.lines.now rest c.loop-rest.history.items t none in
+    let all = through_all o first c.loop-rest.lane c.loop-rest.blocks c.loop-rest.actions.items c.args.names c.loop-rest.given.items c.args.lines.now rest c.loop-rest.history.items t none in
     inl (record {
-      actions = c.loop-rest.pending;
+      actions = c.loop-rest.actions.items;
       blocks = c.loop-rest.blocks;
-      answered = subst (λ (calls : List (List ScriptLine)). HasAnswered o first c.loop-rest.lane c.loop-rest.blocks c.loop-rest.pending c.args.names calls c.loop-rest.history.items) (sym all) t.came.answered;
+      answered = subst (λ (calls : List (List ScriptLine)). HasAnswered o first c.loop-rest.lane c.loop-rest.blocks c.loop-rest.actions.items c.args.names calls c.loop-rest.history.items) (sym all) t.came.answered;
       is_open = refl;
       ends = refl;
     })
@@ -95,4 +95,4 @@ returns-in-Some-clause-told c =
     let kept = rw c.in-Some.is at c.in_ok-halt.ensures.kept in
     let keeps = subst (λ (ls : List ScriptLine). KeepsGiven ls c.loop-rest.given.items c.run_next.new.given.items) c.split_at.ensures.front c.in_ok-halt.ensures.letters in
     subst (λ (es : List Entry). AreTold es c.run_next.new.given.items) (sym kept)
-    (told_still r.0 r.1.0 c.loop-rest.lane c.loop-rest.blocks c.loop-rest.pending c.args.names c.loop-rest.given.items c.args.lines.now rest c.loop-rest.history.items t n c.run_next.new.given.items c.loop-rest.invariant.2 keeps)
+    (told_still r.0 r.1.0 c.loop-rest.lane c.loop-rest.blocks c.loop-rest.actions.items c.args.names c.loop-rest.given.items c.args.lines.now rest c.loop-rest.history.items t n c.run_next.new.given.items c.loop-rest.invariant.2 keeps)

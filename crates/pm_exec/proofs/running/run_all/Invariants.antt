@@ -13,7 +13,7 @@ invariant-loop-rest l =
     All IsCallOf (call_lines l.rest)
     × AreInOrder l.rest
     × (l.given.items ≡ offsets_of l.history.items)
-    × ((o : Opening) (first : View) → MayRun o first l.fn.lane l.names l.fn.history.items → HasRunTo o first l.lane l.blocks l.pending l.names l.given.items l.fn.lines l.rest l.history.items)
+    × ((o : Opening) (first : View) → MayRun o first l.fn.lane l.names l.fn.history.items → HasRunTo o first l.lane l.blocks l.actions.items l.names l.given.items l.fn.lines l.rest l.history.items)
 
 abbrev pub decreases-loop-rest : goal.decreases-loop-rest
 decreases-loop-rest l = length l.rest
