@@ -1,18 +1,23 @@
--- A lane that took the locks of its actions' objects, and found each object, holds them.
-use Rattle.std.proofs.Common.{◌≡◌, ℕ, ◌+◌, ◌*◌, ◌/◌, ◌<◌, Bool, true, not, eqb, ◌&&◌, ◌||◌, Contains, List, [], length, map, get_or, refl, sym, ap, ◌∙◌, subst, arith}
+-- A lane that took the locks of the objects that are named, and found each object, holds them.
+use Rattle.std.proofs.Common.{◌≡◌, ℕ, ◌+◌, ◌*◌, ◌/◌, ◌<◌, Bool, true, not, eqb, ◌&&◌, ◌||◌, All, Contains, List, [], length, map, get_or, refl, sym, ap, ◌∙◌, subst, arith}
 use Rattle.std.proofs.Math.ListN.{get_or-map}
 use Rattle.std.proofs.lemmas.Bool.{and_parts, eqb-true}
-use Rattle.std.proofs.lemmas.List.{get_or_default, length-map}
-use Rattle.std.proofs.lemmas.List.Elements.{All-contains, Contains-get_or}
+use Rattle.std.proofs.lemmas.List.{get_or_default}
+use Rattle.std.proofs.lemmas.List.Elements.{All-contains, All-contains_itself, All-weaker, Contains-append_left, Contains-append_right}
 use Rattle.std.proofs.lemmas.List.Folds.{Any-from_list_any}
+use Rattle.std.proofs.lemmas.Option.{same_Some}
+use Rattle.pm_crash.proofs.Includes.{made_member}
+use Rattle.pm_crash.specs.OnActions.{CanFree}
 use Rattle.pm_crash.specs.OpenCall.{lock_of as model_lock, locks_of}
 use Rattle.pm_crash.specs.Operations.{IsHeld, IsWantHeld, TakesWanted}
-use Rattle.pm_model.specs.Actions.{wants_for}
+use Rattle.pm_model.specs.Actions.{wants_for, wants_pending}
 use Rattle.pm_model.specs.Places.{can_begin}
 use Rattle.pm_model.specs.Transaction.{Lock as Locked}
 use Rattle.pm_objects.specs.declared.calls.Want.{Want}
+use Rattle.pm_objects.specs.declared.ids.Oid.{Oid}
 use Rattle.pm_pending.specs.Pending.{action_of, sets_of}
 use Rattle.pm_pending.specs.declared.actions.SetAction.{SetAction}
+use Rattle.pm_pending.specs.declared.pending.PendingActions.{PendingActions}
 use Rattle.pm_view.specs.Blocks.{is_chunk}
 use Rattle.pm_view.specs.View.{View, Lock}
 use Rattle.pm_world.specs.Lanes.{lock_of}
@@ -23,8 +28,8 @@ use Rattle.pm_lock.specs.Finding.{FindsObject, FindsObjects}
 use Rattle.pm_lock.specs.Locking.{no_lock}
 use Rattle.pm_lock.specs.Plans.{IsChunkLine, IsPlan, model_locks}
 use Rattle.pm_tx.proofs.BeganWanted.{count, locked_by, same_locks, wanted_locked}
-use Rattle.pm_action.specs.Holding.{HoldsEach, HoldsObject}
-use Rattle.pm_action.proofs.WantedObjects.{want_for}
+use Rattle.pm_action.specs.Holding.{HoldsEach, HoldsObject, named_in}
+use Rattle.pm_action.proofs.WantedObjects.{want_for, want_of}
 
 module _ (pool : ℕ) (v : View) (wants : List Want) (plan : List HeldLock) (of_pool : v.pool ≡ pool) (is : IsPlan pool v.lanes v.zones wants plan) (models : locks_of v ≡ model_locks plan) where
   -- each lock is of a line of a chunk, as the plan has it
@@ -83,14 +88,32 @@ module _ (pool : ℕ) (v : View) (wants : List Want) (plan : List HeldLock) (of_
           inside = All-contains (λ (l : Lock). l.line < length v.words / 8) v.locks h.lock lines.inside h.held;
         }
 
--- so of actions, of which the wants are the objects
-pub each_held : (pool : ℕ) (v : View) (actions : List SetAction) (plan : List HeldLock) → v.pool ≡ pool → IsPlan pool v.lanes v.zones (wants_for (sets_of actions)) plan → locks_of v ≡ model_locks plan → FindsObjects v → HoldsLines v
-    → HoldsEach v actions
-each_held pool v actions plan of_pool is models objects lines k d low =
-    let a : SetAction = get_or actions k d in
-    let wants : List Want = wants_for (sets_of actions) in
-    let n = length-map actions action_of in
-    let m = length-map (sets_of actions) want_for in
-    let this : get_or wants k (want_for (action_of d)) ≡ want_for (action_of a) = get_or-map want_for (sets_of actions) k (action_of d) ∙ ap want_for (get_or-map action_of actions k d) in
-    object_held pool v wants plan of_pool is models objects lines (want_for (action_of a)) refl
-    (subst (λ (want : Want). Contains wants want) this (Contains-get_or wants k (want_for (action_of d)) (omega (arith, low, n, m))))
+-- an object that is held has a line to be freed with
+pub can_free : (v : View) → FindsObjects v → (id : Oid) → HoldsObject v id → CanFree v id
+can_free v objects id is =
+    let h : IsHeld v id true = is.held in
+    let object : FindsObject v h.lock = objects h.lock h.held in
+    let same : object.lines ≡ h.lines = same_Some object.lines h.lines (sym object.block ∙ h.block) in
+    (h, (let fits = object.fits in omega (arith, same, fits)))
+
+-- so of all that is pending, of which the wants are the objects that are named
+module _ (pool : ℕ) (v : View) (list : PendingActions) (plan : List HeldLock) (of_pool : v.pool ≡ pool) (is : IsPlan pool v.lanes v.zones (wants_pending (named_in list)) plan) (models : locks_of v ≡ model_locks plan) (objects : FindsObjects v)
+    (lines : HoldsLines v) where
+  abbrev frees : List Want
+  frees = map want_of list.frees.items
+
+  abbrev sets : List Want
+  sets = wants_for (sets_of list.sets.items)
+
+  freed_held : (id : Oid) → Contains list.frees.items id → HoldsObject v id
+  freed_held id there = object_held pool v (wants_pending (named_in list)) plan of_pool is models objects lines (want_of id) refl (Contains-append_left frees sets (want_of id) (made_member want_of list.frees.items id there))
+
+  set_held : (a : SetAction) → Contains list.sets.items a → HoldsObject v a.id
+  set_held a there = object_held pool v (wants_pending (named_in list)) plan of_pool is models objects lines (want_of a.id) refl
+      (Contains-append_right frees sets (want_of a.id) (made_member want_for (sets_of list.sets.items) (action_of a) (made_member action_of list.sets.items a there)))
+
+  pub each_held : HoldsEach v list.sets.items
+  each_held = All-weaker (Contains list.sets.items) (λ (a : SetAction). HoldsObject v a.id) set_held list.sets.items (All-contains_itself list.sets.items)
+
+  pub each_freed : All (CanFree v) list.frees.items
+  each_freed = All-weaker (Contains list.frees.items) (CanFree v) (λ id there. can_free v objects id (freed_held id there)) list.frees.items (All-contains_itself list.frees.items)

@@ -1,6 +1,7 @@
 -- What a publish comes to, since its call began, and since the lane was at rest.
-use Rattle.std.proofs.Common.{◌≡◌, ℕ, ◌+◌, ◌*◌, ◌<◌, ◌≤◌, true, slice_index, not, All, Any, List, [], ◌∷◌, ◌++◌, length, map, Ok, Err, IfErr, Result, None, Some, refl, sym, ap, ◌∙◌, subst, arith}
+use Rattle.std.proofs.Common.{◌≡◌, ◌⊎◌, ⊎_elim, inl, inr, ℕ, ◌+◌, ◌*◌, ◌<◌, ◌≤◌, true, slice_index, not, All, Any, List, [], ◌∷◌, ◌++◌, length, map, Ok, Err, IfErr, Result, None, Some, refl, sym, ap, ◌∙◌, subst, arith}
 use Rattle.std.specs.List.{filter}
+use Rattle.std.proofs.lemmas.List.{length-map}
 use Rattle.std.proofs.lemmas.List.Elements.{All-nil}
 use Rattle.pm_view.specs.Area.{is_in_area}
 use Rattle.pm_crash.proofs.PublishOutside.{publish_is_step}
@@ -8,139 +9,73 @@ use Rattle.pm_crash.specs.Locks.{AreSameLocks}
 use Rattle.pm_crash.specs.OnActions.{CanSet, PassesObject}
 use Rattle.pm_crash.specs.OpenCall.{lock_of as model_lock}
 use Rattle.pm_crash.specs.Operations.{IsHeld, TakesWanted}
-use Rattle.pm_crash.specs.Pending.{pending_before, pending_from}
+use Rattle.pm_crash.specs.Pending.{pending_before, sets_before}
 use Rattle.pm_crash.specs.Performing.{entry_for}
-use Rattle.pm_model.specs.Actions.{Action, Pending, none_pending, wants_for, wants_pending}
-use Rattle.pm_crash.proofs.PendingOn.{sets_alone}
+use Rattle.pm_made.specs.Made.{BlockLists}
+use Rattle.pm_model.specs.Actions.{Action, Pending, none_pending, only_sets, wants_pending}
+use Rattle.pm_crash.proofs.PendingOn.{same_before, sets_alone}
 use Rattle.pm_model.specs.Actions.Action.{SetWord}
 use Rattle.pm_model.specs.Transaction.{locked_all}
 use Rattle.pm_objects.specs.declared.calls.Operation.TheVariants.{Publish}
 use Rattle.pm_objects.specs.declared.history.Value.TheVariants.{Refused}
+use Rattle.pm_objects.specs.declared.ids.Oid.{Oid}
 use Rattle.pm_objects.specs.declared.refusal.Refusal.{Refusal}
 use Rattle.pm_objects.specs.declared.refusal.Refusal.TheVariants as refusal
-use Rattle.pm_pending.specs.Pending.{pending_of, sets_of}
-use Rattle.pm_pending.specs.declared.actions.SetAction.{SetAction}
-use Rattle.pm_record.specs.declared.redo.Redo.{Redo}
+use Rattle.pm_pending.specs.AllPending.{reserved_as}
+use Rattle.pm_pending.specs.declared.pending.PendingActions.{PendingActions}
+use Rattle.pm_pending.specs.declared.pending.Reserved.{Reserved}
 use Rattle.pm_view.proofs.SameLane.{same_lane-then}
 use Rattle.pm_view.specs.Constants.{IsSameLane}
 use Rattle.pm_view.specs.Founds.{IsAlone}
 use Rattle.pm_view.specs.Log.{Final, Log}
 use Rattle.pm_view.specs.Steps.Step.{Tell}
 use Rattle.pm_view.specs.View.{Lock, Numbered, Told, View}
-use Rattle.pm_view.specs.Views.{after, after_all}
+use Rattle.pm_view.specs.Views.{after}
 use Rattle.pm_world.specs.Lanes.{lock_of}
-use Rattle.pm_world.specs.Sequences.{Ready}
 use Rattle.pm_world.specs.declared.lane.Lane.{Lane}
-use Rattle.pm_lock.proofs.Drawless.{drawless}
-use Rattle.pm_lock.proofs.GivenBack.{all_gives_leave, none_counted}
-use Rattle.pm_lock.proofs.Leads.{led_same, led_then, ready_led}
+use Rattle.pm_lock.proofs.Leads.{led_none, led_same, led_then}
 use Rattle.pm_lock.proofs.LookedAlone.{any_lacks_same, led_words}
 use Rattle.pm_lock.specs.Begun.{IsBegun}
 use Rattle.pm_lock.specs.Lacking.{LacksObject}
-use Rattle.pm_lock.specs.Leading.{DrawEnded, IsLed}
-use Rattle.pm_lock.specs.Locking.{gives}
-use Rattle.pm_tx.specs.Ending.{IsClosedBy, IsEndedBy, IsStoppedIn, drawn_more}
-use Rattle.pm_tx.specs.Sequences.{publishes_outside}
+use Rattle.pm_lock.specs.Leading.{IsLed}
+use Rattle.pm_tx.specs.Ending.{drawn_more}
 use Rattle.pm_tx.proofs.BeginPlanned.{busy_further}
-use Rattle.pm_action.specs.Holding.{GoesOnTo, HasFoundNone, HasFoundShort, HoldsActions, Overruns}
+use Rattle.pm_transaction.specs.Published.{HasOwnCounts}
+use Rattle.pm_action.specs.Holding.{HasFoundNone, HasFoundRoot, HasFoundShort, HoldsPending, IsHoldCause, Overruns, RefusesToHold}
 use Rattle.pm_action.specs.Outside.{IsWholeOnceTold}
-use Rattle.pm_action.specs.Publishing.{IsBegunPublishCause, IsPublished, IsPublishedBy, IsStoppedPublishing, MayPublishHeld, PublishEnds, StaysSound, entries_of}
+use Rattle.pm_action.specs.Publishing.{AreSetsAlone, HoldsToPublish, IsBegunPublishCause, IsPublished, IsPublishedBy, IsPublishedNone, IsStoppedInPublish, IsStoppedPublishing, PublishEnds}
+use Rattle.pm_action.specs.PublishingAll.{HasPublishedHeld, IsPublishedAll, IsStoppedHeld, IsStoppedPublishingAll}
 use Rattle.pm_action.proofs.Started.{told_further}
 use Rattle.pm_tx.proofs.Beginnings.{works}
-use Rattle.pm_action.proofs.PublishedHeld.{may_publish, own, pending_few, pending_some}
-use Rattle.pm_action.proofs.ToldOutside.{pending_behind_one}
 
--- ---- since the call began
+-- ---- from where the lane held all
 
--- a list of some actions is published so
-published_some : {M : Type 0} (at : M → View → Type 0) (lane : Lane M) (actions : List SetAction) (v : View) → 1 ≤ length actions → IsPublishedBy at lane (sets_of actions) v → IsPublished at lane actions v
-published_some at lane [] v some by = absurd (omega (arith, some))
-published_some at lane (a ∷ actions) v some by = by
+module _ {M : Type 0} (at : M → View → Type 0) (held lane : Lane M) (pending : PendingActions) (blocks : BlockLists) (v : View) (h : HoldsToPublish at held pending v) (counts : HasOwnCounts v) (some : 1 ≤ length pending.frees.items + length pending.reserved.items) where
+  some_before : 1 ≤ length (pending_before v).frees + length (pending_before v).reserved
+  some_before =
+      let frees = ap (λ (ids : List Oid). length ids) h.listed.frees in
+      let reserved = ap (λ (rs : List Reserved). length rs) h.listed.reserved in let n = length-map (pending_before v).reserved reserved_as in
+      omega (arith, some, frees, reserved, n)
 
-module _ {M : Type 0} (at : M → View → Type 0) (held : Lane M) (v : View) (stays : StaysSound at v) (items xs ys : List SetAction) (first : xs ≡ items) (second : ys ≡ items) (goes : GoesOnTo at held v (λ w. HoldsActions w (sets_of xs))) where
-  abbrev h : View
-  h = goes.view
+  pub published_all_there : HasPublishedHeld at lane pending blocks v → IsPublishedAll at lane pending blocks v
+  published_all_there done = record { some = some_before; holding = v; led = led_none v; undrawn = refl; counts = counts; untold = h.begun.untold; holds = h.holds; done = done }
 
-  holds : HoldsActions h (sets_of items)
-  holds = subst (λ (zs : List SetAction). HoldsActions h (sets_of zs)) first goes.holds
+  pub stopped_all_there : IsStoppedHeld at lane pending blocks v → IsStoppedPublishingAll at lane pending blocks v
+  stopped_all_there stops = record { some = some_before; holding = v; led = led_none v; undrawn = refl; counts = counts; untold = h.begun.untold; works = works at held v h.begun; holds = h.holds; stops = stops }
 
-  pub may_held : MayPublishHeld at held (sets_of items) h
-  may_held = record { begun = goes.begun; holds = holds; sound = stays held.memory h goes.led goes.begun.seen.memory }
+-- ---- since before that
 
-  module _ (same : pending_of items ≡ pending_before v) where
-    now : pending_of items ≡ pending_before h
-    now = same ∙ sym (ap (λ (entries : List Numbered). pending_from none_pending entries) goes.entries)
+module _ {M : Type 0} (at : M → View → Type 0) (lane : Lane M) (v u : View) (alone : IsAlone v) (led : IsLed v u) (entries : u.entries ≡ v.entries) where
+  same : pending_before u ≡ pending_before v
+  same = same_before v u entries
 
-    -- it stopped
-    pub stopped_since : (new : Lane M) → ((w : View) → MayPublishHeld at held (sets_of ys) w → pending_of ys ≡ pending_before w → IsStoppedIn at new w (publishes_outside (entries_of (sets_of ys)) Publish new.last) Publish None) → (r : Refusal) → r ≡ refusal.Stopped
-        → 1 ≤ length items → length items ≤ 63 → PublishEnds {M = M} {T = Unit {0}} at new items v (Err r)
-    stopped_since new stops r is some few =
-        let so = subst (λ (zs : List SetAction). (w : View) → MayPublishHeld at held (sets_of zs) w → pending_of zs ≡ pending_before w → IsStoppedIn at new w (publishes_outside (entries_of (sets_of zs)) Publish new.last) Publish None) second stops in
-        subst (λ q. PublishEnds {M = M} {T = Unit {0}} at new items v (Err q)) (sym is) (record {
-          holding = h;
-          led = goes.led;
-          holds = holds;
-          undrawn = goes.entries;
-          untold = goes.begun.untold;
-          works = works at held h goes.begun;
-          may = may_publish at held (sets_of items) h may_held (pending_some items some) (pending_few items few);
-          own = own at held (sets_of items) h may_held;
-          stopped = so h may_held now;
-        })
-
-    module _ (mid new : Lane M) (ended : (w : View) → MayPublishHeld at held (sets_of ys) w → pending_of ys ≡ pending_before w → IsEndedBy at mid w (publishes_outside (entries_of (sets_of ys)) Publish mid.last) Publish None) where
-      abbrev es : List Redo
-      es = entries_of (sets_of items)
-
-      pub ended_there : IsEndedBy at mid h (publishes_outside es Publish mid.last) Publish None
-      ended_there =
-          subst (λ (zs : List SetAction). (w : View) → MayPublishHeld at held (sets_of zs) w → pending_of zs ≡ pending_before w → IsEndedBy at mid w (publishes_outside (entries_of (sets_of zs)) Publish mid.last) Publish None) second ended h may_held now
-
-      abbrev w : View
-      w = after_all h (publishes_outside es Publish mid.last h)
-
-      abbrev view : View
-      view = after_all w (gives mid.locks.items w)
-
-      -- it was published, and the locks went back
-      pub published_since : IsClosedBy at new w (gives mid.locks.items) → new.last ≡ mid.last → 1 ≤ length items → length items ≤ 63 → IsPublished at new items v
-      published_since closed last some few =
-          let e : IsEndedBy at mid h (publishes_outside es Publish mid.last) Publish None = ended_there in
-          let gone : view ≡ record w { locks = []; known = view.known } = closed.same in
-          let back : IsLed w view =
-          ready_led w (gives mid.locks.items w) closed.ready (drawless w (gives mid.locks.items w) (let n = ap (λ (u : View). length u.entries) gone in omega (arith, n))) (none_counted mid.locks.items w) (all_gives_leave mid.locks.items w)
-          (record { zone_locks = ap (λ (u : View). u.zone_locks) gone; reserved = ap (λ (u : View). u.reserved) gone; freed = ap (λ (u : View). u.freed) gone }) in
-          let told : w.call ≡ record { operation = Publish; reply = None } ∷ [] = e.told ∙ ap (λ (told : List Told). told ++ record { operation = Publish; reply = None } ∷ []) goes.begun.untold in
-          let entries : view.entries ≡ drawn_more v.entries mid.last (record { operation = Publish; reply = None } ∷ []) =
-          ap (λ (u : View). u.entries) gone ∙ (e.entries ∙ (λ i. drawn_more (goes.entries i) mid.last (told i))) in
-          published_some at new items v some (record {
-            holding = h;
-            led = goes.led;
-            holds = holds;
-            undrawn = goes.entries;
-            ready = subst (λ n. Ready h (publishes_outside es Publish n h)) (sym last) e.ready;
-            draws = subst (λ n. DrawEnded h (publishes_outside es Publish n h)) (sym last) e.draws;
-            view = view;
-            back = subst (λ n. IsLed (after_all h (publishes_outside es Publish n h)) view) (sym last) back;
-            same = same_lane-then v h view (led_same v h goes.led) (same_lane-then h w view e.over.lane (led_same w view back));
-            rests = closed.rests;
-            drained = ap (λ (u : View). u.changes) gone ∙ e.over.drained;
-            idle = ap (λ (u : View). u.log) gone ∙ e.over.log;
-            entries = entries ∙ ap (λ n. drawn_more v.entries n (record { operation = Publish; reply = None } ∷ [])) (sym last);
-            few = pending_few items few;
-            drawn_there = subst (λ n. view.entries ≡ (after_all h (publishes_outside es Publish n h)).entries) (sym last) (ap (λ (u : View). u.entries) gone);
-            pending = pending_behind_one v mid.last Publish None view entries;
-          })
-
--- ---- since the lane was at rest
-
-module _ {M : Type 0} (at : M → View → Type 0) (new : Lane M) (v u : View) (led : IsLed v u) (entries : u.entries ≡ v.entries) (items : List SetAction) where
-  by_further : IsPublishedBy at new (sets_of items) u → IsPublishedBy at new (sets_of items) v
-  by_further was = record {
+  by_further : (actions : List Action) → IsPublishedBy at lane actions u → IsPublishedBy at lane actions v
+  by_further actions was = record {
     holding = was.holding;
     led = led_then v u was.holding led was.led;
     holds = was.holds;
     undrawn = was.undrawn ∙ entries;
+    counts = was.counts;
     ready = was.ready;
     draws = was.draws;
     view = was.view;
@@ -149,23 +84,82 @@ module _ {M : Type 0} (at : M → View → Type 0) (new : Lane M) (v u : View) (
     rests = was.rests;
     drained = was.drained;
     idle = was.idle;
-    entries = was.entries ∙ ap (λ (es : List Numbered). drawn_more es new.last (record { operation = Publish; reply = None } ∷ [])) entries;
+    entries = was.entries ∙ ap (λ (es : List Numbered). drawn_more es lane.last (record { operation = Publish; reply = None } ∷ [])) entries;
     few = was.few;
     drawn_there = was.drawn_there;
     pending = was.pending;
+    keeps = was.keeps;
   }
 
-  stopped_further : IsStoppedPublishing at new (sets_of items) u → IsStoppedPublishing at new (sets_of items) v
-  stopped_further was = record { holding = was.holding; led = led_then v u was.holding led was.led; holds = was.holds; undrawn = was.undrawn ∙ entries; untold = was.untold; works = was.works; may = was.may; own = was.own; stopped = was.stopped }
+  alone_further : AreSetsAlone u → AreSetsAlone v
+  alone_further are = subst (λ (p : Pending). (p ≡ only_sets p.sets) × (1 ≤ length p.sets) → AreSetsAlone v) (sym same) (λ t. record { alone = t.0; some = t.1 }) (are.alone, are.some)
 
-  none_further : HasFoundNone at new items u → HasFoundNone at new items v
-  unfolding told_further
-  none_further was = record { told = told_further at new items v u Publish (Some (Refused refusal.NoObject)) led entries was.told; lacking = was.lacking }
+  sets_further : AreSetsAlone u × IsPublishedBy at lane (sets_before u) u → AreSetsAlone v × IsPublishedBy at lane (sets_before v) v
+  sets_further was = (alone_further was.0, by_further (sets_before v) (subst (λ (p : Pending). IsPublishedBy at lane p.sets u) same was.1))
 
-  short_further : HasFoundShort at new items u → HasFoundShort at new items v
+  stopped_by_further : (actions : List Action) → IsStoppedPublishing at lane actions u → IsStoppedPublishing at lane actions v
+  stopped_by_further actions was = record {
+    holding = was.holding;
+    led = led_then v u was.holding led was.led;
+    holds = was.holds;
+    undrawn = was.undrawn ∙ entries;
+    counts = was.counts;
+    untold = was.untold;
+    works = was.works;
+    may = was.may;
+    own = was.own;
+    stopped = was.stopped;
+  }
+
+  all_further : (pending : PendingActions) (blocks : BlockLists) → IsPublishedAll at lane pending blocks u → IsPublishedAll at lane pending blocks v
+  all_further pending blocks was = record {
+    some = subst (λ (p : Pending). 1 ≤ length p.frees + length p.reserved) same was.some;
+    holding = was.holding;
+    led = led_then v u was.holding led was.led;
+    undrawn = was.undrawn ∙ entries;
+    counts = was.counts;
+    untold = was.untold;
+    holds = subst (HoldsPending was.holding) same was.holds;
+    done = was.done;
+  }
+
+  stopped_all_further : (pending : PendingActions) (blocks : BlockLists) → IsStoppedPublishingAll at lane pending blocks u → IsStoppedPublishingAll at lane pending blocks v
+  stopped_all_further pending blocks was = record {
+    some = subst (λ (p : Pending). 1 ≤ length p.frees + length p.reserved) same was.some;
+    holding = was.holding;
+    led = led_then v u was.holding led was.led;
+    undrawn = was.undrawn ∙ entries;
+    counts = was.counts;
+    untold = was.untold;
+    works = was.works;
+    holds = subst (HoldsPending was.holding) same was.holds;
+    stops = was.stops;
+  }
+
+  none_at_all_further : IsPublishedNone at lane u → IsPublishedNone at lane v
   unfolding told_further
-  short_further was = record {
-    told = told_further at new items v u Publish (Some (Refused refusal.OutOfRange)) led entries was.told;
+  none_at_all_further was = record {
+    none = sym same ∙ was.none;
+    told = record { told = told_further at lane v u Publish None led entries was.told.told; words = was.told.words ∙ led_words v u led alone };
+  }
+
+  pub published_further : (pending : PendingActions) (blocks : BlockLists) → IsPublished at lane pending blocks u → IsPublished at lane pending blocks v
+  published_further pending blocks (inl was) = inl (none_at_all_further was)
+  published_further pending blocks (inr (inl was)) = inr (inl (sets_further was))
+  published_further pending blocks (inr (inr was)) = inr (inr (all_further pending blocks was))
+
+  pub stops_further : (pending : PendingActions) (blocks : BlockLists) → IsStoppedInPublish at lane pending blocks u → IsStoppedInPublish at lane pending blocks v
+  stops_further pending blocks (inl was) = inl (alone_further was.0, stopped_by_further (sets_before v) (subst (λ (p : Pending). IsStoppedPublishing at lane p.sets u) same was.1))
+  stops_further pending blocks (inr was) = inr (stopped_all_further pending blocks was)
+
+  none_further : (p : Pending) → HasFoundNone at lane p u → HasFoundNone at lane p v
+  unfolding told_further
+  none_further p was = record { told = told_further at lane v u Publish (Some (Refused refusal.NoObject)) led entries was.told; lacking = was.lacking }
+
+  root_further : (p : Pending) → HasFoundRoot at lane p u → HasFoundRoot at lane p v
+  unfolding told_further
+  root_further p was = record {
+    told = told_further at lane v u Publish (Some (Refused refusal.RootKept)) led entries was.told;
     holding = was.holding;
     led = led_then v u was.holding led was.led;
     undrawn = was.undrawn ∙ entries;
@@ -173,30 +167,56 @@ module _ {M : Type 0} (at : M → View → Type 0) (new : Lane M) (v u : View) (
     words = was.words;
   }
 
-  done_further : (actions : List SetAction) → actions ≡ items → 1 ≤ length actions → IsPublished at new actions u → IsPublished at new actions v
-  done_further [] are some was = absurd (omega (arith, some))
-  done_further (a ∷ actions) are some was =
-      subst (λ (zs : List SetAction). IsPublishedBy at new (sets_of zs) v) (sym are) (by_further (subst (λ (zs : List SetAction). IsPublishedBy at new (sets_of zs) u) are was))
+  short_further : (p : Pending) → HasFoundShort at lane p u → HasFoundShort at lane p v
+  unfolding told_further
+  short_further p was = record {
+    told = told_further at lane v u Publish (Some (Refused refusal.OutOfRange)) led entries was.told;
+    holding = was.holding;
+    led = led_then v u was.holding led was.led;
+    undrawn = was.undrawn ∙ entries;
+    holds = was.holds;
+    words = was.words;
+  }
 
-  err_further : (r : Refusal) → IsBegunPublishCause r → PublishEnds {M = M} {T = Unit {0}} at new items u (Err r) → PublishEnds {M = M} {T = Unit {0}} at new items v (Err r)
-  err_further refusal.Stopped cause was = stopped_further was
-  err_further refusal.Busy cause was = busy_further at new v u led entries was
-  err_further refusal.NoObject cause was = none_further was
-  err_further refusal.OutOfRange cause was = short_further was
-  err_further r cause was = absurd cause
+  err_further : (pending : PendingActions) (blocks : BlockLists) (r : Refusal) → IsBegunPublishCause r → PublishEnds {M = M} {T = Unit {0}} at lane pending blocks u (Err r) → PublishEnds {M = M} {T = Unit {0}} at lane pending blocks v (Err r)
+  err_further pending blocks refusal.Stopped cause was = stops_further pending blocks was
+  err_further pending blocks refusal.Busy cause was = busy_further at lane v u led entries was
+  err_further pending blocks refusal.NoObject cause was = none_further (pending_before v) (subst (λ (p : Pending). HasFoundNone at lane p u) same was)
+  err_further pending blocks refusal.RootKept cause was = root_further (pending_before v) (subst (λ (p : Pending). HasFoundRoot at lane p u) same was)
+  err_further pending blocks refusal.OutOfRange cause was = short_further (pending_before v) (subst (λ (p : Pending). HasFoundShort at lane p u) same was)
+  err_further pending blocks r cause was = absurd cause
 
-  pub ends_further : 1 ≤ length items → (result : Result (Unit {0}) Refusal) → IfErr result IsBegunPublishCause → PublishEnds at new items u result → PublishEnds at new items v result
-  ends_further some (Ok done) cause was = done_further items refl some was
-  ends_further some (Err r) cause was = err_further r cause was
+  pub ends_further : (pending : PendingActions) (blocks : BlockLists) (result : Result (Unit {0}) Refusal) → IfErr result IsBegunPublishCause → PublishEnds at lane pending blocks u result → PublishEnds at lane pending blocks v result
+  ends_further pending blocks (Ok done) cause was = published_further pending blocks was
+  ends_further pending blocks (Err r) cause was = err_further pending blocks r cause was
 
--- and where the lane is alone, what was missing was so before
-pub missing_alone : {M : Type 0} (at : M → View → Type 0) (new : Lane M) (items : List SetAction) (v : View) (result : Result (Unit {0}) Refusal) → result ≡ Err refusal.NoObject → PublishEnds at new items v result → IsAlone v
-    → Any (LacksObject v) (wants_for (sets_of items))
-missing_alone {M} at new items v result is ends alone =
-    let was : HasFoundNone at new items v = subst (λ (r : Result (Unit {0}) Refusal). PublishEnds at new items v r) is ends in
-    let view : View = was.told.view in
-    let same = was.told.same in
-    any_lacks_same view v (sym same.lanes) (sym same.zones) (sym same.pool) (sym (led_words v view was.told.led alone)) (wants_for (sets_of items)) was.lacking
+-- what holding was refused for
+pub refused_ends : {M : Type 0} (at : M → View → Type 0) (lane : Lane M) (pending : PendingActions) (blocks : BlockLists) (v : View) (r : Refusal) → IsHoldCause r → RefusesToHold at lane (pending_before v) v r → PublishEnds {M = M} {T = Unit {0}} at lane pending blocks v (Err r)
+refused_ends at lane pending blocks v refusal.Busy cause was = was
+refused_ends at lane pending blocks v refusal.NoObject cause was = was
+refused_ends at lane pending blocks v refusal.RootKept cause was = was
+refused_ends at lane pending blocks v refusal.OutOfRange cause was = was
+refused_ends at lane pending blocks v r cause was = absurd cause
+
+-- ---- what was found was so before
+
+module _ {M : Type 0} (at : M → View → Type 0) (lane : Lane M) (pending : PendingActions) (blocks : BlockLists) (v : View) (result : Result (Unit {0}) Refusal) (ends : PublishEnds at lane pending blocks v result) (alone : IsAlone v) where
+  -- what was missing
+  pub missing_alone : result ≡ Err refusal.NoObject → Any (LacksObject v) (wants_pending (pending_before v)) ⊎ ((pending_before v).late ≡ true)
+  missing_alone is =
+      let was : HasFoundNone at lane (pending_before v) v = subst (λ (r : Result (Unit {0}) Refusal). PublishEnds at lane pending blocks v r) is ends in
+      let view : View = was.told.view in
+      let same = was.told.same in
+      ⊎_elim
+      (λ (lacks : Any (LacksObject view) (wants_pending (pending_before v))).
+      inl (any_lacks_same view v (sym same.lanes) (sym same.zones) (sym same.pool) (sym (led_words v view was.told.led alone)) (wants_pending (pending_before v)) lacks))
+      (λ (late : (pending_before v).late ≡ true). inr late) was.lacking
+
+  -- the root
+  pub root_alone : result ≡ Err refusal.RootKept → Any (λ (id : Oid). slice_index v.words 64 ≡ id.off) (pending_before v).frees
+  root_alone is =
+      let was : HasFoundRoot at lane (pending_before v) v = subst (λ (r : Result (Unit {0}) Refusal). PublishEnds at lane pending blocks v r) is ends in
+      subst (λ (ws : List ℕ). Any (λ (id : Oid). slice_index ws 64 ≡ id.off) (pending_before v).frees) (led_words v was.holding was.led alone) was.holds.root
 
 -- by the words that it passes the end of its object then, it did so before where these were the words
 overran : (v w : View) → IsSameLane v w → w.words ≡ v.words → (a : Action) → PassesObject w a → Overruns v a
@@ -209,21 +229,17 @@ overran v w same words (SetWord id off value) passes =
       past = subst (λ (ws : List ℕ). slice_index ws (8 * object.lock.line + 1) < off + 8) words passes.outside;
     }
 
--- so an action passed its object's end before
-pub past_alone : {M : Type 0} (at : M → View → Type 0) (new : Lane M) (items : List SetAction) (v : View) (result : Result (Unit {0}) Refusal) → result ≡ Err refusal.OutOfRange → PublishEnds at new items v result → IsAlone v
-    → Any (Overruns v) (sets_of items)
-past_alone {M} at new items v result is ends alone =
-    let was : HasFoundShort at new items v = subst (λ (r : Result (Unit {0}) Refusal). PublishEnds at new items v r) is ends in
+-- so an action passed its object's end
+pub past_alone : {M : Type 0} (at : M → View → Type 0) (lane : Lane M) (pending : PendingActions) (blocks : BlockLists) (v : View) (result : Result (Unit {0}) Refusal) → PublishEnds at lane pending blocks v result → IsAlone v → result ≡ Err refusal.OutOfRange
+    → Any (Overruns v) (pending_before v).sets
+past_alone {M} at lane pending blocks v result ends alone is =
+    let was : HasFoundShort at lane (pending_before v) v = subst (λ (r : Result (Unit {0}) Refusal). PublishEnds at lane pending blocks v r) is ends in
     let some = was.holds.some in
     (some.0, some.1, some.2, some.3, overran v was.holding (led_same v was.holding was.led) (led_words v was.holding was.led alone) some.1 some.4)
 
 -- ---- a publish of nothing
 
-pub no_elements : (items : List SetAction) → length items ≡ 0 → items ≡ []
-no_elements [] none = refl
-no_elements (a ∷ items) none = absurd (omega (arith, none))
-
--- is a whole call
+-- it is a whole call
 pub empty_whole : {M : Type 0} (at : M → View → Type 0) (lane : Lane M) (u : View) → IsBegun at lane u → lane.locks.items ≡ [] → pending_before u ≡ none_pending → IsWholeOnceTold u Publish None
 unfolding locked_all
 empty_whole {M} at lane u is free none =
@@ -248,6 +264,3 @@ empty_whole {M} at lane u is free none =
         wanted = λ want there. absurd (let low = there.1 in omega (arith, low));
         chunks = λ l lines there block. absurd (let low = there.1 in let n = ap length no_locks in omega (arith, low, n));
       }
-
-pub published_nothing : {M : Type 0} (at : M → View → Type 0) (lane : Lane M) (items : List SetAction) (v : View) → length items ≡ 0 → IsPublished at lane [] v → IsPublished at lane items v
-published_nothing at lane items v none was = subst (λ (zs : List SetAction). IsPublished at lane zs v) (sym (no_elements items none)) was

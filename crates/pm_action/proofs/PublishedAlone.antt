@@ -1,21 +1,22 @@
 -- Of a lane that works alone, and holds the objects of all that is pending: the pool has room for each block, the lane may enter each entry, and its publish is a call that one
 -- log decides.
-use Rattle.std.proofs.Common.{◌≡◌, inl, inr, ◌+◌, ◌≤◌, All, List, [], ◌∷◌, ◌++◌, length, map, None, refl, slice_index, sym, ap, ◌∙◌, subst, arith}
+use Rattle.std.proofs.Common.{◌≡◌, inl, ◌+◌, ◌≤◌, All, List, [], ◌∷◌, ◌++◌, length, map, None, refl, slice_index, sym, ap, ◌∙◌, subst, arith}
 use Rattle.std.proofs.lemmas.List.Elements.{All-append, All-nil, All-weaker}
 use Rattle.pm_crash.proofs.Begun.{begin_opens}
-use Rattle.pm_crash.proofs.CallBlocks.{agrees_once_more, allocated_once_more, blocks_once_more}
+use Rattle.pm_crash.proofs.CallBlocks.{blocks_once_more}
 use Rattle.pm_crash.proofs.Leading.{leads_then}
-use Rattle.pm_crash.proofs.PendingOn.{pending_once_more, published_once_more}
+use Rattle.pm_crash.proofs.LyingStill.{reserved_lies_free}
+use Rattle.pm_crash.proofs.PendingOn.{published_once_more}
 use Rattle.pm_crash.proofs.PublishedOutside.{publish_commits}
-use Rattle.pm_crash.proofs.ReservedStays.{pending_at_rest}
-use Rattle.pm_crash.proofs.StillReserved.{HasSameHeads, reserved_still, same_root}
+use Rattle.pm_crash.proofs.ReservedStays.{nothing_made, pending_at_rest}
+use Rattle.pm_crash.proofs.StillReserved.{HasSameHeads, borne_published, borne_told}
 use Rattle.pm_crash.specs.Alone.{WorksAlone}
-use Rattle.pm_crash.specs.CallBlocks.{AgreesOnRoot, AllTellOfRoot, FreeNoRoot, NewObject, allocated_in, allocated_told, reserved_in, reserved_object}
+use Rattle.pm_crash.specs.CallBlocks.{AgreesOnRoot, AllTellOfRoot, CallBlocks, FreeNoRoot, allocated_in, allocated_told, reserved_in}
 use Rattle.pm_crash.specs.Leading.{Leads}
 use Rattle.pm_crash.specs.OpenCall.{IsUnderWay}
 use Rattle.pm_crash.specs.Operations.{TakesWanted}
 use Rattle.pm_crash.specs.Pending.{pending_before, pending_in, sets_before}
-use Rattle.pm_crash.specs.Reserved.{IsBorneOut, IsReservedFor, root_in}
+use Rattle.pm_crash.specs.Reserved.{IsBorneOut, IsReservedFor, LiesFree, root_in}
 use Rattle.pm_epoch.proofs.CallPools.{call_has_no_fault}
 use Rattle.pm_epoch.proofs.GainedObjects.{stood}
 use Rattle.pm_epoch.proofs.HeldApart.{opening_has_no_fault}
@@ -43,23 +44,18 @@ use Rattle.pm_world.specs.Lawful.{MayTell}
 use Rattle.pm_world.specs.Opening.{Opening}
 use Rattle.pm_world.specs.declared.lane.Lane.{Lane}
 use Rattle.pm_transaction.proofs.BlockChanges.{FreesAll, MakesAll, frees_all, frees_so, makes_all, makes_so}
+use Rattle.pm_transaction.proofs.RestingViews.{lies_for}
 use Rattle.pm_transaction.specs.AtWork.{LiesInReserved}
 use Rattle.pm_transaction.specs.Committing.{MayPublishBlocks}
 use Rattle.pm_transaction.specs.Published.{IsCommittedWith, IsToldBy, LogsCall}
 use Rattle.pm_action.proofs.PendingLists.{as_many_freed, as_many_made, few_entries, few_pending, freed_not_root, freed_once, freed_under, made_within, none_published, redos, sets_of_pool, some_entries}
 use Rattle.pm_action.specs.PublishingAll.{HoldsAll, ListsPending, MayPublishPending, entries_pending}
 
--- what lies whole in what the lane reserved is reserved for it
-reserved_for : (v : View) (n : NewObject) → LiesInReserved v n → IsReservedFor v n
-reserved_for v n (inl run) = inl run.0
-reserved_for v n (inr has) = inr has
-
 module _ {M : Type 0} {o : Opening} {at : M → View → Type 0} {lane : Lane M} {pending : PendingActions} {v : View} (h : HoldsAll o at lane pending v) where
   abbrev p : Pending
   p = pending_before v
 
-  reserved_here : All (IsReservedFor v) (map reserved_object p.reserved)
-  reserved_here = subst (λ (q : Pending). All (IsReservedFor v) (map reserved_object q.reserved)) (pending_at_rest v h.untold) (All-weaker (LiesInReserved v) (IsReservedFor v) (reserved_for v) (reserved_in v) h.reserved_within)
+  -- ---- what the lane has bears out the call, which told nothing
 
   none_allocated : allocated_in v ≡ []
   unfolding allocated_told
@@ -72,25 +68,22 @@ module _ {M : Type 0} {o : Opening} {at : M → View → Type 0} {lane : Lane M}
   not_root_in : FreeNoRoot (root_in (slice_index v.words)) (pending_in v).frees
   not_root_in = subst (λ (q : Pending). FreeNoRoot (root_in (slice_index v.words)) q.frees) (sym (pending_at_rest v h.untold)) h.not_root
 
-  -- ---- once the publish is told
+  borne_before : IsBorneOut v
+  borne_before = record {
+    made = subst (λ (b : CallBlocks). All (IsReservedFor v) (b.made ++ b.dropped)) (sym (nothing_made v h.untold)) (All-nil (IsReservedFor v));
+    pending = All-weaker (LiesInReserved v) (IsReservedFor v) (lies_for v) (reserved_in v) h.reserved_within;
+    free = subst (All (LiesFree v)) (sym none_allocated) (All-nil (LiesFree v));
+    root = agrees_before;
+  }
 
-  module _ {blocks : BlockLists} (lists : ListsPending lane.locks.items v blocks) (next : View) (is : IsToldBy v next Publish) where
+  -- ---- once the publish is told, of what is reserved in room that the words have free
+
+  module _ {blocks : BlockLists} (lists : ListsPending lane.locks.items v blocks) (free : All (LiesFree v) (reserved_in v)) (next : View) (is : IsToldBy v next Publish) where
     heads : HasSameHeads v next
     heads = let keeps = is.tells.keeps in same_heads_outside v next h.working.area.lane keeps.lanes keeps.zones is.reserved is.words.words
 
-    reserved_next : All (IsReservedFor next) (map reserved_object p.reserved)
-    reserved_next = All-weaker (IsReservedFor v) (IsReservedFor next) (reserved_still v next heads) (map reserved_object p.reserved) reserved_here
-
     borne_out : IsBorneOut next
-    borne_out =
-        let t = is.tells in record {
-          reserved = subst (All (IsReservedFor next))
-              (sym (allocated_once_more v next Publish None t.keeps.entries t.call
-              ∙ (λ j. none_allocated j ++ map reserved_object (pending_at_rest v h.untold j).reserved)))
-              reserved_next;
-          pending = subst (λ (q : Pending). All (IsReservedFor next) (map reserved_object q.reserved)) (sym (pending_once_more v next Publish None t.keeps.entries t.call)) (All-nil (IsReservedFor next));
-          root = subst (AgreesOnRoot next) (sym (same_root v next heads)) (agrees_once_more v next Publish None t.keeps.entries t.call (root_in (slice_index v.words)) agrees_before not_root_in);
-        }
+    borne_out = let t = is.tells in borne_published v next heads t.keeps.entries t.call free not_root_in borne_before
 
     pub told_publish : IsCommittedWith next (sets_before v) blocks
     told_publish =
@@ -154,20 +147,18 @@ module _ {M : Type 0} {o : Opening} {at : M → View → Type 0} {lane : Lane M}
     })).under_way
 
     heads_begun : HasSameHeads v begun
-    heads_begun = record { lanes = refl; zones = refl; reserved = refl; described = λ c in_pool. refl; root = refl }
+    heads_begun = record { lanes = refl; zones = refl; reserved = refl; described = λ c in_pool. refl; bitmaps = λ c in_pool run. refl; root = refl }
 
     borne_begun : IsBorneOut begun
-    borne_begun = record {
-      reserved = subst (All (IsReservedFor begun)) (sym (allocated_once_more v begun (Begin wants) None refl refl ∙ (λ j. none_allocated j ++ []))) (All-nil (IsReservedFor begun));
-      pending =
-          subst (λ (q : Pending). All (IsReservedFor begun) (map reserved_object q.reserved)) (sym (pending_once_more v begun (Begin wants) None refl refl ∙ pending_at_rest v h.untold))
-          (All-weaker (IsReservedFor v) (IsReservedFor begun) (reserved_still v begun heads_begun) (map reserved_object p.reserved) reserved_here);
-      root = agrees_once_more v begun (Begin wants) None refl refl (root_in (slice_index v.words)) agrees_before tt;
-    }
+    borne_begun = borne_told v begun heads_begun (Begin wants) None refl refl (refl, refl) tt borne_before
 
     no_fault : heap_fault (slice_index v.words) o.lanes o.zones ≡ None
     no_fault =
         call_has_no_fault o header pool begun (stood o header pool start begun (steps ++ Tell (Begin wants) None ∷ []) works_begun) h.working.is_open 1 model_stage.Work error.None under_way borne_begun
+
+    -- what is reserved lies in room that the words have free
+    reserved_free : All (LiesFree v) (reserved_in v)
+    reserved_free = All-weaker (IsReservedFor v) (LiesFree v) (reserved_lies_free o header pool start v steps works) (reserved_in v) borne_before.pending
 
     module _ {blocks : BlockLists} (lists : ListsPending lane.locks.items v blocks) where
       frees : FreesAll v blocks.freed
@@ -187,24 +178,27 @@ module _ {M : Type 0} {o : Opening} {at : M → View → Type 0} {lane : Lane M}
             omega (arith, none, freed, made, few));
       }
 
-      pub publish_logs : 1 ≤ length pending.frees.items + length pending.reserved.items → LogsCall o header pool start steps Publish (sets_before v) blocks v (entries_pending pending v.lanes blocks)
-      publish_logs some = record {
+      pub publish_logs_some : 1 ≤ length (entries_pending pending v.lanes blocks) → LogsCall o header pool start steps Publish (sets_before v) blocks v (entries_pending pending v.lanes blocks)
+      publish_logs_some some = record {
         works = works;
         working = h.working;
         no_entries = ap (λ (log : Log). log.entries) h.log;
         alone = h.alone;
         not_making = h.not_making;
         are = ap (λ (es : List Redo). es ++ entries_of v.lanes blocks) (redos h);
-        some = some_entries h lists some;
+        some = some;
         few = few_entries h lists;
         may_set = All-weaker (IsOfPool v) (MayEnter v) (λ e own. inl own) (map entry_of (sets_before v)) (sets_of_pool h);
         enters_heap = may_publish_blocks.enters;
-        told = told_publish lists;
+        told = told_publish lists reserved_free;
         freed_once = freed_once h lists;
         freed_under = freed_under h lists;
         not_root = freed_not_root h lists;
         made_within = made_within h lists;
       }
+
+      pub publish_logs : 1 ≤ length pending.frees.items + length pending.reserved.items → LogsCall o header pool start steps Publish (sets_before v) blocks v (entries_pending pending v.lanes blocks)
+      publish_logs some = publish_logs_some (some_entries h lists some)
 
     pub may_publish_pending : MayPublishPending lane.locks.items v
     may_publish_pending blocks lists = may_publish_blocks lists

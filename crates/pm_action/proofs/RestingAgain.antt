@@ -60,3 +60,13 @@ module _ {M : Type 0} (old : Lane M) (free : old.locks.items ≡ []) where
 pub fields_behind : {M : Type 0} (mid later new : Lane M) → later ≡ record mid { memory = later.memory } → new ≡ record later { memory = new.memory; locks = new.locks; drawn = None; last = new.last }
     → new ≡ record mid { memory = new.memory; locks = new.locks; drawn = None; last = new.last }
 fields_behind {M} mid later new same fields = fields ∙ ap (λ (l : Lane M). record l { memory = new.memory; locks = new.locks; drawn = None; last = new.last }) same
+
+-- its memory alone became another, once its last number was
+pub memory_behind : {M : Type 0} (old mid new : Lane M) → mid ≡ record old { memory = mid.memory; last = mid.last } → new ≡ record mid { memory = new.memory } → new ≡ record old { memory = new.memory; last = new.last }
+memory_behind {M} old mid new first second =
+    second ∙ ap (λ (l : Lane M). record l { memory = new.memory }) first ∙ ap (λ (n : ℕ). record old { memory = new.memory; last = n }) (sym (ap (λ (l : Lane M). l.last) second))
+
+-- it is of the same shape
+pub shape_kept : {M : Type 0} (old mid later new : Lane M) → mid ≡ record old { memory = mid.memory } → later ≡ record mid { memory = later.memory } → new ≡ record later { memory = new.memory; locks = new.locks; drawn = None; last = new.last }
+    → new.shape ≡ old.shape
+shape_kept {M} old mid later new first then ended = ap (λ (l : Lane M). l.shape) ended ∙ (ap (λ (l : Lane M). l.shape) then ∙ ap (λ (l : Lane M). l.shape) first)

@@ -2,10 +2,9 @@
 use Rattle.std.proofs.Common.{◌≡◌, ℕ, List, [], ◌∷◌, get_or, Option, ap, ◌∙◌}
 use Rattle.std.proofs.lemmas.List.{set-get_or}
 use Rattle.pm_crash.proofs.PendingOn.{same_before}
-use Rattle.pm_crash.specs.Pending.{pending_before}
+use Rattle.pm_crash.specs.Pending.{pending_before, pending_behind}
 use Rattle.pm_objects.specs.declared.calls.Operation.{Operation}
 use Rattle.pm_objects.specs.declared.history.Value.{Value}
-use Rattle.pm_pending.specs.declared.actions.SetAction.{SetAction}
 use Rattle.pm_view.proofs.SameLane.{same_lane-then}
 use Rattle.pm_view.specs.Area.{area_word}
 use Rattle.pm_view.specs.Steps.Step.{Load}
@@ -31,16 +30,16 @@ start_words v n =
     begun_words u.log.phase u ∙ set-get_or v.words w 0
 
 -- what a call came to since a view further on
-unfoldable pub told_further : {M : Type 0} (at : M → View → Type 0) (lane : Lane M) (actions : List SetAction) (v w : View) (op : Operation) (reply : Option Value) → IsLed v w → w.entries ≡ v.entries → IsToldOutside at lane actions w op reply
-    → IsToldOutside at lane actions v op reply
-told_further at lane actions v w op reply led entries was = record {
+unfoldable pub told_further : {M : Type 0} (at : M → View → Type 0) (lane : Lane M) (v w : View) (op : Operation) (reply : Option Value) → IsLed v w → w.entries ≡ v.entries → IsToldOutside at lane w op reply
+    → IsToldOutside at lane v op reply
+told_further at lane v w op reply led entries was = record {
   view = was.view;
   led = led_then v w was.view led was.led;
   same = same_lane-then v w was.view (led_same v w led) was.same;
   rests = was.rests;
   idle = was.idle;
   entries = was.entries ∙ ap (λ (entries : List Numbered). drawn_more entries lane.last (record { operation = op; reply = reply } ∷ [])) entries;
-  pending = was.pending;
+  pending = was.pending ∙ ap (pending_behind op reply) (same_before v w entries);
 }
 
 module _ {M : Type 0} (at : M → View → Type 0) (mid : Lane M) (v : View) (n : ℕ) (started : IsBegunBy at mid v (starts n)) where
@@ -51,10 +50,10 @@ module _ {M : Type 0} (at : M → View → Type 0) (mid : Lane M) (v : View) (n 
   pub pending_started : pending_before u ≡ pending_before v
   pending_started = same_before v u started.entries
 
-  module _ (lane : Lane M) (actions : List SetAction) (op : Operation) (reply : Option Value) where
-    pub told_since : IsToldOutside at lane actions u op reply → IsToldOutside at lane actions v op reply
-    told_since = told_further at lane actions v u op reply (started_led at mid mid v n started) started.entries
+  module _ (lane : Lane M) (op : Operation) (reply : Option Value) where
+    pub told_since : IsToldOutside at lane u op reply → IsToldOutside at lane v op reply
+    told_since = told_further at lane v u op reply (started_led at mid mid v n started) started.entries
 
-    pub told_at_once_since : IsToldAtOnce at lane actions u op reply → IsToldAtOnce at lane actions v op reply
+    pub told_at_once_since : IsToldAtOnce at lane u op reply → IsToldAtOnce at lane v op reply
     unfolding told_further told_since
     told_at_once_since was = record { told = told_since was.told; words = was.words ∙ start_words v n }

@@ -1,12 +1,11 @@
 -- A call that has begun ends by the one operation that it is.
-use Rattle.std.proofs.Common.{◌≡◌, inl, ℕ, All, false, List, [], ◌∷◌, ◌++◌, map, Option, Some, length, sym, ap, ◌∙◌, subst, arith}
+use Rattle.std.proofs.Common.{◌≡◌, ℕ, All, false, List, [], ◌∷◌, ◌++◌, map, Option, Some, length, sym, ap, ◌∙◌, subst, arith}
 use Rattle.pm_crash.proofs.PendingOn.{calls_further}
 use Rattle.pm_model.specs.Actions.{none_pending}
 use Rattle.pm_crash.specs.Pending.{pending_before, pending_behind, pending_from, pending_told}
 use Rattle.pm_objects.specs.declared.calls.Operation.{Operation}
 use Rattle.pm_objects.specs.declared.history.TxErr.TheVariants as error
 use Rattle.pm_objects.specs.declared.history.Value.{Value}
-use Rattle.pm_pending.specs.declared.actions.SetAction.{SetAction}
 use Rattle.pm_view.specs.declared.change.Change.{Change}
 use Rattle.pm_view.specs.Held.{is_under}
 use Rattle.pm_view.specs.Steps.{Step}
@@ -18,6 +17,7 @@ use Rattle.pm_world.proofs.Plain.{empty_plain}
 use Rattle.pm_world.proofs.Shapes.{IsOfSamePool}
 use Rattle.pm_world.specs.Lanes.{lock_of}
 use Rattle.pm_world.specs.Sequences.{IsMade, Ready, Runs, in_turn, one}
+use Rattle.pm_world.specs.declared.lane.HeldLock.{HeldLock}
 use Rattle.pm_world.specs.declared.lane.Lane.{Lane}
 use Rattle.pm_lock.proofs.Drawless.{drawless}
 use Rattle.pm_lock.proofs.GivenBack.{all_gives_leave, none_counted}
@@ -33,7 +33,7 @@ use Rattle.pm_tx.proofs.GivenUp.{place_at_work}
 use Rattle.pm_tx.proofs.DrainedBegins.{ended_leaves}
 use Rattle.pm_tx.proofs.NothingUndrained.{ends_uncounted}
 use Rattle.pm_tx.proofs.ToldBegun.{after_told, begun_heap, begun_over, begun_ready, begun_rests, ends_words}
-use Rattle.pm_action.specs.Outside.{IsLeftPending, IsToldAtOnce, IsWholeOnceTold}
+use Rattle.pm_action.specs.Outside.{IsEndedOnceTold, IsToldAtOnce}
 
 -- what is pending behind a call of one operation
 pub pending_behind_one : (v : View) (n : ℕ) (op : Operation) (reply : Option Value) (w : View) → w.entries ≡ drawn_more v.entries n (record { operation = op; reply = reply } ∷ [])
@@ -45,10 +45,14 @@ pending_behind_one v n op reply w is = ap (pending_from none_pending) is ∙ cal
 pub begun_unlocked : {M : Type 0} (at : M → View → Type 0) (lane : Lane M) (v : View) → IsBegun at lane v → lane.locks.items ≡ [] → LiesUnlocked v
 begun_unlocked at lane v is free = none_locked v (sym is.seen.locks ∙ ap (map lock_of) free)
 
--- what a call that is whole once it is told draws is an ended call's
-pub ending_drawn : (v : View) → v.log.entries ≡ [] → (op : Operation) (reply : Option Value) → IsWholeOnceTold v op reply → (n : ℕ) → DrawEnded v (ends_call op reply n v)
+-- what a call that has ended once it is told draws is an ended call's
+pub ending_drawn : (v : View) → v.log.entries ≡ [] → (op : Operation) (reply : Option Value) → IsEndedOnceTold v op reply → (n : ℕ) → DrawEnded v (ends_call op reply n v)
 unfolding ends_call in_turn one DrawEnded after_all
-ending_drawn v unentered op reply whole n = (tt, ((inl whole, empty_plain (after v (Tell op reply)) unentered), tt))
+ending_drawn v unentered op reply ended n = (tt, ((ended, empty_plain (after v (Tell op reply)) unentered), tt))
+
+-- the lane drew its last number
+pub drawn_so : {M : Type 0} (lane drawn : Lane M) → drawn ≡ record lane { memory = drawn.memory; drawn = drawn.drawn; last = drawn.last } → drawn.drawn ≡ Some drawn.last → drawn ≡ record lane { memory = drawn.memory; drawn = Some drawn.last; last = drawn.last }
+drawn_so lane drawn same number = same ∙ ap (λ (d : Option ℕ). record lane { memory = drawn.memory; drawn = d; last = drawn.last }) number
 
 module _ {M : Type 0} (at : M → View → Type 0) (lane : Lane M) (v : View) (is : IsBegun at lane v) (op : Operation) (reply : Option Value) (drawn : Lane M) (fields : drawn ≡ record lane { memory = drawn.memory; drawn = Some drawn.last; last = drawn.last })
     (made : IsMade (at lane.memory) (at drawn.memory) (ends_call op reply drawn.last)) where
@@ -89,15 +93,21 @@ module _ {M : Type 0} (at : M → View → Type 0) (lane : Lane M) (v : View) (i
   unfolding ends_call in_turn one after_all
   mid_entries = ap (drawn_more v.entries drawn.last) told_alone
 
-  -- the locks go back, and the lane rests
-  pub told_at_once : IsWholeOnceTold v op reply → (actions : List SetAction) → IsLeftPending actions v op reply → (new : Lane M) → IsClosedBy at new mid (gives drawn.locks.items) → new.last ≡ drawn.last → IsToldAtOnce at new actions v op reply
-  told_at_once whole actions left new closed last =
+  -- the locks that the call took go back
+  pub closed_at_once : (new : Lane M) → IsClosedBy at new mid (gives drawn.locks.items) → new.last ≡ drawn.last → IsClosedBy at new (after_all v (ends_call op reply new.last v)) (gives lane.locks.items)
+  closed_at_once new closed last =
+      subst (λ (n : ℕ). IsClosedBy at new (after_all v (ends_call op reply n v)) (gives lane.locks.items)) (sym last)
+      (subst (λ (locks : List HeldLock). IsClosedBy at new mid (gives locks)) (ap (λ (l : Lane M). l.locks.items) fields) closed)
+
+  -- and the lane rests
+  pub told_at_once : IsEndedOnceTold v op reply → (new : Lane M) → IsClosedBy at new mid (gives drawn.locks.items) → new.last ≡ drawn.last → IsToldAtOnce at new v op reply
+  told_at_once ended new closed last =
       let w : View = after_all mid (gives drawn.locks.items mid) in
       let same : w ≡ record mid { locks = []; known = w.known } = closed.same in
       let back : IsLed mid w =
       ready_led mid (gives drawn.locks.items mid) closed.ready (drawless mid (gives drawn.locks.items mid) (let e = ap (λ (u : View). length u.entries) same in omega (arith, e))) (none_counted drawn.locks.items mid) (all_gives_leave drawn.locks.items mid)
       (record { zone_locks = ap (λ (u : View). u.zone_locks) same; reserved = ap (λ (u : View). u.reserved) same; freed = ap (λ (u : View). u.freed) same }) in
-      let led : IsLed v w = led_then v mid w (ready_led v ends ready (ending_drawn v (ap (λ (log : Log). log.entries) is.log) op reply whole drawn.last) (ends_uncounted op reply drawn.last v) (ended_leaves v op reply drawn.last (ending_drawn v (ap (λ (log : Log). log.entries) is.log) op reply whole drawn.last)) (begun_heap at lane v is op reply drawn.last)) back in
+      let led : IsLed v w = led_then v mid w (ready_led v ends ready (ending_drawn v (ap (λ (log : Log). log.entries) is.log) op reply ended drawn.last) (ends_uncounted op reply drawn.last v) (ended_leaves v op reply drawn.last (ending_drawn v (ap (λ (log : Log). log.entries) is.log) op reply ended drawn.last)) (begun_heap at lane v is op reply drawn.last)) back in
       let entries : w.entries ≡ drawn_more v.entries drawn.last (record { operation = op; reply = reply } ∷ []) = ap (λ (u : View). u.entries) same ∙ mid_entries in
       record {
         told = record {
@@ -107,7 +117,7 @@ module _ {M : Type 0} (at : M → View → Type 0) (lane : Lane M) (v : View) (i
           rests = closed.rests;
           idle = ap (λ (u : View). u.log) same ∙ over.log;
           entries = entries ∙ ap (λ n. drawn_more v.entries n (record { operation = op; reply = reply } ∷ [])) (sym last);
-          pending = left ∙ sym (pending_behind_one v drawn.last op reply w entries);
+          pending = pending_behind_one v drawn.last op reply w entries;
         };
         words = ap (λ (u : View). u.words) same ∙ ends_words v op reply drawn.last;
       }

@@ -1,62 +1,88 @@
 -- What a call on pending actions outside of a transaction leaves: it is a call of the history of its own, of one operation.
-use Rattle.std.specs.Prelude.{◌≡◌, ℕ, Bool, true, false, List, [], ◌∷◌, Option, Some, None, Result, Ok, Err}
-use Rattle.pm_crash.specs.OnActions.{set_refusal}
+use Rattle.std.specs.Prelude.{◌≡◌, ◌⊎◌, ℕ, Bool, true, false, List, [], ◌∷◌, Option, Some, None, Result, Ok, Err}
+use Rattle.pm_crash.specs.Alone.{standing}
+use Rattle.pm_crash.specs.CallBlocks.{LeavesReserved}
+use Rattle.pm_crash.specs.HeldHistory.{IsEndedCall}
+use Rattle.pm_crash.specs.OnActions.{defer_refusal, set_refusal}
 use Rattle.pm_crash.specs.OpenCall.{IsWholeCall}
 use Rattle.pm_crash.specs.Pending.{pending_before, pending_behind}
+use Rattle.pm_epoch.specs.Reserving.{RestsWithReserved}
+use Rattle.pm_header.specs.declared.header.Header.{Header}
+use Rattle.pm_layout.specs.declared.shape.Shape.{Shape}
 use Rattle.pm_model.specs.Actions.{Pending}
 use Rattle.pm_objects.specs.declared.calls.Operation.{Operation}
-use Rattle.pm_objects.specs.declared.calls.Operation.TheVariants.{Cancel}
 use Rattle.pm_objects.specs.declared.history.Value.{Value}
 use Rattle.pm_objects.specs.declared.history.Value.TheVariants.{Refused}
+use Rattle.pm_objects.specs.declared.pool.PoolView.{PoolView}
 use Rattle.pm_objects.specs.declared.refusal.Refusal.{Refusal}
 use Rattle.pm_objects.specs.declared.refusal.Refusal.TheVariants as refusal
-use Rattle.pm_pending.specs.Pending.{pending_of}
-use Rattle.pm_pending.specs.declared.actions.SetAction.{SetAction}
+use Rattle.pm_transaction.specs.AtWork.{IsNotMaking}
+use Rattle.pm_transaction.specs.Resting.{StandsAtRest}
 use Rattle.pm_view.specs.Constants.{IsSameLane}
 use Rattle.pm_view.specs.Log.{no_log}
 use Rattle.pm_view.specs.Log.Phase.{Idle}
+use Rattle.pm_view.specs.Steps.{Step}
 use Rattle.pm_view.specs.Steps.Step.{Tell}
 use Rattle.pm_view.specs.View.{View}
-use Rattle.pm_undo.specs.Working.{IsWorking}
-use Rattle.pm_view.specs.Views.{after, after_all}
-use Rattle.pm_world.specs.Sequences.{Ready, in_turn, settles}
+use Rattle.pm_view.specs.Views.{after}
+use Rattle.pm_world.specs.Opening.{Opening}
 use Rattle.pm_world.specs.declared.lane.Lane.{Lane}
 use Rattle.pm_lock.specs.Leading.{IsLed}
 use Rattle.pm_lock.specs.Resting.{IsAtRest}
 use Rattle.pm_tx.specs.Beginning.{IsSpent}
-use Rattle.pm_tx.specs.Ending.{IsStoppedIn, drawn_more}
-use Rattle.pm_tx.specs.Sequences.{ends_call}
+use Rattle.pm_tx.specs.Ending.{drawn_more}
+
+-- ---- a lane that is alone, between two calls
+
+-- the lane is at rest and alone, makes no object now, and rests in some world with what it has reserved, which stands in its words
+pub record RestsAlone {M : Type 0} (at : M → View → Type 0) (lane : Lane M) (v : View) : Type 0 where
+  pub rests : IsAtRest at lane v
+  pub quiet : IsNotMaking v
+  pub stands : StandsAtRest v
+  pub world : (o : Opening) × (header : Header) × (pool : PoolView) × (start : View) × (steps : List Step) × RestsWithReserved o header pool start steps v lane.shape
+
+-- wherever it began, the lane rests at the view with what it has reserved, which stands, and makes no object
+pub record RestsStill (o : Opening) (header : Header) (pool : PoolView) (x : View) (shape : Shape) : Type 0 where
+  pub rests : RestsWithReserved (standing o x) header pool x [] x shape
+  pub stands : StandsAtRest x
+  pub quiet : IsNotMaking x
+
+-- the operation, so answered, leaves what is reserved or gives it up; or it is refused
+abbrev pub LeavesOrRefuses : Operation → Option Value → Pending → Type 0
+LeavesOrRefuses op reply p = LeavesReserved op reply p ⊎ ((r : Refusal) × (reply ≡ Some (Refused r)))
+
+-- ---- a call that is told at once
 
 -- once the operation is told with its reply, the call is whole
 abbrev pub IsWholeOnceTold : View → Operation → Option Value → Type 0
 IsWholeOnceTold v op reply = IsWholeCall (after v (Tell op reply))
 
--- the list is what the operation leaves pending
-abbrev pub IsLeftPending : List SetAction → View → Operation → Option Value → Type 0
-IsLeftPending actions v op reply = pending_of actions ≡ pending_behind op reply (pending_before v)
+-- and so it has ended; or it has, since it is a step of the model from each pool that may be before it
+abbrev pub IsEndedOnceTold : View → Operation → Option Value → Type 0
+IsEndedOnceTold v op reply = IsEndedCall (after v (Tell op reply))
 
--- from the view before, the lane made a whole call of this one operation, with this reply, without a counted call: it drew the lane's last number,
--- no call is open, and the lane rests. The list is what is pending now
-pub record IsToldOutside {M : Type 0} (at : M → View → Type 0) (lane : Lane M) (actions : List SetAction) (v : View) (op : Operation) (reply : Option Value) : Type 0 where
+-- from the view before, the lane made an ended call of this one operation, with this reply, without a counted call: it drew the lane's last number,
+-- no call is open, and the lane rests. What is pending is what the operation leaves of it
+pub record IsToldOutside {M : Type 0} (at : M → View → Type 0) (lane : Lane M) (v : View) (op : Operation) (reply : Option Value) : Type 0 where
   pub view : View
   pub led : IsLed v view
   pub same : IsSameLane v view
   pub rests : IsAtRest at lane view
   pub idle : view.log ≡ no_log Idle
   pub entries : view.entries ≡ drawn_more v.entries lane.last (record { operation = op; reply = reply } ∷ [])
-  pub pending : pending_of actions ≡ pending_before view
+  pub pending : pending_before view ≡ pending_behind op reply (pending_before v)
 
 -- and it looked at no word that the view does not know
-pub record IsToldAtOnce {M : Type 0} (at : M → View → Type 0) (lane : Lane M) (actions : List SetAction) (v : View) (op : Operation) (reply : Option Value) : Type 0 where
-  pub told : IsToldOutside at lane actions v op reply
+pub record IsToldAtOnce {M : Type 0} (at : M → View → Type 0) (lane : Lane M) (v : View) (op : Operation) (reply : Option Value) : Type 0 where
+  pub told : IsToldOutside at lane v op reply
   pub words : told.view.words ≡ v.words
 
--- what a set-value that answers so leaves of a lane that was at rest, which does not stop in it: Spent alone leaves no trace
-abbrev pub IsAnsweredAtOnce : {M T : Type 0} → (M → View → Type 0) → Lane M → List SetAction → View → Operation → Result T Refusal → Type 0
-IsAnsweredAtOnce at lane actions v op (Ok done) = IsToldAtOnce at lane actions v op None
-IsAnsweredAtOnce at lane actions v op (Err refusal.Stopped) = ⊥
-IsAnsweredAtOnce at lane actions v op (Err refusal.Spent) = IsSpent at lane v
-IsAnsweredAtOnce at lane actions v op (Err r) = IsToldAtOnce at lane actions v op (Some (Refused r))
+-- what a set-value or a free that is deferred leaves that answers so, of a lane that was at rest, which does not stop in it: Spent alone leaves no trace
+abbrev pub IsAnsweredAtOnce : {M T : Type 0} → (M → View → Type 0) → Lane M → View → Operation → Result T Refusal → Type 0
+IsAnsweredAtOnce at lane v op (Ok done) = IsToldAtOnce at lane v op None
+IsAnsweredAtOnce at lane v op (Err refusal.Stopped) = ⊥
+IsAnsweredAtOnce at lane v op (Err refusal.Spent) = IsSpent at lane v
+IsAnsweredAtOnce at lane v op (Err r) = IsToldAtOnce at lane v op (Some (Refused r))
 
 -- why a set-value at an offset fails, of a lane that had stopped or not, where this is pending
 abbrev pub IsSetCause : Bool → ℕ → Pending → Refusal → Type 0
@@ -64,37 +90,8 @@ IsSetCause stopped off p refusal.Stopped = stopped ≡ true
 IsSetCause stopped off p refusal.Spent = stopped ≡ false
 IsSetCause stopped off p r = (stopped ≡ false) × (set_refusal off p ≡ Some r)
 
--- ---- a cancel
-
--- from the view before, without a counted call or a draw, the call began at a view; from there all was made persistent, and then the cancel was told at once,
--- with its number drawn. The lane rests with nothing undrained, and looked at no word that the view does not know
-pub record IsCanceled {M : Type 0} (at : M → View → Type 0) (lane : Lane M) (actions : List SetAction) (v : View) : Type 0 where
-  pub beginning : View
-  pub led : IsLed v beginning
-  pub undrawn : beginning.entries ≡ v.entries
-  pub ready : Ready beginning (settles beginning)
-  pub told : IsToldAtOnce at lane actions (after_all beginning (settles beginning)) Cancel None
-  pub drained : told.told.view.changes ≡ []
-  pub words : told.told.view.words ≡ v.words
-
--- the call began so, and the lane stopped as it made all persistent, before the cancel was told
-pub record IsStoppedCanceling {M : Type 0} (at : M → View → Type 0) (lane : Lane M) (v : View) : Type 0 where
-  pub beginning : View
-  pub led : IsLed v beginning
-  pub undrawn : beginning.entries ≡ v.entries
-  pub untold : beginning.call ≡ []
-  pub works : IsWorking beginning
-  pub stopped : IsStoppedIn at lane beginning (in_turn settles (ends_call Cancel None lane.last)) Cancel None
-
--- what a cancel that answers so leaves of a lane that was at rest: Spent leaves no trace
-abbrev pub CancelEnds : {M T : Type 0} → (M → View → Type 0) → Lane M → List SetAction → View → Result T Refusal → Type 0
-CancelEnds at lane actions v (Ok done) = IsCanceled at lane actions v
-CancelEnds at lane actions v (Err refusal.Stopped) = IsStoppedCanceling at lane v
-CancelEnds at lane actions v (Err refusal.Spent) = IsSpent at lane v
-CancelEnds at lane actions v (Err r) = ⊥
-
--- why a cancel fails, of a lane that had stopped or not: one that had not may stop in it
-abbrev pub IsCancelCause : Bool → Refusal → Type 0
-IsCancelCause stopped refusal.Stopped = Unit {0}
-IsCancelCause stopped refusal.Spent = stopped ≡ false
-IsCancelCause stopped r = ⊥
+-- and why a free that is to be deferred does
+abbrev pub IsDeferCause : Bool → Pending → Refusal → Type 0
+IsDeferCause stopped p refusal.Stopped = stopped ≡ true
+IsDeferCause stopped p refusal.Spent = stopped ≡ false
+IsDeferCause stopped p r = (stopped ≡ false) × (defer_refusal p ≡ Some r)

@@ -1,30 +1,37 @@
 -- A publish outside of a transaction of all that is pending, of whatever kind, by a lane that is alone: one call of the history, which one log decides.
-use Rattle.std.specs.Prelude.{◌≡◌, ℕ, ◌≤◌, false, All, List, [], ◌++◌, length, map, None, slice_index}
+use Rattle.std.specs.Prelude.{◌≡◌, ℕ, ◌+◌, ◌≤◌, false, All, List, [], ◌∷◌, ◌++◌, length, map, None, slice_index}
+use Rattle.pm_crash.specs.Alone.{BeginsAgain, WorksAlone, standing}
 use Rattle.pm_crash.specs.CallBlocks.{FreeNoRoot, reserved_in}
 use Rattle.pm_crash.specs.OnActions.{CanFree, CanSet, HoldsInTime, blocks_published}
 use Rattle.pm_crash.specs.Pending.{pending_before, sets_before}
 use Rattle.pm_crash.specs.Reserved.{root_in}
 use Rattle.pm_crash.specs.Reserving.{HasReserved}
+use Rattle.pm_header.specs.declared.header.Header.{Header}
 use Rattle.pm_lock.specs.Begun.{HoldsLines, MayCome}
 use Rattle.pm_lock.specs.Finding.{FindsObjects}
+use Rattle.pm_lock.specs.Leading.{IsLed}
 use Rattle.pm_made.specs.Entries.{entries_of}
 use Rattle.pm_made.specs.Made.{BlockLists, ListsBlocks}
 use Rattle.pm_memory.specs.Runs.{Stops}
+use Rattle.pm_model.specs.Actions.{none_pending}
 use Rattle.pm_objects.specs.declared.calls.Operation.TheVariants.{Publish}
 use Rattle.pm_objects.specs.declared.calls.Operation.{Operation}
 use Rattle.pm_objects.specs.declared.history.TxErr.TheVariants as error
+use Rattle.pm_objects.specs.declared.pool.PoolView.{PoolView}
 use Rattle.pm_pending.specs.AllPending.{IsPendingAs}
 use Rattle.pm_pending.specs.Pending.{redo_for}
 use Rattle.pm_pending.specs.declared.pending.PendingActions.{PendingActions}
 use Rattle.pm_record.specs.declared.redo.Redo.{Redo}
 use Rattle.pm_redo.specs.Entering.{MayEnter}
-use Rattle.pm_tx.specs.Ending.{IsAfterCall, IsOver, drawn_more, told_more}
+use Rattle.pm_tx.specs.Ending.{IsAfterCall, IsOver, IsStoppedAmong, drawn_more, told_more}
 use Rattle.pm_tx.specs.Publishing.{published_view}
 use Rattle.pm_tx.specs.Sequences.{performs_logged}
 use Rattle.pm_undo.specs.Working.{FindsOpening, IsWorking}
+use Rattle.pm_view.specs.Constants.{IsSameLane}
 use Rattle.pm_view.specs.Founds.{IsAlone}
-use Rattle.pm_view.specs.Log.Phase.{Open}
+use Rattle.pm_view.specs.Log.Phase.{Idle, Open}
 use Rattle.pm_view.specs.Log.{no_log}
+use Rattle.pm_view.specs.Steps.{Step}
 use Rattle.pm_view.specs.View.{View}
 use Rattle.pm_view.specs.Views.{after_all}
 use Rattle.pm_world.specs.Lanes.{IsSeenAs}
@@ -34,7 +41,10 @@ use Rattle.pm_world.specs.declared.lane.HeldLock.{HeldLock}
 use Rattle.pm_world.specs.declared.lane.Lane.{Lane}
 use Rattle.pm_transaction.specs.AtWork.{IsHeldFreed, IsNotMaking, LiesInReserved}
 use Rattle.pm_transaction.specs.Committing.{MayPublishBlocks}
-use Rattle.pm_transaction.specs.Published.{logs_call}
+use Rattle.pm_transaction.specs.Ending.{HasEndedWith}
+use Rattle.pm_transaction.specs.Published.{HasOwnCounts, LogsCall, logs_call}
+use Rattle.pm_action.specs.Holding.{HoldsPending}
+use Rattle.pm_action.specs.Outside.{RestsStill}
 
 -- The lane is alone, and its call has begun, with nothing told, recorded or listed. It holds each object that is to be freed or set, for writing, found each, and none
 -- is asked for late; none that is to be freed is the root. What is reserved stands, in blocks that it reserved, and it is not in the midst of making an object. The lists are what
@@ -85,6 +95,66 @@ pub record HasPublishedAll {M : Type 0} (at : M → View → Type 0) (lane : Lan
   pub over : IsOver v (after_all v (steps v)) lane.last
   pub told : (after_all v (steps v)).call ≡ told_more v.call Publish None
   pub entries : (after_all v (steps v)).entries ≡ drawn_more v.entries lane.last (after_all v (steps v)).call
+
+-- ---- of a lane that works alone
+
+-- the memory calls of such a publish, by this number: all is made persistent, and one log of the entries of all that is pending decides it
+abbrev pub publishes_pending : View → PendingActions → BlockLists → ℕ → Sequence
+publishes_pending v pending blocks n = logs_call Publish (entries_pending pending v.lanes blocks) n
+
+-- wherever the lane works alone at the view, its publish is a call that one log decides
+abbrev pub PublishLogs : View → PendingActions → BlockLists → Type 0
+PublishLogs v pending blocks =
+    (o : Opening) (header : Header) (pool : PoolView) (start : View) (steps : List Step) → WorksAlone o header pool start steps v
+    → LogsCall o header pool start steps Publish (sets_before v) blocks v (entries_pending pending v.lanes blocks)
+
+-- From the view at which the lane held all, the memory calls were made, and the call told and drew its number; then the lane gave its locks back, and the blocks that it had freed,
+-- and it rests with nothing undrained, reserved or pending. Wherever it worked alone as it held all, the call is decided by one log, and the lane rests behind it, and
+-- begins again, over the words as they stand.
+pub record HasPublishedHeld {M : Type 0} (at : M → View → Type 0) (lane : Lane M) (pending : PendingActions) (blocks : BlockLists) (v : View) : Type 0 where
+  pub lists : ListsBlocks blocks (blocks_published v)
+  pub logs : PublishLogs v pending blocks
+  pub ready : Ready v (publishes_pending v pending blocks lane.last v)
+  pub over : IsOver v (after_all v (publishes_pending v pending blocks lane.last v)) lane.last
+  pub told : (after_all v (publishes_pending v pending blocks lane.last v)).call ≡ record { operation = Publish; reply = None } ∷ []
+  pub locks : List HeldLock
+  pub ended : HasEndedWith at lane (after_all v (publishes_pending v pending blocks lane.last v)) locks []
+  pub same : IsSameLane v ended.view
+  pub idle : ended.view.log ≡ no_log Idle
+  pub entries : ended.view.entries ≡ drawn_more v.entries lane.last (record { operation = Publish; reply = None } ∷ [])
+  pub none : pending_before ended.view ≡ none_pending
+  pub keeps : (o : Opening) (header : Header) (pool : PoolView) (start : View) (steps : List Step) → WorksAlone o header pool start steps v → RestsStill o header pool ended.view lane.shape
+  pub begins : (o : Opening) (header : Header) (pool : PoolView) (start : View) (steps : List Step) → WorksAlone o header pool start steps v → BeginsAgain (standing o ended.view) header pool ended.view
+
+-- from that view, at which a number was left for the call, the first of the memory calls were made, up to the lane's stop
+pub record IsStoppedHeld {M : Type 0} (at : M → View → Type 0) (lane : Lane M) (pending : PendingActions) (blocks : BlockLists) (v : View) : Type 0 where
+  pub lists : ListsBlocks blocks (blocks_published v)
+  pub logs : PublishLogs v pending blocks
+  pub may_come : MayCome v
+  pub stopped : IsStoppedAmong at lane v (publishes_pending v pending blocks lane.last) Publish None
+
+-- From the view before, without a counted call or a draw, the lane's call came to hold all that is pending, a free or a reservation among it, and from there it published all of it
+pub record IsPublishedAll {M : Type 0} (at : M → View → Type 0) (lane : Lane M) (pending : PendingActions) (blocks : BlockLists) (v : View) : Type 0 where
+  pub some : 1 ≤ length (pending_before v).frees + length (pending_before v).reserved
+  pub holding : View
+  pub led : IsLed v holding
+  pub undrawn : holding.entries ≡ v.entries
+  pub counts : HasOwnCounts holding
+  pub untold : holding.call ≡ []
+  pub holds : HoldsPending holding (pending_before v)
+  pub done : HasPublishedHeld at lane pending blocks holding
+
+-- or it stopped in that
+pub record IsStoppedPublishingAll {M : Type 0} (at : M → View → Type 0) (lane : Lane M) (pending : PendingActions) (blocks : BlockLists) (v : View) : Type 0 where
+  pub some : 1 ≤ length (pending_before v).frees + length (pending_before v).reserved
+  pub holding : View
+  pub led : IsLed v holding
+  pub undrawn : holding.entries ≡ v.entries
+  pub counts : HasOwnCounts holding
+  pub untold : holding.call ≡ []
+  pub works : IsWorking holding
+  pub holds : HoldsPending holding (pending_before v)
+  pub stops : IsStoppedHeld at lane pending blocks holding
 
 -- ---- the steps
 

@@ -75,6 +75,7 @@ pub(crate) fn publish_all_held<M: LawfulMem>(
     ensures lists { (o : Opening) (v : View) → HoldsAll o M.at lane.old pending.now v → ListsPending lane.old.locks.items v blocks.new }
     ensures pages { length blocks.new.dropped ≡ length blocks.old.dropped }
     ensures none { OnOk result (lane.new.records.items ≡ []) }
+    ensures unlisted { OnOk result (lane.new.entries.items ≡ []) }
     ensures lane { OnOk result (lane.new ≡ record lane.old { memory = lane.new.memory; records = lane.new.records; entries = lane.new.entries; drawn = Some lane.new.last; last = lane.new.last }) }
     ensures stops { OnErr result ((o : Opening) (v : View) → HoldsAll o M.at lane.old pending.now v → MayPublishPending lane.old.locks.items v
         → IsStoppedAmong M.at lane.new v (logs_call operation.Publish (entries_pending pending.now v.lanes blocks.new) lane.new.last) operation.Publish None) }

@@ -24,7 +24,7 @@ use Rattle.pm_crash.specs.Operations.{AddsRange, IsPresent}
 use Rattle.pm_crash.proofs.CallBlocks.{keeps_on, old_of_none, tracks_new}
 use Rattle.pm_crash.proofs.CallWords.{call_works, covered_is_outside, held_is_locked, locks_kept, object_under, one_is_kept, other_call_word, recorded_call_word, same_pool, IsObjectOf}
 use Rattle.pm_crash.proofs.Continued.{answers_done, known_new, leaves_told, left_changed, left_new, left_tracks, still_under_way, told_has, tracks_more, LeavesBlocks}
-use Rattle.pm_crash.proofs.KeptWords.{found_back, keeps_known, lies_further, same_found, under_further}
+use Rattle.pm_crash.proofs.KeptWords.{found_back, keeps_known, same_found, under_further}
 use Rattle.pm_crash.proofs.NewRecords.{new_is_covered, number_of_new, recorded_member, slot_added, slot_kept, words_of_all, words_of_new}
 use Rattle.pm_crash.proofs.Passing.{passes_all, AsksNoLock, Works}
 use Rattle.std.proofs.lemmas.List.Elements.{All-nil}
@@ -62,11 +62,11 @@ add_back v next id off len adds w before =
     record {
       recorded = λ slot r i at inside.
           before.recorded slot r i (ap (λ (records : List Recorded). slice_get records slot) adds.records ∙ slot_kept v.log.records adds.added slot r at) inside;
-      known = λ i known outside none lies. ⊎_elim
+      known = λ i known outside none under. ⊎_elim
           (λ (is : is_recorded adds.added i ≡ true). new_is_before v next id off len i w adds before is)
           (λ (is : is_recorded adds.added i ≡ false).
           before.known i (adds.tells.keeps.known i known) (ap (λ (n : ℕ). is_in_area n i) adds.tells.keeps.lane ∙ outside)
-          (recorded_after v next id off len i adds ∙ or_from (is_recorded v.log.records i) (is_recorded adds.added i) none is) (lies_further v next adds.tells.keeps w i lies)
+          (recorded_after v next id off len i adds ∙ or_from (is_recorded v.log.records i) (is_recorded adds.added i) none is) (under_further v next (same_found v next adds.tells.locks) i under)
           ∙ adds.keeps.words i outside)
           (cases_Bool (is_recorded adds.added i));
       found = found_back v next adds.tells.keeps (same_found v next adds.tells.locks) w before;

@@ -40,7 +40,7 @@ use Rattle.pm_world.proofs.Frame.{view_else, view_here}
 use Rattle.pm_world.proofs.StepSeen.{not_low_more, told}
 use Rattle.pm_world.proofs.Worlds.{room_kept}
 use Rattle.pm_crash.specs.Alone.{BeginsAlone, alone_views, idle_view, Begins, BeginsAgain}
-use Rattle.pm_crash.specs.CallBlocks.{NewObject, MayPrecede, allocated_in}
+use Rattle.pm_crash.specs.CallBlocks.{NewObject, MayPrecede, blocks_in}
 use Rattle.pm_crash.specs.HeldHistory.{DrawsEnded, IsEndedCall}
 use Rattle.pm_crash.specs.Leading.{Leads}
 use Rattle.pm_crash.specs.OneLane.{IsModelStep, IsPaid, Makes, Moment, Move, TellsAsOpening, moved}
@@ -49,6 +49,7 @@ use Rattle.pm_crash.specs.Reserved.{IsBorneOut}
 use Rattle.pm_crash.proofs.AloneMemory.{draw_moves, drain_moves, flush_moves, give_moves, in_picture, load_moves, memory_of, number_moves, occupied_moves, occupy_moves, one_if, same_memory, sizes_after, store_moves, take_read_moves, take_write_moves, tell_moves, vacate_moves, zone_give_moves, zone_try_moves, or_moves, and_moves}
 use Rattle.pm_crash.proofs.Continued.{two_same}
 use Rattle.pm_crash.proofs.EndedCalls.{given_up_steps, whole_steps}
+use Rattle.pm_crash.proofs.NewStay.{news_in}
 use Rattle.pm_crash.proofs.LogCourse.{InRange, all_of, carried}
 use Rattle.pm_crash.proofs.RoomForReserved.{leaves_free, may_precede as precedes}
 use Rattle.pm_crash.proofs.OneCourse.{Goes, goes_first, goes_on, goes_between}
@@ -329,11 +330,11 @@ module _ (o : Opening) (header : Header) (pool : PoolView) where
         (precedes o (memory_of v) stands.views stands.log stands.decided 0 stands.goes.world stands.goes.in_lanes sees w tells its was holds (sym (sees 64) ∙ stands.goes.front 64 (omega arith))
         (subst IsBorneOut (sym stands.here) borne_out))
 
-    -- and what its call allocated is free by such words
-    leaves : (w : ℕ → ℕ) (its : Header) (was : PoolView) → TellsAsOpening o w → HoldsPool w o.lanes o.zones its was → IsBorneOut v → (n : NewObject) → Contains (allocated_in v) n → LeavesFree v w n
+    -- and what its call made is free by such words
+    leaves : (w : ℕ → ℕ) (its : Header) (was : PoolView) → TellsAsOpening o w → HoldsPool w o.lanes o.zones its was → IsBorneOut v → (n : NewObject) → Contains (news_in (blocks_in v)) n → LeavesFree v w n
     leaves w its was tells holds =
         let sees : (i : ℕ) → slice_index v.words i ≡ slice_index (stands.views 0).words i = λ i. ap (λ (u : View). slice_index u.words i) (sym stands.here) in
-        subst (λ (u : View). IsBorneOut u → (n : NewObject) → Contains (allocated_in u) n → LeavesFree u w n) stands.here
+        subst (λ (u : View). IsBorneOut u → (n : NewObject) → Contains (news_in (blocks_in u)) n → LeavesFree u w n) stands.here
         (leaves_free o (memory_of v) stands.views stands.log stands.decided 0 stands.goes.world stands.goes.in_lanes sees w tells its was holds)
 
     pub borne_out_steps : MakesItsStep v → IsBorneOut v → IsModelStep o v
@@ -342,7 +343,7 @@ module _ (o : Opening) (header : Header) (pool : PoolView) where
         let lanes : v.lanes ≡ o.lanes = ap (λ (u : View). u.lanes) (sym stands.here) ∙ lane.lanes in
         let zones : v.zones ≡ o.zones = ap (λ (u : View). u.zones) (sym stands.here) ∙ lane.zones in
         let held : HoldsPool w o.lanes o.zones its was = two_same (λ (a b : ℕ). HoldsPool w a b its was) v.lanes o.lanes v.zones o.zones lanes zones holds in
-        makes_its.makes w its was holds id before (may_precede w its was tells held borne_out) (All-weaker (Contains (allocated_in v)) (LeavesFree v w) (leaves w its was tells held borne_out) (allocated_in v) (All-contains_itself (allocated_in v)))
+        makes_its.makes w its was holds id before (may_precede w its was tells held borne_out) (All-weaker (Contains (news_in (blocks_in v))) (LeavesFree v w) (leaves w its was tells held borne_out) (news_in (blocks_in v)) (All-contains_itself (news_in (blocks_in v))))
 
     -- a call that draws is a step of the model
     owes : IsEndedCall v → IsModelStep o v

@@ -10,18 +10,15 @@ use Rattle.pm_view.specs.Blocks.{is_huge, is_run, zone_page}
 use Rattle.pm_view.specs.Occupancy.{is_chunk_taken, reaches}
 use Rattle.pm_world.proofs.CrashReplays.{lane_some}
 use Rattle.pm_crash.specs.HeapChanges.{AreDisjoint}
+use Rattle.pm_crash.specs.Lying.{InARun, Lies, OfChunks}
 use Rattle.pm_crash.specs.NewObjects.{AreFreeChunks, IsFreeInRun, block_of_chunks, block_of_run}
 use Rattle.pm_crash.proofs.Classes.{chunks_of_class, lines_of_class}
 use Rattle.pm_crash.proofs.Standing.{block_stands, IsChunkBlock, IsRunBlock, Stands}
-use Rattle.pm_crash.proofs.BlocksApart.{InChunks, InRun, chunks_apart, free_in, run_chunks, runs_apart, whole_in}
+use Rattle.pm_crash.proofs.BlocksApart.{chunks_apart, free_in, run_chunks, runs_apart, whole_in}
 
 module _ (w : ℕ → ℕ) (lanes zones : ℕ) where
-  pub data Lies (b : Block) : Type 0 where
-    InARun : (c lines index : ℕ) → c < 64 * zones → InRun w lanes zones c lines index → bit_at (w (chunk_word lanes c)) index ≡ 1 → block_of_run lanes c lines index ≡ b → Lies b
-    OfChunks : (c chunks : ℕ) → c < 64 * zones → InChunks w lanes zones c chunks → w (descriptor_word lanes c) ≡ 2 + 256 * chunks → block_of_chunks lanes c chunks ≡ b → Lies b
-
-  -- so lies each block, where the words have no fault
-  pub each_lies : heap_fault w lanes zones ≡ None → (b : Block) → Contains (blocks w lanes zones) b → Lies b
+  -- each block lies so, where the words have no fault
+  pub each_lies : heap_fault w lanes zones ≡ None → (b : Block) → Contains (blocks w lanes zones) b → Lies w lanes zones b
   each_lies none b there =
       let stands : Stands w lanes zones b = block_stands w lanes zones b there in
       let c : ℕ = stands.chunk in
@@ -54,9 +51,16 @@ module _ (w : ℕ → ℕ) (lanes zones : ℕ) where
       and_from (is_huge d) (ltb bit (c % 64 + d / 256)) (eq-eqb (d % 256) 2 (omega (arith, here))) (lt-ltb bit (c % 64 + d / 256) (omega (arith, here, to))) in
       or_right (is_run (w (512 * zone_page lanes (c / 64) + bit))) (list_any (reaches w lanes (c / 64) bit) (range_with_len 0 (bit + 1))) (lane_some (reaches w lanes (c / 64) bit) (bit + 1) (c % 64) (omega (arith, from)) reached)
 
+  -- so each of them by its number
+  pub numbered_taken : (c chunks k : ℕ) → w (descriptor_word lanes c) ≡ 2 + 256 * chunks → c % 64 + chunks ≤ 64 → k < chunks → is_chunk_taken w lanes ((c + k) / 64) ((c + k) % 64) ≡ true
+  numbered_taken c chunks k first fits near =
+      let zone : c / 64 ≡ (c + k) / 64 = omega (arith, fits, near) in
+      let number : c % 64 + k ≡ (c + k) % 64 = omega (arith, fits, near) in
+      (λ j. is_chunk_taken w lanes (sym zone j) (sym number j)) ∙ chunks_taken c chunks (c % 64 + k) first (omega arith) (omega (arith, near))
+
   -- ---- what is free lies apart
 
-  pub free_run_apart : (c lines index : ℕ) (b : Block) → IsFreeInRun w lanes zones c lines index → Lies b → AreDisjoint (block_of_run lanes c lines index) b
+  pub free_run_apart : (c lines index : ℕ) (b : Block) → IsFreeInRun w lanes zones c lines index → Lies w lanes zones b → AreDisjoint (block_of_run lanes c lines index) b
   free_run_apart c lines index b free (InARun d many i in_zones other set is) =
       subst (AreDisjoint (block_of_run lanes c lines index)) is
       (runs_apart w lanes zones c lines index d many i (record { inside = free.inside; described = free.is_run }) other
@@ -68,7 +72,7 @@ module _ (w : ℕ → ℕ) (lanes zones : ℕ) where
   turned a b (inl before) = inr before
   turned a b (inr behind) = inl behind
 
-  pub free_chunks_apart : (c count : ℕ) (b : Block) → 1 ≤ count → AreFreeChunks w lanes zones c count → Lies b → AreDisjoint (block_of_chunks lanes c count) b
+  pub free_chunks_apart : (c count : ℕ) (b : Block) → 1 ≤ count → AreFreeChunks w lanes zones c count → Lies w lanes zones b → AreDisjoint (block_of_chunks lanes c count) b
   free_chunks_apart c count b some free (InARun d many i in_zones other set is) =
       subst (AreDisjoint (block_of_chunks lanes c count)) is
       (turned (block_of_run lanes d many i) (block_of_chunks lanes c count) (run_chunks w lanes zones d many i c count other (free_in w lanes zones c count some free)))
@@ -86,6 +90,7 @@ pub record SameTaken (w v : ℕ → ℕ) (lanes zones : ℕ) : Type 0 where
   pub descriptor : (c : ℕ) → c < 64 * zones → is_chunk_taken w lanes (c / 64) (c % 64) ≡ true → v (descriptor_word lanes c) ≡ w (descriptor_word lanes c)
   pub bitmap : (c : ℕ) → c < 64 * zones → is_chunk_taken w lanes (c / 64) (c % 64) ≡ true → is_run (w (descriptor_word lanes c)) ≡ true → v (chunk_word lanes c) ≡ w (chunk_word lanes c)
 
+-- what lies by the one lies by the other
 pub lies_still : (w v : ℕ → ℕ) (lanes zones : ℕ) (b : Block) → SameTaken w v lanes zones → Lies w lanes zones b → Lies v lanes zones b
 lies_still w v lanes zones b same (InARun c lines index in_zones in_run set is) =
     let described = in_run.described in
@@ -99,9 +104,6 @@ lies_still w v lanes zones b same (OfChunks c chunks in_zones in_chunks first is
       some = some;
       fits = fits;
       no_run = λ k near run.
-          let zone : c / 64 ≡ (c + k) / 64 = omega (arith, fits, near) in
-          let number : c % 64 + k ≡ (c + k) % 64 = omega (arith, fits, near) in
-          let taken : is_chunk_taken w lanes ((c + k) / 64) ((c + k) % 64) ≡ true = (λ j. is_chunk_taken w lanes (sym zone j) (sym number j)) ∙ chunks_taken w lanes zones c chunks (c % 64 + k) first (omega arith) (omega (arith, near)) in
-          in_chunks.no_run k near (ap (λ n. n % 256) (sym (same.descriptor (c + k) (omega (arith, fits, near, in_zones)) taken)) ∙ run);
+          in_chunks.no_run k near (ap (λ n. n % 256) (sym (same.descriptor (c + k) (omega (arith, fits, near, in_zones)) (numbered_taken w lanes zones c chunks k first fits near))) ∙ run);
     })
     (same.descriptor c in_zones (chunks_taken w lanes zones c chunks (c % 64) first (omega arith) (omega (arith, some))) ∙ first) is

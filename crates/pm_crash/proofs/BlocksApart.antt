@@ -3,7 +3,6 @@ use Rattle.std.proofs.Common.{◌≡◌, ◌≢◌, ⊎_elim, inl, inr, ℕ, zer
 use Rattle.std.proofs.Math.Nat.{mul-le-mul_left, mul-suc}
 use Rattle.std.proofs.lemmas.Bool.{cases_eq, cases_lt, eq-eqb, false≢true, or_parts}
 use Rattle.std.specs.List.{list_any, range_with_len}
-use Rattle.pm_layout.specs.Sizes.{blocks_of}
 use Rattle.pm_layout.specs.declared.class.Class.TheVariants.{Chunks}
 use Rattle.pm_image.specs.Blocks.{chunk_word, class_in, descriptor_word}
 use Rattle.pm_image.specs.HeapFaults.{bad_chunk, heap_fault}
@@ -13,24 +12,14 @@ use Rattle.pm_image.proofs.Rooms.{run_fits}
 use Rattle.pm_view.specs.Blocks.{is_run, zone_page}
 use Rattle.pm_view.specs.Occupancy.{reaches}
 use Rattle.pm_crash.specs.HeapChanges.{AreDisjoint}
+use Rattle.pm_crash.specs.Lying.{InChunks, InRun}
 use Rattle.pm_crash.specs.NewObjects.{AreFreeChunks, block_of_chunks, block_of_run}
 use Rattle.pm_crash.proofs.Apart.{good_chunk}
 use Rattle.pm_crash.proofs.Classes.{whole_by_byte}
 use Rattle.pm_crash.proofs.EmptyRuns.{some_chunks}
 
 module _ (w : ℕ → ℕ) (lanes zones : ℕ) where
-  -- the block is one of a run
-  pub record InRun (c lines index : ℕ) : Type 0 where
-    pub inside : index < blocks_of lines
-    pub described : w (descriptor_word lanes c) ≡ 1 + 256 * lines
-
-  -- the block is of whole chunks of a zone, of which none is a run
-  pub record InChunks (c chunks : ℕ) : Type 0 where
-    pub some : 1 ≤ chunks
-    pub fits : c % 64 + chunks ≤ 64
-    pub no_run : (k : ℕ) → k < chunks → w (descriptor_word lanes (c + k)) % 256 ≢ 1
-
-  pub free_in : (c chunks : ℕ) → 1 ≤ chunks → AreFreeChunks w lanes zones c chunks → InChunks c chunks
+  pub free_in : (c chunks : ℕ) → 1 ≤ chunks → AreFreeChunks w lanes zones c chunks → InChunks w lanes c chunks
   free_in c chunks some free = record {
     some = some;
     fits = free.in_zone;
@@ -42,7 +31,7 @@ module _ (w : ℕ → ℕ) (lanes zones : ℕ) where
   }
 
   -- two blocks of runs
-  pub runs_apart : (c lines index d many i : ℕ) → InRun c lines index → InRun d many i → ((c ≡ d) → index ≢ i) → AreDisjoint (block_of_run lanes c lines index) (block_of_run lanes d many i)
+  pub runs_apart : (c lines index d many i : ℕ) → InRun w lanes c lines index → InRun w lanes d many i → ((c ≡ d) → index ≢ i) → AreDisjoint (block_of_run lanes c lines index) (block_of_run lanes d many i)
   runs_apart c lines index d many i one other differ =
       let fits : 1 + lines * index + lines ≤ 64 = run_fits lines index one.inside in
       let fits_too : 1 + many * i + many ≤ 64 = run_fits many i other.inside in
@@ -67,7 +56,7 @@ module _ (w : ℕ → ℕ) (lanes zones : ℕ) where
       (cases_eq c d)
 
   -- one of a run and whole chunks
-  pub run_chunks : (c lines index d chunks : ℕ) → InRun c lines index → InChunks d chunks → AreDisjoint (block_of_run lanes c lines index) (block_of_chunks lanes d chunks)
+  pub run_chunks : (c lines index d chunks : ℕ) → InRun w lanes c lines index → InChunks w lanes d chunks → AreDisjoint (block_of_run lanes c lines index) (block_of_chunks lanes d chunks)
   run_chunks c lines index d chunks one other =
       let fits : 1 + lines * index + lines ≤ 64 = run_fits lines index one.inside in
       let room = other.fits in
@@ -82,7 +71,7 @@ module _ (w : ℕ → ℕ) (lanes zones : ℕ) where
       (cases_lt c d)
 
   -- whole chunks and others, which have none in common
-  pub chunks_apart : (c chunks d count : ℕ) → InChunks c chunks → InChunks d count → ((bit : ℕ) → c / 64 ≡ d / 64 → c % 64 ≤ bit → bit < c % 64 + chunks → d % 64 ≤ bit → bit < d % 64 + count → ⊥)
+  pub chunks_apart : (c chunks d count : ℕ) → InChunks w lanes c chunks → InChunks w lanes d count → ((bit : ℕ) → c / 64 ≡ d / 64 → c % 64 ≤ bit → bit < c % 64 + chunks → d % 64 ≤ bit → bit < d % 64 + count → ⊥)
       → AreDisjoint (block_of_chunks lanes c chunks) (block_of_chunks lanes d count)
   chunks_apart c chunks d count one other differ =
       let room = one.fits in let room_too = other.fits in let some = one.some in let some_too = other.some in
@@ -103,7 +92,7 @@ module _ (w : ℕ → ℕ) (lanes zones : ℕ) where
 
   module _ (none : heap_fault w lanes zones ≡ None) where
     -- whole chunks that are a block
-    pub whole_in : (c chunks : ℕ) → c < 64 * zones → w (descriptor_word lanes c) ≡ 2 + 256 * chunks → InChunks c chunks
+    pub whole_in : (c chunks : ℕ) → c < 64 * zones → w (descriptor_word lanes c) ≡ 2 + 256 * chunks → InChunks w lanes c chunks
     whole_in c chunks in_zones is =
         let d : ℕ = w (descriptor_word lanes c) in
         let good = good_chunk w lanes zones c none in_zones in

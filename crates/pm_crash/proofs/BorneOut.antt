@@ -19,11 +19,11 @@ use Rattle.pm_crash.specs.Held.{HoldsPool}
 use Rattle.pm_crash.specs.NewObjects.{AreFreeChunks, IsFreeInRun}
 use Rattle.pm_crash.specs.OneLane.{IsModelStep, TellsAsOpening}
 use Rattle.pm_crash.specs.OpenCall.{MakesItsStep}
-use Rattle.pm_crash.specs.Reserved.{IsBorneOut, IsReservedFor, IsUnusedChunk}
+use Rattle.pm_crash.specs.Reserved.{IsBorneOut, IsReservedFor, IsUnusedChunk, LiesFree}
 use Rattle.pm_crash.proofs.AloneCourse.{StandsAlone, borne_out_steps, may_precede, stands_at}
 use Rattle.pm_crash.proofs.AloneMemory.{memory_of}
 use Rattle.pm_crash.proofs.ReservedBlocks.{block_free, chunks_free}
-use Rattle.pm_crash.proofs.RoomForReserved.{overlaps_none as apart_from_blocks}
+use Rattle.pm_crash.proofs.RoomForReserved.{overlaps_none as apart_from_blocks, reserved_free}
 
 module _ (o : Opening) (header : Header) (pool : PoolView) (v : View) (s : StandsAlone o header pool v) where
   sees : (i : ℕ) → slice_index v.words i ≡ slice_index (s.views 0).words i
@@ -48,8 +48,14 @@ module _ (o : Opening) (header : Header) (pool : PoolView) (v : View) (s : Stand
       subst (λ (u : View). heap_fault (slice_index u.words) o.lanes o.zones ≡ None → IsReservedFor u n → Contains (blocks (slice_index u.words) o.lanes o.zones) b → AreDisjoint (block_of n) b) s.here
       (λ no_fault. apart_from_blocks o (memory_of v) s.views s.log s.decided 0 s.goes.world s.goes.in_lanes sees no_fault n b) none
 
+  -- what it reserved lies in room that its words have free
+  pub lies_free : (n : NewObject) → IsReservedFor v n → LiesFree v n
+  lies_free n =
+      subst (λ (u : View). IsReservedFor u n → LiesFree u n) s.here (reserved_free o (memory_of v) s.views s.log s.decided 0 s.goes.world s.goes.in_lanes sees n)
+
 module _ (o : Opening) (header : Header) (pool : PoolView) (v w : View) (steps : List Step) where
-  stood : WorksAlone o header pool v steps w → StandsAlone o header pool w
+  -- the lane stands so where its steps led
+  pub stood : WorksAlone o header pool v steps w → StandsAlone o header pool w
   stood works = stands_at o header pool v steps w works.begins works.leads works.numbered works.within
 
   pub pool_may_precede : (words : ℕ → ℕ) (its : Header) (before : PoolView) → WorksAlone o header pool v steps w → TellsAsOpening o words → HoldsPool words o.lanes o.zones its before → IsBorneOut w → MayPrecede before w

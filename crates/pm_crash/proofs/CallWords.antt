@@ -28,7 +28,7 @@ use Rattle.pm_world.specs.Records.{is_recorded}
 use Rattle.pm_crash.specs.CallBlocks.{IsOldIn, NewObject, blocks_in}
 use Rattle.pm_crash.specs.Locks.{AreSameLocks}
 use Rattle.pm_crash.specs.Held.{HoldsPool}
-use Rattle.pm_crash.specs.OpenCall.{IsBefore, call_words, ComesTo, IsChanged, IsUnderWay, LiesInBlock, TracksBlocks, lock_of, locks_of, block_at_line, made_words}
+use Rattle.pm_crash.specs.OpenCall.{IsBefore, call_words, ComesTo, IsChanged, IsUnderBlock, IsUnderWay, TracksBlocks, lock_of, locks_of, block_at_line, made_words}
 use Rattle.pm_crash.specs.Operations.{IsHeld, entries_so_far}
 use Rattle.pm_crash.specs.Pending.{published_in}
 use Rattle.pm_crash.proofs.Covered.{covered_has_byte}
@@ -54,11 +54,11 @@ made_unentered v none w = (λ j i. at i j) where
 pub same_made_words : (v next : View) → next.lane ≡ v.lane → next.log.entries ≡ v.log.entries → (w : ℕ → ℕ) → call_words next w ≡ call_words v w → made_words next w ≡ made_words v w
 same_made_words v next lane entries w same = (λ j i. made_final (filter (λ (f : Final). not (is_in_area (lane j) f.word)) (entries j)) i (same j i))
 
--- a known word outside the lane's area is as the lane has it
-pub known_call_word : (v : View) (w : ℕ → ℕ) (i : ℕ) → IsBefore v w → Contains v.known i → is_in_area v.lane i ≡ false → LiesInBlock w v.lanes v.zones i → call_words v w i ≡ slice_index v.words i
-known_call_word v w i before known outside lies = ⊎_elim
+-- a known word of a block that the lane found, outside its area, is as the lane has it
+pub known_call_word : (v : View) (w : ℕ → ℕ) (i : ℕ) → IsBefore v w → Contains v.known i → is_in_area v.lane i ≡ false → IsUnderBlock v i → call_words v w i ≡ slice_index v.words i
+known_call_word v w i before known outside under = ⊎_elim
     (λ (is : is_recorded v.log.records i ≡ true). recorded_call_word v w i is)
-    (λ (is : is_recorded v.log.records i ≡ false). other_call_word v w i is ∙ before.known i known outside is lies)
+    (λ (is : is_recorded v.log.records i ≡ false). other_call_word v w i is ∙ before.known i known outside is under)
     (cases_Bool (is_recorded v.log.records i))
 
 -- a line of a chunk is behind all lanes' areas
@@ -132,8 +132,8 @@ object_found v w header base tx id write in_lanes chunks before holds blocks_sta
     let outside : is_in_area v.lane (8 * line + 1) ≡ false = under_is_outside v held.lock held.lines (8 * line + 1) in_lanes chunks held.held held.block (omega arith) in
     let header_word : 64 * line / 8 + 1 ≡ 8 * line + 1 = omega arith in
     let some : 1 ≤ held.lines = lines_of_block words v.lanes v.zones block holds.no_fault is_there in
-    let lies : LiesInBlock w v.lanes v.zones (8 * line + 1) = record { block = block; is_there = was_there; from = omega arith; to = omega arith } in
-    let size : size_in words block ≡ slice_index v.words (8 * line + 1) = ap words header_word ∙ known_call_word v w (8 * line + 1) before size_known outside lies in
+    let under : IsUnderBlock v (8 * line + 1) = record { lock = held.lock; lines = held.lines; held = held.held; found = held.block; from = omega arith; to = omega arith } in
+    let size : size_in words block ≡ slice_index v.words (8 * line + 1) = ap words header_word ∙ known_call_word v w (8 * line + 1) before size_known outside under in
     let object = object_is_there words v.lanes v.zones header base block holds is_there in
     let bytes : bytes_of tx.pool.objects id.off ≡ bytes_in words block =
     ap (λ (o : Option Object). option_map_or (λ (x : Object). x.bytes) o []) (alike ∙ ap (object_at base.objects) held.place ∙ object.found) in

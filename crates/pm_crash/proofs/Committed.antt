@@ -40,7 +40,7 @@ use Rattle.pm_crash.proofs.CallWords.{call_works, other_call_word}
 use Rattle.pm_crash.proofs.Continued.{answers_done, known_new, leaves_told, left_changed, left_new, told_has, told_listed, told_once_more, two_same, LeavesBlocks}
 use Rattle.pm_crash.proofs.KeptWords.{before_back, keeps_known, outside_kept, same_call_words, same_found}
 use Rattle.pm_crash.proofs.KeptHeads.{reads_back}
-use Rattle.pm_crash.proofs.NewStay.{lies_still, new_is_listed, new_there, news_in}
+use Rattle.pm_crash.proofs.NewStay.{lies_still, new_there, news_in}
 use Rattle.pm_crash.proofs.WritesWithin.{room_apart}
 use Rattle.pm_crash.proofs.ObjectsOfBlocks.{object_is_there, objects_rise}
 use Rattle.pm_crash.proofs.Passing.{AsksNoLock, Works, passes_all}
@@ -189,10 +189,10 @@ unchanged_pool v base pool rising none_made none_freed changed =
     changed.fixed ∙ (λ j. let p : PoolView = record base { objects = same j } in p)
 
 -- an action in what the call made is on no object of the words that it stored, where what it made is free by those before
-unseen_new : (v : View) (w : ℕ → ℕ) (header : Header) (pool : PoolView) (to : CommitsTo v w header pool) → All (LeavesFree v w) (allocated_in v) → (a : Action) → LiesInNew v a → IsUnseen (call_words v w) v.lanes v.zones a
+unseen_new : (v : View) (w : ℕ → ℕ) (header : Header) (pool : PoolView) (to : CommitsTo v w header pool) → All (LeavesFree v w) (news_in (blocks_in v)) → (a : Action) → LiesInNew v a → IsUnseen (call_words v w) v.lanes v.zones a
 unseen_new v w header pool to free a lies =
     let n : NewObject = lies.new in
-    let left : LeavesFree v w n = All-contains (LeavesFree v w) (allocated_in v) n free (new_is_listed v n lies.is_new) in
+    let left : LeavesFree v w n = All-contains (LeavesFree v w) (news_in (blocks_in v)) n free lies.is_new in
     let word : IsWordOf (block_of n) (entry_for a).word = new_word v a lies in
     record {
       in_chunk = left.in_chunks (entry_for a).word word;
@@ -228,7 +228,7 @@ commit_makes_its_step v committed none_made none_freed entries = record {
 pub commit_is_whole : (v next : View) → IsOpen v 1 stage.Work error.None → CommitsCall v next → IsWholeCall next
 commit_is_whole v next is_open commits_call = record {
   outside = committed.outside;
-  makes = λ w header pool holds id before. its.makes w header pool holds id before (any_may_precede next keeps pool) (subst (All (LeavesFree next w)) (sym keeps.allocated) (All-nil (LeavesFree next w)));
+  makes = λ w header pool holds id before. its.makes w header pool holds id before (any_may_precede next keeps pool) (subst (λ (b : CallBlocks). All (LeavesFree next w) (news_in b)) (sym keeps.blocks) (All-nil (LeavesFree next w)));
 } where
   tells : Tells v next Commit None
   tells = commits_call.tells

@@ -10,7 +10,7 @@ use Rattle.pm_image.specs.HeapFaults.{heap_fault}
 use Rattle.pm_view.specs.Blocks.{bitmap_word, block_at, chunk_of, descriptor_word, is_run, zone_page}
 use Rattle.pm_view.specs.Log.{Final, Recorded}
 use Rattle.pm_view.specs.Log.Phase.{Open}
-use Rattle.pm_view.specs.View.{View}
+use Rattle.pm_view.specs.View.{Lock, View}
 use Rattle.pm_world.specs.Course.{flight, flight_in}
 use Rattle.pm_world.specs.Entries.{is_entered, is_in_log, is_redoing, is_redone}
 use Rattle.pm_world.specs.Fits.{LaneFits, LockFits}
@@ -23,10 +23,10 @@ use Rattle.pm_world.proofs.Pairs.{none_redone}
 use Rattle.pm_world.proofs.Replays.{replayed-other, replayed-same}
 use Rattle.pm_crash.specs.Lines.{AgreeAtLine}
 use Rattle.pm_crash.specs.OneLane.{Moment, TellsAsOpening}
-use Rattle.pm_crash.specs.OpenCall.{IsBefore, LiesInBlock, block_at_line}
+use Rattle.pm_crash.specs.OpenCall.{IsBefore, block_at_line}
 use Rattle.pm_crash.proofs.FoundBlocks.{block_in_chunk, found_is_block, found_within}
 use Rattle.pm_crash.proofs.Continued.{two_same}
-use Rattle.pm_crash.proofs.LivingWords.{lying_lives}
+use Rattle.pm_crash.proofs.LivingWords.{lies_under, lying_lives, LiesInBlock}
 use Rattle.pm_crash.proofs.LongerReplays.{every, words_after}
 
 -- a difference that is of a word has a part of it
@@ -102,16 +102,21 @@ module _ (o : Opening) (k : ℕ) (m : Moment) (world : World o m.memory m.views 
         (and_right (is_redoing (m.views j).log.phase) (is_entered (m.views j).log.entries i) (ap (λ (entries : List Final). is_entered entries i) (unentered j low other))))
         (cases_eq j k)
 
+    found_there : heap_fault (words_after (slice_index o.words) m.log) o.lanes o.zones ≡ None → (l : Lock) (lines : ℕ) → Contains v.locks l → l.block ≡ Some lines
+        → Contains (blocks (words_after (slice_index o.words) m.log) v.lanes v.zones) (block_at_line l.line lines)
+    found_there none l lines there block =
+        let fit : LockFits o m.memory k l = All-contains (LockFits o m.memory k) v.locks l fits.locks there in
+        let found : block_at o.lanes o.words l.line ≡ Some lines = subst (λ (b : Option ℕ). IfSome b (λ n. block_at o.lanes o.words l.line ≡ Some n)) block fit.found in
+        let at_zones = subst (λ (n : ℕ). Contains (blocks (words_after (slice_index o.words) m.log) o.lanes n) (block_at_line l.line lines)) (sym fits.lane.zones) (found_stays l.line lines none found) in
+        subst (λ (n : ℕ). Contains (blocks (words_after (slice_index o.words) m.log) n v.zones) (block_at_line l.line lines)) (sym fits.lane.lanes) at_zones
+
     pub drawn_before : heap_fault (words_after (slice_index o.words) m.log) o.lanes o.zones ≡ None → IsBefore v (words_after (slice_index o.words) m.log)
     drawn_before none = record {
       recorded = λ slot r i at low. sym (((fits.log.each slot r at).each i low).before ∙ settled_is (r.word + i));
-      known = λ i known outside unrecorded lies.
+      known = λ i known outside unrecorded under.
           let here : LiesInBlock (words_after (slice_index o.words) m.log) o.lanes o.zones i =
-          two_same (λ (n l : ℕ). LiesInBlock (words_after (slice_index o.words) m.log) n l i) v.lanes o.lanes v.zones o.zones fits.lane.lanes fits.lane.zones lies in
+          two_same (λ (n l : ℕ). LiesInBlock (words_after (slice_index o.words) m.log) n l i) v.lanes o.lanes v.zones o.zones fits.lane.lanes fits.lane.zones
+          (lies_under v (words_after (slice_index o.words) m.log) i (found_there none) under) in
           sym (settled_is i) ∙ sym (world.each_word i (lying_lives o (words_after (slice_index o.words) m.log) heads_stay world.sound none i here) (unlogged i unrecorded)) ∙ fits.picture.known i known;
-      found = λ l lines there block.
-          let fit : LockFits o m.memory k l = All-contains (LockFits o m.memory k) v.locks l fits.locks there in
-          let found : block_at o.lanes o.words l.line ≡ Some lines = subst (λ (b : Option ℕ). IfSome b (λ n. block_at o.lanes o.words l.line ≡ Some n)) block fit.found in
-          let at_zones = subst (λ (n : ℕ). Contains (blocks (words_after (slice_index o.words) m.log) o.lanes n) (block_at_line l.line lines)) (sym fits.lane.zones) (found_stays l.line lines none found) in
-          subst (λ (n : ℕ). Contains (blocks (words_after (slice_index o.words) m.log) n v.zones) (block_at_line l.line lines)) (sym fits.lane.lanes) at_zones;
+      found = found_there none;
     }

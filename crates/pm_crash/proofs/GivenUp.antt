@@ -38,7 +38,7 @@ use Rattle.pm_crash.specs.Operations.{HasRange, KeepsFound, IsHeld, IsNotAdded, 
 use Rattle.pm_crash.proofs.CallWords.{call_works, held_is_locked, object_under, one_is_kept, same_pool}
 use Rattle.pm_crash.proofs.CallBlocks.{any_may_still, may_before, old_of_none, tracks_new}
 use Rattle.pm_crash.proofs.Continued.{answers_done, runs_told, told_once_more, two_same}
-use Rattle.pm_crash.proofs.KeptWords.{found_back, lies_further, lies_under, same_found, under_kept}
+use Rattle.pm_crash.proofs.KeptWords.{found_back, same_found, under_further, under_kept}
 use Rattle.pm_crash.proofs.Passing.{fails_added, fails_end, fails_lock, fails_room, none_gone_named, not_late, passes_all, puts_none, unhindered, wants_none, AsksNoLock, Works}
 use Rattle.pm_crash.proofs.RecordedWords.{among_recorded}
 use Rattle.pm_crash.proofs.Runs.{runs_once_more, runs_to_end}
@@ -56,16 +56,16 @@ taken_back v next lane finds back outside under w before =
           (λ (none : next.log.records ≡ []).
           before.known (r.word + i) (back.known slot r i at inside) (ap (λ (n : ℕ). is_in_area n (r.word + i)) lane.lane ∙ outside (r.word + i) is)
           (ap (λ (records : List Recorded). is_recorded records (r.word + i)) none)
-          (lies_further v next lane w (r.word + i) (lies_under v w (r.word + i) (found_back v next lane finds w before) (under (r.word + i) is)))
+          (under_further v next finds (r.word + i) (under (r.word + i) is))
           ∙ back.restored slot r i at inside)
           (λ (same : next.log.records ≡ v.log.records). before.recorded slot r i (ap (λ (records : List Recorded). slice_get records slot) same ∙ at) inside)
           back.records;
-      known = λ i known out none lies.
+      known = λ i known out none of_found.
           before.known i (lane.known i known) (ap (λ (n : ℕ). is_in_area n i) lane.lane ∙ out)
           (⊎_elim
           (λ (nothing : next.log.records ≡ []). ap (λ (records : List Recorded). is_recorded records i) nothing)
           (λ (same : next.log.records ≡ v.log.records). ap (λ (records : List Recorded). is_recorded records i) same ∙ none)
-          back.records) (lies_further v next lane w i lies)
+          back.records) (under_further v next finds i of_found)
           ∙ back.others i out none;
       found = found_back v next lane finds w before;
     }

@@ -31,9 +31,9 @@ use Rattle.pm_world.proofs.Replays.{replayed-other, replayed-same}
 use Rattle.pm_world.proofs.Slots.{unrecorded}
 use Rattle.pm_crash.specs.Draws.{KeepsDecided, kept_words}
 use Rattle.pm_crash.specs.Lines.{AgreeAtLine}
-use Rattle.pm_crash.specs.OpenCall.{LiesInBlock, IsBefore, block_at_line, made_words}
+use Rattle.pm_crash.specs.OpenCall.{IsBefore, block_at_line, made_words}
 use Rattle.pm_crash.proofs.Continued.{two_same}
-use Rattle.pm_crash.proofs.LivingWords.{lying_lives}
+use Rattle.pm_crash.proofs.LivingWords.{lies_under, lying_lives, LiesInBlock}
 use Rattle.pm_crash.proofs.Differing.{difference_makes_call}
 use Rattle.pm_crash.proofs.FoundBlocks.{found_is_block, found_within}
 
@@ -126,6 +126,14 @@ module _ (o : Opening) (mem : Memory) (views : Views) (log : List Entry) (decide
       } in
       found_is_block o.words words_kept o.lanes o.zones l.line lines none agree (found_within o.words o.lanes o.zones l.line lines (omega arith) found) found
 
+  -- by the lane's count of lanes and zones
+  found_where : (k : ℕ) → k < o.lanes → heap_fault words_kept o.lanes o.zones ≡ None → (l : Lock) (lines : ℕ) → Contains (views k).locks l → l.block ≡ Some lines
+      → Contains (blocks words_kept (views k).lanes (views k).zones) (block_at_line l.line lines)
+  found_where k inside none l lines held block =
+      let fits = x.each_lane k inside in
+      two_same (λ (n m : ℕ). Contains (blocks words_kept n m) (block_at_line l.line lines)) o.lanes (views k).lanes o.zones (views k).zones (sym fits.lane.lanes) (sym fits.lane.zones)
+      (found_is_there k l lines inside none held block)
+
   pub past_calls_in_flight : (k : ℕ) → k < o.lanes → flight (views k) ≡ None → is_redoing (views k).log.phase ≡ false → KeepsDecided decided keep → heap_fault words_kept o.lanes o.zones ≡ None → IsBefore (views k) words_kept
   past_calls_in_flight k inside idle still keeps none =
       let fits = x.each_lane k inside in
@@ -133,10 +141,9 @@ module _ (o : Opening) (mem : Memory) (views : Views) (log : List Entry) (decide
         recorded = λ slot r i at low.
             let word : RecordedWordFits (settled o log decided) (views k) (r.word + i) (slice_index r.old i) = (fits.log.each slot r at).each i low in
             held_is_settled k (r.word + i) inside idle keeps (fits.picture.held (r.word + i) word.known) ∙ sym word.before;
-        known = λ i known outside unrecorded lies.
-            let here : LiesInBlock words_kept o.lanes o.zones i = two_same (λ (n m : ℕ). LiesInBlock words_kept n m i) (views k).lanes o.lanes (views k).zones o.zones fits.lane.lanes fits.lane.zones lies in
+        known = λ i known outside unrecorded under.
+            let here : LiesInBlock words_kept o.lanes o.zones i = two_same (λ (n m : ℕ). LiesInBlock words_kept n m i) (views k).lanes o.lanes (views k).zones o.zones fits.lane.lanes fits.lane.zones
+            (lies_under (views k) words_kept i (found_where k inside none) under) in
             held_is_settled k i inside idle keeps (fits.picture.held i known) ∙ known_is_settled k i inside still known outside unrecorded (lying_lives o words_kept tells_as_opening x.sound none i here);
-        found = λ l lines held block.
-            two_same (λ (n m : ℕ). Contains (blocks words_kept n m) (block_at_line l.line lines)) o.lanes (views k).lanes o.zones (views k).zones (sym fits.lane.lanes) (sym fits.lane.zones)
-            (found_is_there k l lines inside none held block);
+        found = found_where k inside none;
       }

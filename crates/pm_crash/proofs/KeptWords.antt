@@ -7,7 +7,7 @@ use Rattle.pm_view.specs.Area.{is_in_area}
 use Rattle.pm_view.specs.Log.{Recorded}
 use Rattle.pm_view.specs.View.{View, Lock}
 use Rattle.pm_world.specs.Records.{is_recorded}
-use Rattle.pm_crash.specs.OpenCall.{IsBefore, IsUnderBlock, LiesInBlock, RecordsUnder, call_words, block_at_line}
+use Rattle.pm_crash.specs.OpenCall.{IsBefore, IsUnderBlock, RecordsUnder, call_words, block_at_line}
 use Rattle.pm_crash.specs.Operations.{IsFoundUnder, KeepsFound, KeepsKnown, KeepsLane, KeepsLog, KeepsWords}
 use Rattle.pm_crash.proofs.Continued.{two_same, GoesBack}
 
@@ -24,19 +24,7 @@ found_back v next lane finds w before l lines held block =
     (two_same (λ (n m : ℕ). Contains (blocks w n m) (block_at_line found.lock.line lines)) next.lanes v.lanes next.zones v.zones lane.lanes lane.zones
     (before.found found.lock lines found.held found.block))
 
--- a word that lies in a block does for the view after
-pub lies_further : (v next : View) → KeepsLane v next → (w : ℕ → ℕ) (i : ℕ) → LiesInBlock w v.lanes v.zones i → LiesInBlock w next.lanes next.zones i
-lies_further v next lane w i lies = two_same (λ (n m : ℕ). LiesInBlock w n m i) v.lanes next.lanes v.zones next.zones (sym lane.lanes) (sym lane.zones) lies
-
--- a word of a block that was found lies in a block
-pub lies_under : (v : View) (w : ℕ → ℕ) (i : ℕ) → ((l : Lock) (lines : ℕ) → Contains v.locks l → l.block ≡ Some lines → Contains (blocks w v.lanes v.zones) (block_at_line l.line lines))
-    → IsUnderBlock v i → LiesInBlock w v.lanes v.zones i
-lies_under v w i found under =
-    let from = under.from in
-    let to = under.to in
-    record { block = block_at_line under.lock.line under.lines; is_there = found under.lock under.lines under.held under.found; from = omega arith; to = omega arith }
-
--- and is of a block found for the view after
+-- a word of a block that was found is of one for the view after
 pub under_further : (v next : View) → KeepsFound v next → (i : ℕ) → IsUnderBlock v i → IsUnderBlock next i
 under_further v next finds i under =
     let found : IsFoundUnder next under.lock.line under.lines = finds under.lock under.lines under.held under.found in
@@ -55,8 +43,8 @@ pub known_back : (v next : View) → KeepsLane v next → KeepsFound v next → 
 known_back v next lane finds logs stay w before =
     record {
       recorded = λ slot r i at inside. before.recorded slot r i (ap (λ (records : List Recorded). slice_get records slot) logs ∙ at) inside;
-      known = λ i known outside none lies.
-          before.known i (lane.known i known) (ap (λ (n : ℕ). is_in_area n i) lane.lane ∙ outside) (ap (λ (records : List Recorded). is_recorded records i) logs ∙ none) (lies_further v next lane w i lies)
+      known = λ i known outside none under.
+          before.known i (lane.known i known) (ap (λ (n : ℕ). is_in_area n i) lane.lane ∙ outside) (ap (λ (records : List Recorded). is_recorded records i) logs ∙ none) (under_further v next finds i under)
           ∙ stay i known outside none;
       found = found_back v next lane finds w before;
     }

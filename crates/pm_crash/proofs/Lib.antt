@@ -132,6 +132,8 @@ pub mod ReservedWritten
 pub mod ReservedOutside
 pub mod ReservedStays
 pub mod BornePuts
+pub mod LyingStill
+pub mod GivenUnused
 pub mod LyingApart
 pub mod Following
 pub mod MadeInTurn

@@ -1,27 +1,43 @@
 -- Which words of the opening are living, by other words that tell the same of blocks: those that lie in a block, and those that a meaning reads but for
 -- the chunks that were free.
-use Rattle.std.proofs.Common.{◌≡◌, ⊎_elim, inl, inr, ℕ, zero, suc, ◌+◌, ◌-◌, ◌*◌, ◌/◌, ◌%◌, ◌<◌, ◌≤◌, ◌&&◌, ◌||◌, Bool, true, false, not, eqb, leb, ltb, length, slice_index, None, refl, sym, ◌∙◌, ap, subst, arith}
+use Rattle.std.proofs.Common.{◌≡◌, ⊎_elim, inl, inr, ℕ, zero, suc, ◌+◌, ◌-◌, ◌*◌, ◌/◌, ◌%◌, ◌<◌, ◌≤◌, ◌&&◌, ◌||◌, Bool, true, false, not, eqb, leb, ltb, length, slice_index, None, Some, refl, sym, ◌∙◌, ap, subst, arith}
 use Rattle.std.specs.Int.{bit_at}
-use Rattle.std.specs.List.{list_any, range_with_len}
+use Rattle.std.specs.List.{Contains, list_any, range_with_len}
 use Rattle.std.proofs.lemmas.Bool.{and_parts, cases_Bool, false_from_ne_true, false≢true, not-true}
 use Rattle.pm_image.specs.declared.block.Block.{Block}
-use Rattle.pm_image.specs.Blocks.{chunk_word, descriptor_word}
+use Rattle.pm_image.specs.Blocks.{blocks, chunk_word, descriptor_word}
 use Rattle.pm_image.specs.HeapFaults.{heap_fault}
 use Rattle.pm_image.specs.Reads.{IsHeapWord, Reads}
 use Rattle.pm_image.proofs.HeapWords.{in_pool, reads_heap}
 use Rattle.pm_view.specs.Blocks.{bitmap_word, chunk_of, descriptor_word as lane_descriptor, is_chunk, is_huge, is_run, zone_of, zone_page}
 use Rattle.pm_view.specs.Occupancy.{is_chunk_taken, is_in_block, reaches}
+use Rattle.pm_view.specs.View.{Lock, View}
 use Rattle.pm_world.specs.Opening.{IsChunk, IsLivingWord, IsSound, Opening, TellsOfBlocks, is_free_chunk}
 use Rattle.pm_world.proofs.Chunks.{chunk_here}
 use Rattle.pm_world.proofs.Living.{living_block, root_lives, told_lives}
 use Rattle.pm_crash.specs.FreeWords.{IsOfChunk}
-use Rattle.pm_crash.specs.OpenCall.{LiesInBlock}
+use Rattle.pm_crash.specs.OpenCall.{IsUnderBlock, block_at_line}
 use Rattle.pm_crash.proofs.Apart.{good_chunk}
 use Rattle.pm_crash.proofs.Classes.{lines_of_class}
 use Rattle.pm_crash.proofs.FoundBlocks.{IsPageOf, page_of_chunk}
 use Rattle.pm_crash.proofs.FreeWords.{read_in_block}
 use Rattle.pm_crash.proofs.InBlocks.{in_chunk_block, in_run_block, IsIn}
 use Rattle.pm_crash.proofs.Standing.{block_begins_line, block_stands, IsChunkBlock, IsRunBlock, Stands}
+
+-- the word is one of an allocated block's
+pub record LiesInBlock (w : ℕ → ℕ) (lanes zones i : ℕ) : Type 0 where
+  pub block : Block
+  pub is_there : Contains (blocks w lanes zones) block
+  pub from : block.place ≤ 8 * i
+  pub to : 8 * i < block.place + 64 * block.lines
+
+-- a word of a block that was found lies in a block, where the words have the blocks that were
+pub lies_under : (v : View) (w : ℕ → ℕ) (i : ℕ) → ((l : Lock) (lines : ℕ) → Contains v.locks l → l.block ≡ Some lines → Contains (blocks w v.lanes v.zones) (block_at_line l.line lines))
+    → IsUnderBlock v i → LiesInBlock w v.lanes v.zones i
+lies_under v w i found under =
+    let from = under.from in
+    let to = under.to in
+    record { block = block_at_line under.lock.line under.lines; is_there = found under.lock under.lines under.held under.found; from = omega arith; to = omega arith }
 
 pub any_same : (p q : ℕ → Bool) (from n : ℕ) → ((i : ℕ) → from ≤ i → i < from + n → p i ≡ q i) → list_any p (range_with_len from n) ≡ list_any q (range_with_len from n)
 any_same p q from zero same = refl

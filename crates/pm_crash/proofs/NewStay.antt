@@ -135,7 +135,7 @@ before_all_made (r ∷ rs) b n there = ⊎_elim
     (before_all_made rs (with_made (reserved_object r) b) n there)
 
 -- what the call made behind an operation it made before, or that made it
-before_one : (op : Operation) (reply : Option Value) (p : Pending) (b : CallBlocks) (n : NewObject) → Contains (news_in (blocks_behind op reply p b)) n → Contains (news_in b) n ⊎ Contains (allocated_by op reply p) n
+pub before_one : (op : Operation) (reply : Option Value) (p : Pending) (b : CallBlocks) (n : NewObject) → Contains (news_in (blocks_behind op reply p b)) n → Contains (news_in b) n ⊎ Contains (allocated_by op reply p) n
 before_one op (Some (Refused r)) p b n there = inl (by (is_action op || changes_nothing r) there) where
   by : (stays : Bool) → Contains (news_in (cond stays b no_blocks)) n → Contains (news_in b) n
   by true there = there

@@ -1,11 +1,11 @@
 -- A write into an object that the call made is the plain model's: it changes the object's block alone, which is no other's.
 use Rattle.std.proofs.Common.{◌≡◌, ◌≢◌, ⊎_elim, ℕ, ◌+◌, ◌≤◌, ◌||◌, true, false, not, eqb, List, [], length, slice_index, Some, None, refl, sym, ◌∙◌, ap, subst, arith}
-use Rattle.std.specs.List.{All, Contains, list_all, list_any}
+use Rattle.std.specs.List.{Contains, list_all, list_any}
 use Rattle.std.specs.List.Sorted.{IsStrictlyIncreasing}
 use Rattle.std.specs.Option.{option_map}
 use Rattle.std.proofs.lemmas.Bool.{and_left, cases_eq, cond-true, eq-eqb, false≢true, le-ltb, or_parts}
 use Rattle.std.proofs.lemmas.List.{append-nil}
-use Rattle.std.proofs.lemmas.List.Elements.{All-contains, All-nil}
+use Rattle.std.proofs.lemmas.List.Elements.{All-nil}
 use Rattle.std.proofs.lemmas.List.Folds.{list_any-from_Any}
 use Rattle.pm_objects.specs.Pool.{object_at}
 use Rattle.pm_objects.specs.declared.calls.Operation.TheVariants.{Write}
@@ -16,14 +16,14 @@ use Rattle.pm_objects.specs.declared.pool.PoolView.{PoolView}
 use Rattle.pm_image.specs.Blocks.{blocks}
 use Rattle.pm_image.specs.Contents.{size_in}
 use Rattle.pm_model.specs.declared.stage.Stage.TheVariants as stage
-use Rattle.pm_model.specs.Answers.{IsBeside, after_reply}
+use Rattle.pm_model.specs.Answers.{after_reply}
 use Rattle.pm_model.specs.Bytes.{bytes_of, covered_words, is_among, put_object, with_bytes}
 use Rattle.pm_model.specs.Transaction.{is_new}
 use Rattle.pm_model.proofs.Objects.{object_at-put, offsets-put}
 use Rattle.pm_view.specs.Area.{is_in_area}
 use Rattle.pm_view.specs.Log.{Recorded}
 use Rattle.pm_view.specs.View.{Lock, View}
-use Rattle.pm_crash.specs.CallBlocks.{CallBlocks, IsMadeIn, NewObject, allocated_in, block_of, blocks_in, is_at, is_freed_in, is_made_in, object_made}
+use Rattle.pm_crash.specs.CallBlocks.{CallBlocks, IsMadeIn, NewObject, block_of, blocks_in, is_at, is_freed_in, is_made_in, object_made}
 use Rattle.pm_crash.specs.Held.{HoldsPool}
 use Rattle.pm_crash.specs.HeapChanges.{AreDisjoint}
 use Rattle.pm_crash.specs.OpenCall.{HasMade, IsChanged, IsUnderWay, TracksBlocks, block_at_line, call_words, words_recorded, IsPerformable}
@@ -92,12 +92,8 @@ module _ (v next : View) (id : Oid) (off level : ℕ) (bytes : List ℕ) (some_l
   apart_found : (l : Lock) (lines : ℕ) → Contains v.locks l → l.block ≡ Some lines → AreDisjoint (block_of n) (block_at_line l.line lines)
   apart_found l lines held found = under_way.has.apart_found n l lines made.has held found
 
-  listed_now : Contains (allocated_in next) n
-  listed_now = told_listed v next (Write id off bytes) None writes.tells.keeps.entries writes.tells.call n (under_way.has.listed n made.has)
-
   back : GoesBack v next
   back = written_back v next n off bytes within writes.tells.keeps writes.logs writes.tells.locks under_way.outside under_way.under apart_found
-      (λ pool may. All-contains (λ (m : NewObject). All (IsBeside m.size m.off) pool.objects) (allocated_in next) n may.room listed_now)
 
   same_words : (w : ℕ → ℕ) → call_words next w ≡ call_words v w
   same_words = same_words_written v next n off bytes within writes.tells.keeps writes.logs writes.tells.locks under_way.outside under_way.under apart_found

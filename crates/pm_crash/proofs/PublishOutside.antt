@@ -1,6 +1,6 @@
 -- A publish outside of a transaction: it answers as the plain model's, by what the lane holds of all that is pending, or is refused, which changes nothing; and of words
 -- alone, with an entry for each, it is a whole call.
-use Rattle.std.proofs.Common.{◌≡◌, ◌≢◌, ⊎_elim, ℕ, ◌≤◌, Bool, true, false, leb, List, [], ◌∷◌, length, get_or, Option, Some, None, refl, sym, ◌∙◌, ap, subst, arith}
+use Rattle.std.proofs.Common.{◌≡◌, ◌≢◌, ⊎_elim, ℕ, ◌≤◌, Bool, true, false, cond, leb, List, [], ◌∷◌, ◌++◌, length, get_or, Option, Some, None, refl, sym, ◌∙◌, ap, subst, arith}
 use Rattle.std.specs.List.{All, find, list_any}
 use Rattle.std.specs.Option.{option_map}
 use Rattle.std.proofs.lemmas.Bool.{and_from, and_right, cases_Bool, le-leb}
@@ -19,7 +19,7 @@ use Rattle.pm_objects.specs.declared.refusal.Refusal.TheVariants as refusal
 use Rattle.pm_image.specs.Blocks.{blocks}
 use Rattle.pm_image.specs.Contents.{size_in}
 use Rattle.pm_model.specs.Actions.{Action, Pending, none_pending, only_sets, passes_object, wants_pending, with_actions}
-use Rattle.pm_model.specs.Answers.{StandsOnceDone}
+use Rattle.pm_model.specs.Answers.{StandsOnceDone, changes_nothing}
 use Rattle.pm_model.specs.Checks.{frees_listed, frees_root, is_listed, is_root}
 use Rattle.pm_model.specs.Outside.{AnswersOutside, AreNamed, Outside, as_resting, names_missing, names_no_place, refusal_outside}
 use Rattle.pm_model.specs.Places.{has_place}
@@ -27,7 +27,7 @@ use Rattle.pm_model.specs.Transaction.{resting}
 use Rattle.pm_model.proofs.Alike.{stands_plain}
 use Rattle.pm_view.specs.View.{View}
 use Rattle.pm_world.specs.History.{made_final}
-use Rattle.pm_crash.specs.CallBlocks.{AgreesOnRoot, AllTellOfRoot, FreeNoRoot, MayPrecede, TellsOfRoot, allocated_in, allocated_told}
+use Rattle.pm_crash.specs.CallBlocks.{AgreesOnRoot, AllTellOfRoot, CallBlocks, FreeNoRoot, MayPrecede, TellsOfRoot, allocated_in, allocated_told, blocks_in, blocks_told, no_blocks}
 use Rattle.pm_crash.specs.Held.{HoldsPool}
 use Rattle.pm_crash.specs.OnActions.{CanSet, HoldsNamed, IsOutsideReason, PublishesOutside, RefusesOutside}
 use Rattle.pm_crash.specs.OpenCall.{IsBefore, IsWholeCall, LeavesFree, MakesItsStep, call_words, made_words}
@@ -180,6 +180,15 @@ allocates_none : (v : View) (r : Refusal) → v.call ≡ record { operation = Pu
 unfolding allocated_told
 allocates_none v r call = ap (allocated_told (pending_before v)) call
 
+-- nor does it make any, be it aborted by the refusal or not
+none_either : (stays : Bool) → cond stays no_blocks no_blocks ≡ no_blocks
+none_either true = refl
+none_either false = refl
+
+makes_none : (v : View) (r : Refusal) → v.call ≡ record { operation = Publish; reply = Some (Refused r) } ∷ [] → blocks_in v ≡ no_blocks
+unfolding blocks_told
+makes_none v r call = ap (blocks_told (pending_before v) no_blocks) call ∙ none_either (changes_nothing r)
+
 -- so from any pool
 pub refused_publish_is_step : (v : View) (r : Refusal) → RefusesOutside v r → pending_before v ≡ only_sets (sets_before v) → IsWholeCall v
 refused_publish_is_step v r refuses alone =
@@ -189,5 +198,5 @@ refused_publish_is_step v r refuses alone =
       outside = steps.outside;
       makes = λ w header pool holds id before.
           let may : MayPrecede pool v = record { room = room_for_none v pool none; root = first_agrees v Publish (Some (Refused r)) refuses.call pool.root (tells_none v r pool.root alone refuses.reason) } in
-          steps.makes w header pool holds id before may (subst (All (LeavesFree v w)) (sym none) (All-nil (LeavesFree v w)));
+          steps.makes w header pool holds id before may (subst (λ (b : CallBlocks). All (LeavesFree v w) (b.made ++ b.dropped)) (sym (makes_none v r refuses.call)) (All-nil (LeavesFree v w)));
     }

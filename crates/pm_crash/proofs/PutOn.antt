@@ -1,10 +1,10 @@
 -- A call under way goes on where it writes bytes into what is reserved, as the plain model's transaction does, or refuses to.
-use Rattle.std.proofs.Common.{◌≡◌, ℕ, ◌+◌, ◌≤◌, ◌&&◌, Bool, cond, true, false, not, eqb, ltb, List, [], ◌∷◌, ◌++◌, length, map, slice_index, Option, Some, None, MatchOption, refl, sym, ◌∙◌, ap, subst, arith}
-use Rattle.std.specs.List.{All, Contains, filter, find}
+use Rattle.std.proofs.Common.{◌≡◌, ℕ, ◌+◌, ◌≤◌, ◌&&◌, Bool, cond, true, false, not, eqb, ltb, List, [], ◌∷◌, length, slice_index, Option, Some, None, MatchOption, refl, sym, ◌∙◌, ap, subst, arith}
+use Rattle.std.specs.List.{Contains, find}
 use Rattle.std.specs.Option.{option_map, option_map_or}
 use Rattle.std.proofs.Math.Bool.{or-false}
 use Rattle.std.proofs.lemmas.Bool.{and_from, eq-eqb, le-ltb}
-use Rattle.std.proofs.lemmas.List.Elements.{All-contains, All-nil, Contains-append_left, Contains-append_right}
+use Rattle.std.proofs.lemmas.List.Elements.{All-nil, Contains-append_left}
 use Rattle.std.proofs.lemmas.List.Folds.{list_any-from_Any}
 use Rattle.pm_objects.specs.declared.calls.Operation.{Operation}
 use Rattle.pm_objects.specs.declared.calls.Operation.TheVariants.{WriteReserved}
@@ -12,27 +12,23 @@ use Rattle.pm_objects.specs.declared.history.TxErr.TheVariants as error
 use Rattle.pm_objects.specs.declared.history.Value.{Value}
 use Rattle.pm_objects.specs.declared.history.Value.TheVariants.{Refused}
 use Rattle.pm_objects.specs.declared.ids.Oid.{Oid}
-use Rattle.pm_objects.specs.declared.pool.PoolView.{PoolView}
 use Rattle.pm_objects.specs.declared.refusal.Refusal.{Refusal}
 use Rattle.pm_objects.specs.declared.refusal.Refusal.TheVariants as refusal
 use Rattle.pm_model.specs.declared.stage.Stage.TheVariants as stage
 use Rattle.pm_model.specs.Actions.{Pending, Reservation, bytes_reserved, is_reserved, with_put}
-use Rattle.pm_model.specs.Answers.{IsBeside, IsDone, IsRefused, changes_nothing}
+use Rattle.pm_model.specs.Answers.{IsDone, IsRefused, changes_nothing}
 use Rattle.pm_model.specs.Checks.{first_refusal}
 use Rattle.pm_model.specs.Transaction.{Transaction, locked_all}
 use Rattle.pm_view.specs.Area.{is_in_area}
 use Rattle.pm_view.specs.View.{Lock, View}
-use Rattle.pm_world.proofs.StepGive.{contains-filter}
-use Rattle.pm_crash.specs.CallBlocks.{MayPrecede, NewObject, allocated_in, block_of, blocks_in, reserved_object}
+use Rattle.pm_crash.specs.CallBlocks.{NewObject, block_of, blocks_in, reserved_object}
 use Rattle.pm_crash.specs.HeapChanges.{AreDisjoint}
 use Rattle.pm_crash.specs.OpenCall.{IsPerformable, IsUnderWay, block_at_line, call_words}
 use Rattle.pm_crash.specs.Pending.{pending_in}
 use Rattle.pm_crash.specs.Reserving.{HasReserved, IsReservedOne, RefusesPut, WritesReserved, put_refusal}
 use Rattle.pm_crash.specs.Writes.{words_written}
-use Rattle.pm_crash.proofs.CallBlocks.{allocated_once_more}
 use Rattle.pm_crash.proofs.CallWords.{call_works, same_pool}
 use Rattle.pm_crash.proofs.Continued.{leaves_told, GoesBack, LeavesBlocks}
-use Rattle.pm_crash.proofs.Includes.{made_member}
 use Rattle.pm_crash.proofs.KeptWords.{keeps_known}
 use Rattle.pm_crash.proofs.MovedOn.{moves_known, moves_none, moves_told, Moves}
 use Rattle.pm_crash.proofs.Passing.{no_tx, no_work, not_busy, not_spent, unhindered, Works}
@@ -140,19 +136,9 @@ module _ (v next : View) (id : Oid) (off : ℕ) (bytes : List ℕ) (has : HasRes
   apart_found : (l : Lock) (lines : ℕ) → Contains v.locks l → l.block ≡ Some lines → AreDisjoint (block_of n) (block_at_line l.line lines)
   apart_found l lines held found = has.apart_found writes.has.one l lines writes.has.is_one held found
 
-  -- a pool that may be the one before has room for it
-  room : (pool : PoolView) → MayPrecede pool next → All (IsBeside n.size n.off) pool.objects
-  room pool may =
-      let these : List Reservation = filter (λ (r : Reservation). eqb r.off id.off) (pending_in v).reserved in
-      let at : Contains these writes.has.one = contains-filter (λ (r : Reservation). eqb r.off id.off) (pending_in v).reserved writes.has.one writes.has.is_one (eq-eqb writes.has.one.off id.off (sym writes.has.place)) in
-      let now : allocated_in next ≡ allocated_in v ++ map reserved_object these = allocated_once_more v next (WriteReserved id off bytes) None writes.tells.keeps.entries writes.tells.call in
-      let listed : Contains (allocated_in next) n = subst (λ (ns : List NewObject). Contains ns n) (sym now)
-      (Contains-append_right (allocated_in v) (map reserved_object these) n (made_member reserved_object these writes.has.one at)) in
-      All-contains (λ (m : NewObject). All (IsBeside m.size m.off) pool.objects) (allocated_in next) n may.room listed
-
   module _ (level : ℕ) (some_level : 1 ≤ level) (under_way : IsUnderWay v level stage.Work error.None) where
     back : GoesBack v next
-    back = written_back v next n off bytes writes_within writes.tells.keeps writes.logs writes.tells.locks under_way.outside under_way.under apart_found room
+    back = written_back v next n off bytes writes_within writes.tells.keeps writes.logs writes.tells.locks under_way.outside under_way.under apart_found
 
     leaves : LeavesBlocks v next
     leaves = leaves_told v next (WriteReserved id off bytes) None writes.tells.keeps.entries writes.tells.call refl

@@ -1,5 +1,5 @@
 -- A read of what the lane knows under its lock tells the bytes that the model reads, and leaves all as it is.
-use Rattle.std.proofs.Common.{◌≡◌, ℕ, ◌+◌, ◌*◌, ◌≤◌, ◌%◌, false, List, length, map, take, drop, slice_index, Some, refl, sym, ◌∙◌, ap, subst, arith}
+use Rattle.std.proofs.Common.{◌≡◌, ℕ, ◌+◌, ◌*◌, ◌/◌, ◌≤◌, ◌%◌, false, List, length, map, take, drop, slice_index, Some, refl, sym, ◌∙◌, ap, subst, arith}
 use Rattle.std.specs.List.{Contains}
 use Rattle.std.proofs.lemmas.Bool.{le-ltb}
 use Rattle.std.proofs.lemmas.Grind.{div_ceil_times}
@@ -10,6 +10,7 @@ use Rattle.pm_objects.specs.declared.history.TxErr.TheVariants as error
 use Rattle.pm_objects.specs.declared.history.Value.TheVariants.{Bytes}
 use Rattle.pm_objects.specs.declared.ids.Oid.{Oid}
 use Rattle.pm_objects.specs.declared.pool.PoolView.{PoolView}
+use Rattle.pm_image.specs.declared.block.Block.{Block}
 use Rattle.pm_image.specs.Blocks.{blocks}
 use Rattle.pm_image.specs.Contents.{data_words, offset_in, size_in}
 use Rattle.pm_image.proofs.FaultFree.{block_good}
@@ -23,7 +24,7 @@ use Rattle.pm_view.specs.Log.{Recorded}
 use Rattle.pm_crash.proofs.CallWords.{locks_kept}
 use Rattle.pm_crash.specs.CallBlocks.{IsOldIn}
 use Rattle.pm_crash.specs.Held.{HoldsPool}
-use Rattle.pm_crash.specs.OpenCall.{IsBefore, call_words, ComesTo, IsOpen, IsUnderWay, LiesInBlock, words_recorded, IsPerformable}
+use Rattle.pm_crash.specs.OpenCall.{IsBefore, call_words, ComesTo, IsOpen, IsUnderBlock, IsUnderWay, block_at_line, words_recorded, IsPerformable}
 use Rattle.pm_crash.specs.Operations.{ReadsBytes, bytes_seen}
 use Rattle.pm_crash.proofs.CallWords.{call_works, covered_is_outside, held_is_locked, known_call_word, object_under, one_is_kept, same_pool, IsObjectOf}
 use Rattle.pm_crash.proofs.CallBlocks.{keeps_on, old_of_none}
@@ -49,18 +50,21 @@ seen_is_read v next id off len level w header pool under_way reads old before c 
     let inside : off + len ≤ slice_index v.words (8 * held.lock.line + 1) = reads.range.inside in
     let size : size_in words object.block ≡ slice_index v.words (8 * held.lock.line + 1) = object.size in
     let fits : off + len ≤ size_in words object.block = omega arith in
-    let room : 8 + data_words (size_in words object.block) ≤ 8 * object.block.lines = object_fits words object.block (block_good words v.lanes v.zones object.block c.holds.no_fault object.is_there) in
-    let lies : (i : ℕ) → Contains (covered_words (id.off + off) len) i → LiesInBlock w v.lanes v.zones i = λ i there.
+    let found : Block = block_at_line held.lock.line held.lines in
+    let is_there : Contains (blocks words v.lanes v.zones) found = subst (λ (bs : List Block). Contains bs found) (sym c.blocks_stay) (before.found held.lock held.lines held.held held.block) in
+    let room : 8 + data_words (size_in words found) ≤ 8 * held.lines = object_fits words found (block_good words v.lanes v.zones found c.holds.no_fault is_there) in
+    let same_size : size_in words object.block ≡ size_in words found = ap (λ (place : ℕ). words (place / 8 + 1)) object.place in
+    let under : (i : ℕ) → Contains (covered_words (id.off + off) len) i → IsUnderBlock v i = λ i there.
     let has = covered_has_byte (id.off + off) len i there in
     let low = has.1 in
     let high = has.2 in
     let begins : object.block.place ≡ 64 * held.lock.line = object.place in
     let place : id.off ≡ 64 * held.lock.line + 64 = held.place in
     let filled : size_in words object.block ≤ 8 * data_words (size_in words object.block) = in_words (size_in words object.block) in
-    record { block = object.block; is_there = object.was_there; from = omega arith; to = omega arith } in
+    record { lock = held.lock; lines = held.lines; held = held.held; found = held.block; from = omega arith; to = omega arith } in
     let known : map (slice_index v.words) (covered_words (id.off + off) len) ≡ map words (covered_words (id.off + off) len) =
     map_same (slice_index v.words) words (covered_words (id.off + off) len) (λ i there.
-    sym (known_call_word v w i before (reads.known i there) (covered_is_outside v id false off len i under_way.in_lanes under_way.chunks held there) (lies i there))) in
+    sym (known_call_word v w i before (reads.known i there) (covered_is_outside v id false off len i under_way.in_lanes under_way.chunks held there) (under i there))) in
     let moved : map words (covered_words (id.off + off) len) ≡ map words (covered_words (offset_in object.block + off) len) = ap (λ (o : ℕ). map words (covered_words (o + off) len)) (sym object.offset) in
     ap (λ (ws : List ℕ). take len (drop (off % 8) (bytes_of_words ws))) (known ∙ moved)
     ∙ sym (range_is_read words v.lanes v.zones off len object.block object.is_there fits)

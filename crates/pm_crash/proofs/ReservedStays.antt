@@ -47,7 +47,7 @@ use Rattle.pm_crash.proofs.WritesWithin.{other_same, WritesWithin}
 
 -- ---- an operation that leaves what is reserved, or gives it up
 
-reserved_or_none : (op : Operation) (reply : Option Value) (p : Pending) → LeavesReserved op reply p → ((pending_behind op reply p).reserved ≡ p.reserved) ⊎ ((pending_behind op reply p).reserved ≡ [])
+pub reserved_or_none : (op : Operation) (reply : Option Value) (p : Pending) → LeavesReserved op reply p → ((pending_behind op reply p).reserved ≡ p.reserved) ⊎ ((pending_behind op reply p).reserved ≡ [])
 reserved_or_none op (Some (Refused r)) p leaves = inl refl
 reserved_or_none (Reserve size kind) (Some (Offset off)) p leaves = let none = leaves.0 in absurd cc
 reserved_or_none (WriteReserved id off bytes) reply p leaves = absurd (false≢true (sym leaves.1))

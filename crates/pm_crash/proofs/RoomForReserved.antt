@@ -29,9 +29,10 @@ use Rattle.pm_world.specs.Memory.Location.{PoolWord}
 use Rattle.pm_world.specs.Opening.{IsChunk, IsPoolChunk, Opening, is_free_chunk}
 use Rattle.pm_world.specs.World.{Views, World}
 use Rattle.pm_world.proofs.Living.{TellsOf}
-use Rattle.pm_crash.specs.CallBlocks.{AgreesOnRoot, HasRoomFor, MayPrecede, NewObject, allocated_in, block_of}
+use Rattle.pm_crash.specs.CallBlocks.{AgreesOnRoot, HasRoomFor, MayPrecede, NewObject, allocated_in, block_of, blocks_in}
 use Rattle.pm_crash.specs.HeapChanges.{AreDisjoint, run_at}
 use Rattle.pm_crash.specs.Held.{HoldsPool}
+use Rattle.pm_crash.specs.Lying.{Lies}
 use Rattle.pm_crash.specs.NewObjects.{block_of_chunks, block_of_run, IsChunkWord}
 use Rattle.pm_crash.specs.OpenCall.{LeavesFree}
 use Rattle.pm_crash.proofs.Classes.{lines_of_class}
@@ -40,10 +41,11 @@ use Rattle.pm_crash.proofs.UnreadBlocks.{free_in_chunk, free_unread, AreChunks, 
 use Rattle.pm_crash.proofs.Apart.{size_of_block}
 use Rattle.pm_crash.proofs.FoundBlocks.{IsPageOf, page_of_chunk}
 use Rattle.pm_crash.proofs.LivingWords.{free_by_page, taken_same}
+use Rattle.pm_crash.proofs.NewStay.{news_in}
 use Rattle.pm_crash.proofs.NewRuns.{page_at, page_in_pool}
 use Rattle.pm_crash.specs.OneLane.{TellsAsOpening}
-use Rattle.pm_crash.specs.Reserved.{IsBorneOut, IsReservedFor, IsReservedInChunks, IsReservedInRun, IsUnusedChunk, root_in}
-use Rattle.pm_crash.proofs.BlockPlaces.{Lies, SameTaken, each_lies, free_chunks_apart, free_run_apart, lies_still}
+use Rattle.pm_crash.specs.Reserved.{IsBorneOut, IsReservedFor, IsReservedInChunks, IsReservedInRun, IsUnusedChunk, LiesFree, root_in}
+use Rattle.pm_crash.proofs.BlockPlaces.{SameTaken, each_lies, free_chunks_apart, free_run_apart, lies_still}
 use Rattle.pm_crash.proofs.ReservedBlocks.{block_free, chunks_free, telling}
 
 -- an object's block has a line at least
@@ -91,6 +93,11 @@ module _ (o : Opening) (mem : Memory) (views : Views) (log : List Entry) (decide
   lies_apart n b (inl run) lies = apart_in_run n b run lies
   lies_apart n b (inr has) lies = apart_in_chunks n b has lies
 
+  -- so what it reserved lies in room that its words have free
+  pub reserved_free : (n : NewObject) → IsReservedFor v n → LiesFree v n
+  reserved_free n reserved b lies =
+      lies_apart n b reserved (two_same (λ (lanes zones : ℕ). Lies (slice_index v.words) lanes zones b) v.lanes o.lanes v.zones o.zones fits.lane.lanes fits.lane.zones lies)
+
   pub overlaps_none : heap_fault (slice_index v.words) o.lanes o.zones ≡ None → (n : NewObject) (b : Block) → IsReservedFor v n → Contains (blocks (slice_index v.words) o.lanes o.zones) b → AreDisjoint (block_of n) b
   overlaps_none none n b reserved there = lies_apart n b reserved (each_lies (slice_index v.words) o.lanes o.zones none b there)
 
@@ -125,37 +132,40 @@ module _ (o : Opening) (mem : Memory) (views : Views) (log : List Entry) (decide
           ap (slice_index v.words) (sym of.bitmap)
           ∙ (tells_still page (bitmap_word page) chunk.0 was_taken (inr (refl, was_run)) ∙ (sym (tells.blocks (bitmap_word page) (page, (chunk.0, inr (refl, was_run)))) ∙ ap w of.bitmap))
 
-    same_taken : SameTaken w (slice_index v.words) o.lanes o.zones
+    pub same_taken : SameTaken w (slice_index v.words) o.lanes o.zones
     same_taken = record { descriptor = same_descriptor; bitmap = same_bitmap }
 
-    -- so the pool that they hold has room for what it reserved
+    -- so the pool that they hold has room for what lies free
     module _ (header : Header) (pool : PoolView) (holds : HoldsPool w o.lanes o.zones header pool) where
       abbrev bs : List Block
       bs = blocks w o.lanes o.zones
 
-      apart_each : (n : NewObject) → IsReservedFor v n → (b : Block) → Contains bs b → AreDisjoint (block_of n) b
-      apart_each n reserved b there = lies_apart n b reserved (lies_still w (slice_index v.words) o.lanes o.zones b same_taken (each_lies w o.lanes o.zones holds.no_fault b there))
+      apart_each : (n : NewObject) → LiesFree v n → (b : Block) → Contains bs b → AreDisjoint (block_of n) b
+      apart_each n free b there =
+          free b
+          (two_same (λ (lanes zones : ℕ). Lies (slice_index v.words) lanes zones b) o.lanes v.lanes o.zones v.zones (sym fits.lane.lanes) (sym fits.lane.zones)
+          (lies_still w (slice_index v.words) o.lanes o.zones b same_taken (each_lies w o.lanes o.zones holds.no_fault b there)))
 
-      beside_each : (n : NewObject) → IsReservedFor v n → (b : Block) → Contains bs b → IsBeside n.size n.off (offset_in b, object_in w (length bs) b)
-      beside_each n reserved b there =
+      beside_each : (n : NewObject) → LiesFree v n → (b : Block) → Contains bs b → IsBeside n.size n.off (offset_in b, object_in w (length bs) b)
+      beside_each n free b there =
           beside_block w (length bs) n b (size_of_block w o.lanes o.zones b holds.no_fault there)
-          (apart_each n reserved b there)
+          (apart_each n free b there)
 
-      beside_all : (n : NewObject) → IsReservedFor v n → All (IsBeside n.size n.off) pool.objects
+      beside_all : (n : NewObject) → LiesFree v n → All (IsBeside n.size n.off) pool.objects
       unfolding objects_in
-      beside_all n reserved =
+      beside_all n free =
           subst (λ (p : PoolView). All (IsBeside n.size n.off) p.objects) (sym holds.is_pool)
           (All-map (IsBeside n.size n.off) (λ (b : Block). (offset_in b, object_in w (length bs) b)) bs
-          (All-weaker (Contains bs) (λ (b : Block). IsBeside n.size n.off (offset_in b, object_in w (length bs) b)) (beside_each n reserved) bs (All-contains_itself bs)))
+          (All-weaker (Contains bs) (λ (b : Block). IsBeside n.size n.off (offset_in b, object_in w (length bs) b)) (beside_each n free) bs (All-contains_itself bs)))
 
-      room : (news : List NewObject) → All (IsReservedFor v) news → HasRoomFor pool news
-      room news reserved = All-weaker (IsReservedFor v) (λ (n : NewObject). All (IsBeside n.size n.off) pool.objects) beside_all news reserved
+      room : (news : List NewObject) → All (LiesFree v) news → HasRoomFor pool news
+      room news free = All-weaker (LiesFree v) (λ (n : NewObject). All (IsBeside n.size n.off) pool.objects) beside_all news free
 
       -- and it may be the one before the lane's call, whose words have the opening's root
       pub may_precede : slice_index v.words 64 ≡ slice_index o.words 64 → IsBorneOut v → MayPrecede pool v
       may_precede same_root borne_out =
           let root : pool.root ≡ root_in (slice_index v.words) = ap (λ (p : PoolView). p.root) holds.is_pool ∙ ap (λ n. cond (eqb n 0) None (Some n)) (tells.root ∙ sym same_root) in
-          record { room = room (allocated_in v) borne_out.reserved; root = subst (AgreesOnRoot v) (sym root) borne_out.root }
+          record { room = room (allocated_in v) borne_out.free; root = subst (AgreesOnRoot v) (sym root) borne_out.root }
 
       -- what it reserved is free by them: a chunk of it that they took would have a descriptor
       plain_chunk : (zone chunk lines : ℕ) → zone < o.zones → chunk < 64 → slice_index v.words (descriptor_word o.lanes (64 * zone + chunk)) ≡ 0 → class_in (w (descriptor_word o.lanes (64 * zone + chunk))) ≢ Some (Lines lines)
@@ -191,13 +201,13 @@ module _ (o : Opening) (mem : Memory) (views : Views) (log : List Entry) (decide
                 (ap (λ m. slice_index v.words (descriptor_word m (64 * has.zone + (has.first + j)))) (sym lanes) ∙ (has.unused j near).undescribed);
           })
 
-      pub leaves_free : IsBorneOut v → (n : NewObject) → Contains (allocated_in v) n → LeavesFree v w n
+      pub leaves_free : IsBorneOut v → (n : NewObject) → Contains (news_in (blocks_in v)) n → LeavesFree v w n
       leaves_free borne_out n there =
           let lanes = fits.lane.lanes in let zones = fits.lane.zones in
-          let reserved : IsReservedFor v n = All-contains (IsReservedFor v) (allocated_in v) n borne_out.reserved there in
+          let reserved : IsReservedFor v n = All-contains (IsReservedFor v) (news_in (blocks_in v)) n borne_out.made there in
           record {
             in_chunks = λ i word. two_same (λ (a b : ℕ). IsChunkWord a b i) o.lanes v.lanes o.zones v.zones (sym lanes) (sym zones)
-                (free_in_chunk w o.lanes o.zones (block_of n) (place_of n reserved) holds.no_fault (apart_each n reserved) i word);
+                (free_in_chunk w o.lanes o.zones (block_of n) (place_of n reserved) holds.no_fault (apart_each n (reserved_free n reserved)) i word);
             unread = λ i word. two_same (λ (a b : ℕ). ¬ Reads w a b i) o.lanes v.lanes o.zones v.zones (sym lanes) (sym zones)
-                (free_unread w o.lanes o.zones (block_of n) (place_of n reserved) holds.no_fault (apart_each n reserved) i word);
+                (free_unread w o.lanes o.zones (block_of n) (place_of n reserved) holds.no_fault (apart_each n (reserved_free n reserved)) i word);
           }

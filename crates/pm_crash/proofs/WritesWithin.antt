@@ -32,10 +32,9 @@ use Rattle.pm_crash.proofs.Written.{new_object_written}
 use Rattle.pm_crash.proofs.Continued.{GoesBack}
 use Rattle.pm_crash.proofs.Bytewise.{length-put}
 use Rattle.pm_crash.proofs.Covered.{covered_has_byte, written_words}
-use Rattle.pm_crash.proofs.KeptWords.{found_back, lies_further, same_found, under_kept}
+use Rattle.pm_crash.proofs.KeptWords.{found_back, same_found, under_further, under_kept}
 use Rattle.pm_crash.proofs.ObjectsOfBlocks.{object_is_there}
 use Rattle.pm_words.specs.Words.{AreBytes}
-use Rattle.pm_crash.specs.CallBlocks.{MayPrecede}
 use Rattle.pm_crash.specs.OpenCall.{RecordsUnder}
 use Rattle.pm_crash.specs.Operations.{KeepsLane, KeepsLog}
 use Rattle.pm_crash.proofs.KeptWords.{same_records}
@@ -165,12 +164,15 @@ module _ (v next : View) (n : NewObject) (off : ℕ) (bytes : List ℕ) (writes 
 
     module _ (logs : KeepsLog v next) (locks : next.locks ≡ v.locks) (outside : (i : ℕ) → is_recorded v.log.records i ≡ true → is_in_area v.lane i ≡ false) (under : RecordsUnder v)
         (apart_found : (l : Lock) (lines : ℕ) → Contains v.locks l → l.block ≡ Some lines → AreDisjoint (block_of n) (block_at_line l.line lines)) where
-      -- no word is recorded that is written, since records are of what it found
-      recorded_stays : (i : ℕ) → is_recorded v.log.records i ≡ true → slice_index next.words i ≡ slice_index v.words i
-      recorded_stays i recorded =
-          let it : IsUnderBlock v i = under i recorded in
+      -- no word of what it found is written
+      found_stays : (i : ℕ) → IsUnderBlock v i → is_in_area v.lane i ≡ false → slice_index next.words i ≡ slice_index v.words i
+      found_stays i it =
           let from = it.from in let to = it.to in
-          unwritten_apart (block_at_line it.lock.line it.lines) i (apart_found it.lock it.lines it.held it.found) (omega (arith, from)) (omega (arith, to)) (outside i recorded)
+          unwritten_apart (block_at_line it.lock.line it.lines) i (apart_found it.lock it.lines it.held it.found) (omega (arith, from)) (omega (arith, to))
+
+      -- so none that is recorded, since records are of that
+      recorded_stays : (i : ℕ) → is_recorded v.log.records i ≡ true → slice_index next.words i ≡ slice_index v.words i
+      recorded_stays i recorded = found_stays i (under i recorded) (outside i recorded)
 
       same_word : (w : ℕ → ℕ) (i : ℕ) → call_words next w i ≡ call_words v w i
       same_word w i =
@@ -183,18 +185,16 @@ module _ (v next : View) (n : NewObject) (off : ℕ) (bytes : List ℕ) (writes 
       pub same_words_written : (w : ℕ → ℕ) → call_words next w ≡ call_words v w
       same_words_written w = (λ j i. same_word w i j)
 
-      -- a pool that may be the one before has room for the object
-      pub written_back : ((pool : PoolView) → MayPrecede pool next → All (IsBeside n.size n.off) pool.objects) → GoesBack v next
-      written_back room = record {
+      pub written_back : GoesBack v next
+      written_back = record {
         outside = λ i is_recorded_now. outside i (sym (ap (λ (records : List Recorded). is_recorded records i) logs.records) ∙ is_recorded_now);
         under = under_kept v next (same_found v next locks) logs.records under;
         before = λ w header pool holds may before. record {
           recorded = λ slot r i at inside. before.recorded slot r i (ap (λ (records : List Recorded). slice_get records slot) logs.records ∙ at) inside;
-          known = λ i known out none lies.
-              let from = lies.from in let to = lies.to in
-              let apart : AreDisjoint (block_of n) lies.block = room_apart w v.lanes v.zones header pool n lies.block holds (room pool may) lies.is_there in
-              before.known i (lane.known i known) (ap (λ (k : ℕ). is_in_area k i) lane.lane ∙ out) (ap (λ (records : List Recorded). is_recorded records i) logs.records ∙ none) (lies_further v next lane w i lies)
-              ∙ unwritten_apart lies.block i apart from to out;
+          known = λ i known out none of_found.
+              before.known i (lane.known i known) (ap (λ (k : ℕ). is_in_area k i) lane.lane ∙ out) (ap (λ (records : List Recorded). is_recorded records i) logs.records ∙ none)
+              (under_further v next (same_found v next locks) i of_found)
+              ∙ found_stays i of_found out;
           found = found_back v next lane (same_found v next locks) w before;
         };
         entries = logs.entries;

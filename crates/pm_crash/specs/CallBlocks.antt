@@ -86,12 +86,10 @@ blocks_told p b (t ∷ told) = blocks_told (pending_behind t.operation t.reply p
 abbrev pub blocks_in : View → CallBlocks
 blocks_in v = blocks_told (pending_before v) no_blocks v.call
 
--- the objects for which an operation with its reply needs room in the pool, where this was pending: what it allocates or reserves, what is reserved into which it
--- writes bytes, be it of a call before, and what it publishes
+-- the objects for which an operation with its reply needs room in the pool, where this was pending: what it allocates or reserves, and what it publishes
 abbrev pub allocated_by : Operation → Option Value → Pending → List NewObject
 allocated_by (Alloc size kind) (Some (Offset off)) p = record { off = off; kind = kind; size = size } ∷ []
 allocated_by (Reserve size kind) (Some (Offset off)) p = record { off = off; kind = kind; size = size } ∷ []
-allocated_by (WriteReserved id off bytes) None p = map reserved_object (filter (λ (r : Reservation). r.off == id.off) p.reserved)
 allocated_by Publish None p = map reserved_object p.reserved
 allocated_by op reply p = []
 
@@ -109,7 +107,7 @@ unfoldable pub allocated_told : Pending → List Told → List NewObject
 allocated_told p [] = []
 allocated_told p (t ∷ told) = allocated_by t.operation t.reply p ++ allocated_told (pending_behind t.operation t.reply p) told
 
--- all that the open call ever made, whether it freed it again or gave all up, or reserved, or wrote into where it was reserved
+-- all that the open call ever made, whether it freed it again or gave all up, or reserved
 abbrev pub allocated_in : View → List NewObject
 allocated_in v = allocated_told (pending_before v) v.call
 

@@ -8,6 +8,7 @@ pub mod HeldHistory
 pub mod FreeWords
 pub mod NewObjects
 pub mod HeapChanges
+pub mod Lying
 pub mod Publishing
 pub mod Lines
 pub mod OneLane
@@ -16,6 +17,7 @@ pub mod CallBlocks
 pub mod Reserved
 pub mod Reserving
 pub mod OpenCall
+pub mod GivingUnused
 pub mod Operations
 pub mod OnActions
 pub mod Writes

@@ -54,13 +54,6 @@ words_recorded records = flat_map words_of_record records
 abbrev pub block_at_line : ℕ → ℕ → Block
 block_at_line line lines = record { place = 64 * line; lines = lines }
 
--- the word is one of an allocated block's
-pub record LiesInBlock (w : ℕ → ℕ) (lanes zones i : ℕ) : Type 0 where
-  pub block : Block
-  pub is_there : Contains (blocks w lanes zones) block
-  pub from : block.place ≤ 8 * i
-  pub to : 8 * i < block.place + 64 * block.lines
-
 -- the word is one of a block that the lane found under one of its locks
 pub record IsUnderBlock (v : View) (i : ℕ) : Type 0 where
   pub lock : Lock
@@ -74,11 +67,11 @@ pub record IsUnderBlock (v : View) (i : ℕ) : Type 0 where
 abbrev pub RecordsUnder : View → Type 0
 RecordsUnder v = (i : ℕ) → is_recorded v.log.records i ≡ true → IsUnderBlock v i
 
--- `w` may be the words before the open call: they are what the lane recorded, what it knows of blocks and did not record, and they have the
--- blocks that it found under its locks. What it stored in blocks that are free is no matter
+-- `w` may be the words before the open call: they are what the lane recorded, what it knows of the blocks that it found under its locks and did not record, and they
+-- have those blocks. What it stored in blocks that are free, or knows of them, is no matter
 pub record IsBefore (v : View) (w : ℕ → ℕ) : Type 0 where
   pub recorded : (slot : ℕ) (r : Recorded) (i : ℕ) → IsRecordAt v slot r → i < length r.old → w (r.word + i) ≡ slice_index r.old i
-  pub known : (i : ℕ) → Contains v.known i → is_in_area v.lane i ≡ false → is_recorded v.log.records i ≡ false → LiesInBlock w v.lanes v.zones i → w i ≡ slice_index v.words i
+  pub known : (i : ℕ) → Contains v.known i → is_in_area v.lane i ≡ false → is_recorded v.log.records i ≡ false → IsUnderBlock v i → w i ≡ slice_index v.words i
   pub found : (l : Lock) (lines : ℕ) → Contains v.locks l → l.block ≡ Some lines → Contains (blocks w v.lanes v.zones) (block_at_line l.line lines)
 
 -- the words as the open call has stored them over those before it: what it recorded is as it left it
@@ -248,14 +241,14 @@ pub record IsWholeCall (v : View) : Type 0 where
   pub makes : (w : ℕ → ℕ) (header : Header) (pool : PoolView) → HoldsPool w v.lanes v.zones header pool → v.pool ≡ header.id → IsBefore v w
       → MakesStep v w header pool
 
--- what the call allocated is free by the words: it lies in chunks, and their meaning reads no word of it
+-- what the call made is free by the words: it lies in chunks, and their meaning reads no word of it
 pub record LeavesFree (v : View) (w : ℕ → ℕ) (n : NewObject) : Type 0 where
   pub in_chunks : (i : ℕ) → IsWordOf (block_of n) i → IsChunkWord v.lanes v.zones i
   pub unread : (i : ℕ) → IsWordOf (block_of n) i → ¬ Reads w v.lanes v.zones i
 
--- the lane's call is a step of the plain model from each pool that may be the one before what it allocated and freed, in words by which all of that is free. It
--- recorded no word of its own area
+-- the lane's call is a step of the plain model from each pool that may be the one before what it allocated and freed, in words by which what it made is free, whether
+-- it has that or freed it again. It recorded no word of its own area
 pub record MakesItsStep (v : View) : Type 0 where
   pub outside : (i : ℕ) → is_recorded v.log.records i ≡ true → is_in_area v.lane i ≡ false
   pub makes : (w : ℕ → ℕ) (header : Header) (pool : PoolView) → HoldsPool w v.lanes v.zones header pool → v.pool ≡ header.id → IsBefore v w → MayPrecede pool v
-      → All (LeavesFree v w) (allocated_in v) → MakesStep v w header pool
+      → All (LeavesFree v w) ((blocks_in v).made ++ (blocks_in v).dropped) → MakesStep v w header pool

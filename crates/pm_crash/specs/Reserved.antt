@@ -1,13 +1,15 @@
 -- What a lane reserved, and how that and its words bear out what its open call told of the heap.
-use Rattle.std.specs.Prelude.{◌≡◌, ◌⊎◌, ℕ, ◌+◌, ◌*◌, ◌<◌, ◌≤◌, ◌==◌, All, slice_index, true, Option, None, Some, if◌then◌else◌}
+use Rattle.std.specs.Prelude.{◌≡◌, ◌⊎◌, ℕ, ◌+◌, ◌*◌, ◌<◌, ◌≤◌, ◌==◌, ◌++◌, All, slice_index, true, Option, None, Some, if◌then◌else◌}
 use Rattle.pm_layout.specs.Sizes.{descriptor_of}
 use Rattle.pm_layout.specs.declared.class.Class.TheVariants.{Lines}
+use Rattle.pm_image.specs.declared.block.Block.{Block}
 use Rattle.pm_image.specs.Blocks.{descriptor_word}
 use Rattle.pm_view.specs.declared.occ.Occ.TheVariants.{Zone}
 use Rattle.pm_view.specs.View.{View}
 use Rattle.pm_view.specs.Views.{reserves}
-use Rattle.pm_crash.specs.CallBlocks.{AgreesOnRoot, NewObject, allocated_in, block_of, reserved_in}
-use Rattle.pm_crash.specs.HeapChanges.{run_at}
+use Rattle.pm_crash.specs.CallBlocks.{AgreesOnRoot, NewObject, allocated_in, block_of, blocks_in, reserved_in}
+use Rattle.pm_crash.specs.HeapChanges.{AreDisjoint, run_at}
+use Rattle.pm_crash.specs.Lying.{Lies}
 use Rattle.pm_crash.specs.NewObjects.{block_of_chunks, block_of_run}
 
 -- the lane reserved the chunk of a zone, 0 for the first, and its words describe it by 0
@@ -45,9 +47,15 @@ IsReservedFor v n = IsReservedInRun v n ⊎ IsReservedInChunks v n
 abbrev pub root_in : (ℕ → ℕ) → Option ℕ
 root_in w = if w 64 == 0 then None else Some (w 64)
 
--- What the lane has bears out what its call told of the heap: what it allocated lies in blocks that the lane reserved, and so does what is pending to be made;
--- and each free agrees with the root that its words have.
+-- the object's block overlaps none of the blocks that the lane's words have
+abbrev pub LiesFree : View → NewObject → Type 0
+LiesFree v n = (b : Block) → Lies (slice_index v.words) v.lanes v.zones b → AreDisjoint (block_of n) b
+
+-- What the lane has bears out what its call told of the heap. What the call made, whether it has that or freed it again, lies in blocks that the lane reserved, and so
+-- does what is pending to be made. All that the call allocated lies in room that the words have free, whether the lane has that reserved still or gave it back. And
+-- each free agrees with the root that the words have.
 pub record IsBorneOut (v : View) : Type 0 where
-  pub reserved : All (IsReservedFor v) (allocated_in v)
+  pub made : All (IsReservedFor v) ((blocks_in v).made ++ (blocks_in v).dropped)
   pub pending : All (IsReservedFor v) (reserved_in v)
+  pub free : All (LiesFree v) (allocated_in v)
   pub root : AgreesOnRoot v (root_in (slice_index v.words))

@@ -18,12 +18,12 @@ ghost use Rattle.pm_world.specs.Heap.{AreNewRuns, IsOcc, has_taken};
 ghost use Rattle.pm_world.specs.Opening.{IsSound, Opening};
 ghost use Rattle.pm_world.specs.Records.{generation_of, records_generation};
 ghost use Rattle.pm_crash.specs.Alone.{GrowsFirst, HasNoTornMatch, IsDrawnAt, IsUnsealed, MayRecord, MeansCalls, Rests, WorksAlone, alone_views, is_of_words, kept_numbered, raises, standing};
-ghost use Rattle.pm_crash.specs.CallBlocks.{MayPrecede};
+ghost use Rattle.pm_crash.specs.CallBlocks.{MayPrecede, NewObject};
 ghost use Rattle.pm_crash.specs.Held.{HoldsPool};
 ghost use Rattle.pm_crash.specs.Leading.{Leads};
 ghost use Rattle.pm_crash.specs.OneLane.{IsModelStep, TellsAsOpening};
 ghost use Rattle.pm_crash.specs.OpenCall.{MakesItsStep};
-ghost use Rattle.pm_crash.specs.Reserved.{IsBorneOut};
+ghost use Rattle.pm_crash.specs.Reserved.{IsBorneOut, IsReservedFor, LiesFree};
 
 /// A law: where one lane works alone, each image that a power failure leaves of its words means the pool to which the calls that it does
 /// not lose lead, in order, from the pool at the opening; and it has the opening's length and header page. Where the lane rests, these are
@@ -118,10 +118,15 @@ pub fn a_pool_stays_sound()
 
 /// A law: where one lane works alone, no call changes what tells of blocks, or the root's word. So where what the lane has bears out what its call told of
 /// the heap, each pool that words hold which tell of these what the opening's do may be the one before the call; and a call that makes its step is a
-/// step of the plain model. No code runs.
+/// step of the plain model. What the lane reserved lies in room that its words have free, and what lies so at one view lies so at each other. No
+/// code runs.
 pub fn a_lane_alone_bears_out_its_call()
     ensures precedes { (o : Opening) (header : Header) (pool : PoolView) (v w : View) (steps : List Step) (words : ℕ → ℕ) (its : Header) (before : PoolView)
         → WorksAlone o header pool v steps w → TellsAsOpening o words → HoldsPool words o.lanes o.zones its before → IsBorneOut w → MayPrecede before w }
     ensures steps { (o : Opening) (header : Header) (pool : PoolView) (v w : View) (steps : List Step)
         → WorksAlone o header pool v steps w → MakesItsStep w → IsBorneOut w → IsModelStep o w }
+    ensures reserved { (o : Opening) (header : Header) (pool : PoolView) (start v : View) (steps : List Step) → WorksAlone o header pool start steps v
+        → (n : NewObject) → IsReservedFor v n → LiesFree v n }
+    ensures free { (o : Opening) (header : Header) (pool : PoolView) (start v w : View) (steps more : List Step)
+        → WorksAlone o header pool start steps v → WorksAlone o header pool start more w → (n : NewObject) → LiesFree v n → LiesFree w n }
 {}

@@ -67,7 +67,8 @@ pub use reserving::{
 };
 pub use taken::what_is_taken_follows_the_blocks;
 pub use under_way::{
-    a_call_under_way_ends, a_call_under_way_frees_objects, a_call_under_way_goes_on,
+    a_call_under_way_ends, a_call_under_way_frees_objects,
+    a_call_under_way_gives_back_what_it_leaves, a_call_under_way_goes_on,
     a_call_under_way_is_aborted, a_call_under_way_makes_objects,
 };
 

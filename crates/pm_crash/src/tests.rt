@@ -67,6 +67,7 @@ fn laws(_rt: HostRuntime) {
     a_call_under_way_goes_on();
     a_call_under_way_makes_objects();
     a_call_under_way_frees_objects();
+    a_call_under_way_gives_back_what_it_leaves();
     a_call_under_way_is_aborted();
     a_call_under_way_ends();
 }

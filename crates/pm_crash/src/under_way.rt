@@ -18,12 +18,14 @@ ghost use Rattle.pm_model.specs.declared.stage.Stage.TheVariants as stage;
 ghost use Rattle.pm_view.specs.View.{View};
 ghost use Rattle.pm_world.specs.Records.{pool_entries};
 ghost use Rattle.pm_crash.specs.CallBlocks.{IsOldIn, IsSameIn, MayPrecede, NewObject, blocks_in, is_freed_in, is_gone_in, is_new_in};
+ghost use Rattle.pm_crash.specs.GivingUnused.{GivesUnused};
 ghost use Rattle.pm_crash.specs.Held.{HoldsPool};
 ghost use Rattle.pm_crash.specs.OnActions.{ChangesPending, IsPublishReasonIn, PublishesIn};
 ghost use Rattle.pm_crash.specs.OpenCall.{IsBefore, IsCommitted, IsUnderWay, LieApart, MakesItsStep, Turns, WasAborted};
 ghost use Rattle.pm_crash.specs.Operations.{AddsNewRange, AddsRange, AllocatesObject, BeginsCall, BeginsLevel, FreesFound, FreesMade, KeepsKnown, KeepsLog, KeepsWords, ReadsBytes, ReadsNewBytes, Refuses, RefusesAlloc, RefusesFree, RefusesGone, RefusesLevel, RefusesNewRange, TakesBack, Tells, TellsNothing, WritesBytes, WritesNewBytes};
 ghost use Rattle.pm_crash.specs.Pending.{published_in};
 ghost use Rattle.pm_crash.specs.Performing.{entry_for};
+ghost use Rattle.pm_crash.specs.Reserved.{IsBorneOut};
 ghost use Rattle.pm_crash.specs.Reserving.{HasReserved};
 
 /// A law: a call under way, which may have made and freed objects, goes on with each operation on what it found and did not free, as the plain
@@ -113,4 +115,13 @@ pub fn a_call_under_way_ends()
     ensures makes_its_step { (v : View) → IsCommitted v → (blocks_in v).made ≡ [] → (blocks_in v).freed ≡ [] → pool_entries v ≡ map entry_for (published_in v)
         → MakesItsStep v }
     ensures aborted_makes_its_step { (v : View) (e : TxErr) → WasAborted v e → v.log.records ≡ [] → v.log.entries ≡ [] → MakesItsStep v }
+{}
+
+/// A law: where a lane gives back what it reserved and its call uses no more, and tells nothing, the call is under way as it was; what is reserved
+/// stands, what the lane has bears out what the call told, and what may be before the call might be before. No code runs.
+pub fn a_call_under_way_gives_back_what_it_leaves()
+    ensures under_way { (v next : View) (level : ℕ) (at_stage : Stage) (e : TxErr) → GivesUnused v next → IsUnderWay v level at_stage e → IsUnderWay next level at_stage e }
+    ensures reserved { (v next : View) → GivesUnused v next → HasReserved v → HasReserved next }
+    ensures borne_out { (v next : View) → GivesUnused v next → IsBorneOut v → IsBorneOut next }
+    ensures before { (v next : View) (w : ℕ → ℕ) → GivesUnused v next → IsBefore next w → IsBefore v w }
 {}

@@ -11,10 +11,11 @@ use Rattle.pm_view.specs.Views.{reserves}
 use Rattle.pm_world.specs.Opening.{Opening}
 use Rattle.pm_crash.specs.CallBlocks.{NewObject, block_of}
 use Rattle.pm_crash.specs.HeapChanges.{AreDisjoint, run_at}
+use Rattle.pm_crash.specs.Lying.{InChunks, InRun}
 use Rattle.pm_crash.specs.NewObjects.{block_of_chunks, block_of_run}
 use Rattle.pm_crash.specs.Reserved.{IsReservedFor, IsReservedInChunks, IsReservedInRun, IsUnusedChunk}
 use Rattle.pm_crash.proofs.AloneCourse.{StandsAlone}
-use Rattle.pm_crash.proofs.BlocksApart.{InChunks, InRun, chunks_apart, free_in, run_chunks, runs_apart}
+use Rattle.pm_crash.proofs.BlocksApart.{chunks_apart, free_in, run_chunks, runs_apart}
 use Rattle.pm_epoch.proofs.GainedRooms.{Gains, WasFree}
 use Rattle.pm_epoch.proofs.HeldApart.{chunks_block_is, reserved_chunks, reserved_run, run_block_is, some_count}
 
@@ -62,10 +63,10 @@ module _ (v u : View) (n : NewObject) (g : Gains v u n) where
     abbrev w : ℕ → ℕ
     w = slice_index u.words
 
-    in_run : (k : NewObject) (run : IsReservedInRun u k) → InRun w o.lanes o.zones run.chunk run.lines run.index
+    in_run : (k : NewObject) (run : IsReservedInRun u k) → InRun w o.lanes run.chunk run.lines run.index
     in_run k run = let free = reserved_run o header pool u s k run in record { inside = free.inside; described = free.is_run }
 
-    in_chunks : (k : NewObject) (has : IsReservedInChunks u k) → InChunks w o.lanes o.zones (64 * has.zone + has.first) has.count
+    in_chunks : (k : NewObject) (has : IsReservedInChunks u k) → InChunks w o.lanes (64 * has.zone + has.first) has.count
     in_chunks k has = free_in w o.lanes o.zones (64 * has.zone + has.first) has.count (some_count o header pool u s k has) (reserved_chunks o header pool u s k has)
 
     blocks_apart : (k m : NewObject) (a b : Block) → block_of k ≡ a → block_of m ≡ b → AreDisjoint a b → AreDisjoint (block_of k) (block_of m)

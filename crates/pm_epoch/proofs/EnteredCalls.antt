@@ -20,11 +20,12 @@ use Rattle.pm_view.specs.Views.{reserves}
 use Rattle.pm_world.specs.Fits.{LaneFits}
 use Rattle.pm_world.specs.History.{Flies, settled}
 use Rattle.pm_world.specs.Opening.{Opening}
-use Rattle.pm_crash.specs.CallBlocks.{IsMadeIn, NewObject, block_of, blocks_in, allocated_in}
+use Rattle.pm_crash.specs.CallBlocks.{IsMadeIn, NewObject, block_of, blocks_in}
 use Rattle.pm_crash.specs.CallChanges.{AllocatesNew, ChangesOf, FreesAt, bytes_published}
 use Rattle.pm_crash.specs.Held.{HoldsImage, HoldsPool, IsBlockOf, IsObjectAt, object_of}
 use Rattle.pm_crash.specs.HeapChanges.{AreDisjoint, CanChange, Frees, HeapChange, MayBeFreed, block_changed, run_at, HasItsObject, MayChange}
 use Rattle.pm_crash.specs.HeapChanges.HeapChange.{AllocatesChunks, AllocatesInRun, FreesChunks, FreesInRun}
+use Rattle.pm_crash.specs.Lying.{InRun}
 use Rattle.pm_crash.specs.NewObjects.{AreFreeChunks, HasNewObject, IsFreeInRun, block_of_chunks, block_of_run, IsWordOf}
 use Rattle.pm_crash.specs.OpenCall.{HasMade, call_words, IsPerformable, LiesInNew}
 use Rattle.pm_crash.specs.Pending.{published_in}
@@ -42,13 +43,13 @@ use Rattle.pm_crash.proofs.Standing.{standing_is_block}
 use Rattle.pm_epoch.specs.Epochs.{AllocatesInItsRun, AllocatesIts, AllocatesItsChunks, FreesIts, HasEnteredCall, HasEntriesFor, HoldsCommitted}
 use Rattle.pm_crash.specs.Reserved.{IsReservedFor, IsUnusedChunk, IsBorneOut}
 use Rattle.pm_epoch.proofs.OwnAllocations.{parts}
-use Rattle.pm_crash.proofs.BlocksApart.{InRun, run_chunks, runs_apart, whole_in}
+use Rattle.pm_crash.proofs.BlocksApart.{run_chunks, runs_apart, whole_in}
 use Rattle.pm_crash.proofs.ReservedBlocks.{found_freed}
 use Rattle.pm_crash.proofs.BorneOut.{free_chunks, free_run, overlaps_none}
 use Rattle.pm_epoch.proofs.StandingPools.{own_fits}
 use Rattle.pm_crash.proofs.ChangesApart.{some_of_object}
 use Rattle.pm_crash.proofs.KeptHeads.{allows_change}
-use Rattle.pm_crash.proofs.NewStay.{new_is_listed, new_there}
+use Rattle.pm_crash.proofs.NewStay.{new_there}
 use Rattle.pm_crash.proofs.PerformedNew.{stands_behind}
 use Rattle.pm_crash.proofs.UnreadBlocks.{free_in_chunk, free_unread, AreChunks, IsOneOfRun}
 use Rattle.pm_crash.proofs.WordsOfNew.{new_word}
@@ -122,9 +123,9 @@ module _ (w : ℕ → ℕ) (lanes zones : ℕ) (none : heap_fault w lanes zones 
   overlap a b same some some_too (inr behind) = omega (arith, same, some_too, behind)
 
   -- where a change may free this block of a run, its bit is set
-  set_in_run : (change : HeapChange) (c lines index : ℕ) → CanChange w lanes zones change → Frees lanes change (block_of_run lanes c lines index) → InRun w lanes zones c lines index → bit_at (w (chunk_word lanes c)) index ≡ 1
+  set_in_run : (change : HeapChange) (c lines index : ℕ) → CanChange w lanes zones change → Frees lanes change (block_of_run lanes c lines index) → InRun w lanes c lines index → bit_at (w (chunk_word lanes c)) index ≡ 1
   set_in_run (FreesInRun d many i) c lines index can frees mine =
-      let other : InRun w lanes zones d many i = record { inside = can.inside; described = can.is_run } in
+      let other : InRun w lanes d many i = record { inside = can.inside; described = can.is_run } in
       let some : 1 ≤ many = lines_of_block w lanes zones (block_of_run lanes d many i) none (freed_there (FreesInRun d many i) (offset_in (block_of_run lanes d many i)) can refl).is_there in
       let place : (block_of_run lanes c lines index).place ≡ (block_of_run lanes d many i).place = sym (ap (λ (b : Block). b.place) frees) in
       let long : many ≡ lines = ap (λ (b : Block). b.lines) frees in
@@ -383,7 +384,7 @@ module _ (o : Opening) (header : Header) (pool : PoolView) (u : View) (s : Stand
   unseen_new : (a : Action) → LiesInNew u a → IsUnseen w u.lanes u.zones a
   unseen_new a lies =
       let n : NewObject = lies.new in
-      let reserved : IsReservedFor u n = All-contains (IsReservedFor u) (allocated_in u) n borne_out.reserved (new_is_listed u n lies.is_new) in
+      let reserved : IsReservedFor u n = All-contains (IsReservedFor u) ((blocks_in u).made ++ (blocks_in u).dropped) n borne_out.made lies.is_new in
       let apart : (b : Block) → Contains (blocks w u.lanes u.zones) b → AreDisjoint (block_of n) b =
       λ b there. overlaps_none o header pool u s held.holds.no_fault n b reserved (two_same (λ (x y : ℕ). Contains (blocks w x y) b) u.lanes o.lanes u.zones o.zones fits.lane.lanes fits.lane.zones there) in
       let word : IsWordOf (block_of n) (entry_for a).word = new_word u a lies in

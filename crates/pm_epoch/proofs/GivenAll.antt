@@ -49,7 +49,7 @@ use Rattle.pm_epoch.specs.Epochs.{ReservesNoRun}
 use Rattle.pm_epoch.specs.GivingBack.{LieApart, MayGiveAllBack, MayGiveObjectBack, gives_back, with_given_back}
 use Rattle.pm_epoch.specs.Reserving.{RestsWithReserved}
 use Rattle.pm_epoch.proofs.GivenBlocks.{GivesAll, HasGiven, beside, has_given}
-use Rattle.pm_epoch.proofs.GivingSteps.{clears, may_give}
+use Rattle.pm_epoch.proofs.GivingSteps.{clears, early_where_empty, may_give, unlogged_where_empty}
 use Rattle.pm_epoch.proofs.GainedObjects.{stood}
 use Rattle.pm_epoch.proofs.KnowingLanes.{knows_at_work, none_freed}
 use Rattle.pm_epoch.proofs.NothingReserved.{rests_with_none}
@@ -67,7 +67,7 @@ apart_blocks ns apart i j d before low =
     let second : get_or (map block_of ns) j d ≡ block_of (get_or ns j none) = get_or-map block_of ns j none d fewer in
     subst (λ (b : Block). AreDisjoint b (get_or (map block_of ns) j d)) (sym first) (subst (λ (b : Block). AreDisjoint (block_of (get_or ns i none)) b) (sym second) (apart i j none before fewer))
 
-same_steps : (lanes : ℕ) (ns : List NewObject) → map (vacates_block lanes) (map block_of ns) ≡ gives_back lanes ns
+pub same_steps : (lanes : ℕ) (ns : List NewObject) → map (vacates_block lanes) (map block_of ns) ≡ gives_back lanes ns
 same_steps lanes ns = map-map (vacates_block lanes) block_of ns
 
 -- what is reserved lies so
@@ -114,12 +114,33 @@ given_all y shape ns all = given_part y shape ns [] (subst (λ (ms : List NewObj
 pub all_ready : (y : View) (shape : Shape) (ns : List NewObject) → GivesAll y shape (map block_of ns) → Ready y (gives_back y.lanes ns)
 all_ready y shape ns all = subst (Ready y) (same_steps y.lanes ns) (given_all y shape ns all).ready
 
+-- the bits of what it gave back are clear in its picture of the occupancy words
+pub given_bits_clear : (v x : View) (shape : Shape) (given : List Block) → GivesAll v shape given → HasGiven v.lanes v x shape given [] → x.freed ≡ [] → (at : Occ) (bit : ℕ) → IsKeptBit v.lanes given at bit
+    → bit_at (occ_in x at) bit ≡ 0
+given_bits_clear v x shape given all has nothing at bit is =
+    let of = kept_reserved v all.may.knows given all.keeps at bit is in
+    let knows = has.still.may.knows in
+    let here : IsOcc x.lanes x.zones at = subst (λ (z : View). IsOcc z.lanes z.zones at) (sym has.same) of.of_pool in
+    let taken_not : is_taken (slice_index x.words) x.lanes at bit ≡ false = subst (λ (z : View). is_taken (slice_index z.words) z.lanes at bit ≡ false) (sym has.same) (all.may.knows.apart at bit of.of_pool of.low (inl of.reserved)) in
+    let not_one : bit_at (occ_in x at) bit ≢ 1 = (λ one. ⊎_elim
+    (λ (taken : is_taken (slice_index x.words) x.lanes at bit ≡ true). false≢true (sym taken_not ∙ taken))
+    (λ (kept : (reserves x at bit || has_run_chunk x at || list_any (has_bit at bit) x.freed) ≡ true). ⊎_elim
+    (λ (own : (reserves x at bit || has_run_chunk x at) ≡ true). ⊎_elim
+    (λ (reserved : reserves x at bit ≡ true). ((has.left at bit of.low).0 reserved).1 is)
+    (λ (chunk : has_run_chunk x at ≡ true). false≢true (sym taken_not ∙ chunk_taken x knows at bit here chunk))
+    (or_cases (reserves x at bit) (has_run_chunk x at) own))
+    (λ (freed : list_any (has_bit at bit) x.freed ≡ true). false≢true (sym (ap (list_any (has_bit at bit)) nothing) ∙ freed))
+    (or_cases (reserves x at bit || has_run_chunk x at) (list_any (has_bit at bit) x.freed) kept))
+    ((knows.bits at bit here of.low).0 one)) in
+    let less = bit_at-lt (occ_in x at) bit in omega (arith, less, not_one)
+
 module _ (o : Opening) (header : Header) (pool : PoolView) (start y : View) (steps : List Step) (shape : Shape) where
   -- what the lane may give back
   gives_all : (ns : List NewObject) → MayGiveAllBack o header pool start steps y shape ns → GivesAll y shape (map block_of ns)
   gives_all ns m = record {
     may = record {
-      empty = inl m.idle;
+      early = early_where_empty y (inl m.idle);
+      unlogged = unlogged_where_empty y (inl m.idle);
       drained = m.drained;
       of_shape = m.of_shape;
       no_run = m.no_run;
@@ -189,20 +210,4 @@ module _ (o : Opening) (header : Header) (pool : PoolView) (start y : View) (ste
     -- ---- the picture
 
     pub bits_clear : (at : Occ) (bit : ℕ) → IsKeptBit y.lanes (map block_of ns) at bit → bit_at (occ_in x at) bit ≡ 0
-    bits_clear at bit is =
-        let all = gives_all ns m in
-        let of = kept_reserved y all.may.knows (map block_of ns) all.keeps at bit is in
-        let knows = all_given.still.may.knows in
-        let here : IsOcc x.lanes x.zones at = subst (λ (v : View). IsOcc v.lanes v.zones at) (sym all_given.same) of.of_pool in
-        let taken_not : is_taken (slice_index x.words) x.lanes at bit ≡ false = subst (λ (v : View). is_taken (slice_index v.words) v.lanes at bit ≡ false) (sym all_given.same) (all.may.knows.apart at bit of.of_pool of.low (inl of.reserved)) in
-        let not_one : bit_at (occ_in x at) bit ≢ 1 = (λ one. ⊎_elim
-        (λ (taken : is_taken (slice_index x.words) x.lanes at bit ≡ true). false≢true (sym taken_not ∙ taken))
-        (λ (has : (reserves x at bit || has_run_chunk x at || list_any (has_bit at bit) x.freed) ≡ true). ⊎_elim
-        (λ (kept : (reserves x at bit || has_run_chunk x at) ≡ true). ⊎_elim
-        (λ (reserved : reserves x at bit ≡ true). ((bits_left at bit of.low).0 reserved).1 is)
-        (λ (chunk : has_run_chunk x at ≡ true). false≢true (sym taken_not ∙ chunk_taken x knows at bit here chunk))
-        (or_cases (reserves x at bit) (has_run_chunk x at) kept))
-        (λ (freed : list_any (has_bit at bit) x.freed ≡ true). false≢true (sym (ap (list_any (has_bit at bit)) (none_freed o header pool start x (steps ++ gives_back y.lanes ns) works)) ∙ freed))
-        (or_cases (reserves x at bit || has_run_chunk x at) (list_any (has_bit at bit) x.freed) has))
-        ((knows.bits at bit here of.low).0 one)) in
-        let less = bit_at-lt (occ_in x at) bit in omega (arith, less, not_one)
+    bits_clear = given_bits_clear y x shape (map block_of ns) (gives_all ns m) all_given (none_freed o header pool start x (steps ++ gives_back y.lanes ns) works)

@@ -1,18 +1,23 @@
 -- Blocks that a lane alone reserved, given back one after another: it may make each step, and has of them no bit then, and each other bit as before.
-use Rattle.std.proofs.Common.{◌≡◌, ◌⊎◌, ◌↔◌, ⊎_elim, inl, inr, ℕ, zero, suc, ◌+◌, ◌*◌, ◌/◌, ◌%◌, ◌<◌, ◌≤◌, true, All, AllPairs, List, [], ◌∷◌, ◌++◌, map, slice_index, refl, sym, ap, ◌∙◌, subst, arith}
+use Rattle.std.proofs.Common.{◌≡◌, ◌⊎◌, ◌↔◌, ⊎_elim, inl, inr, ℕ, zero, suc, ◌+◌, ◌*◌, ◌/◌, ◌%◌, ◌<◌, ◌≤◌, ◌||◌, true, All, AllPairs, Contains, List, [], ◌∷◌, ◌++◌, map, slice_index, refl, sym, ap, ◌∙◌, subst, arith}
+use Rattle.std.specs.List.{list_any}
+use Rattle.std.proofs.lemmas.Bool.{or_cases, or_left, or_right}
 use Rattle.std.proofs.lemmas.List.Elements.{All-head, All-tail}
 use Rattle.pm_image.specs.declared.block.Block.{Block}
 use Rattle.pm_image.specs.Blocks.{chunk_word, descriptor_word}
 use Rattle.pm_layout.specs.declared.shape.Shape.{Shape}
 use Rattle.pm_view.specs.declared.occ.Occ.{Occ}
 use Rattle.pm_view.specs.declared.occ.Occ.TheVariants.{Run, Zone}
+use Rattle.pm_view.specs.Area.{is_in_area}
 use Rattle.pm_view.specs.Founds.{FoundAlone}
+use Rattle.pm_view.specs.Held.{is_held, is_reserved, is_under}
 use Rattle.pm_view.specs.Steps.{Step}
 use Rattle.pm_view.specs.Steps.Step.{Vacate}
 use Rattle.pm_view.specs.View.{View}
 use Rattle.pm_view.specs.Views.{after, after_all, reserves}
 use Rattle.pm_world.specs.Lawful.{Allowed, MayVacate}
 use Rattle.pm_world.specs.Sequences.{IsForeseen, Ready}
+use Rattle.pm_world.proofs.StepGive.{contains-filter}
 use Rattle.pm_blocks.specs.Giving.{vacates_block}
 use Rattle.pm_crash.specs.HeapChanges.{AreDisjoint}
 use Rattle.pm_crash.specs.HeldHistory.{DrawsEnded}
@@ -23,7 +28,7 @@ use Rattle.pm_reclaim.specs.KeptBlocks.{IsBitOf, IsKeptBit, Keeps, KeepsChunks, 
 use Rattle.pm_reclaim.specs.KnownTaken.{KnowsTaken}
 use Rattle.pm_reclaim.proofs.BlockBits.{chunks_bits, kept_inside, kept_reserved, run_bits}
 use Rattle.pm_reclaim.proofs.Keeping.{keeps_by}
-use Rattle.pm_epoch.proofs.GivingSteps.{ClearsBits, MayGive, allowed, clears, gives_still, left_reserved, may_give}
+use Rattle.pm_epoch.proofs.GivingSteps.{ClearsBits, MayGive, allowed, clears, gives_still, left_reserved, may_give, word_before}
 
 -- ---- blocks apart
 
@@ -86,11 +91,11 @@ kept_first lanes block kept at bit is = (0, block, omega arith, refl, is)
 kept_later : (lanes : ℕ) (block : Block) (kept : List Block) (at : Occ) (bit : ℕ) → IsKeptBit lanes kept at bit → IsKeptBit lanes (block ∷ kept) at bit
 kept_later lanes block kept at bit (k, other, low, same, is) = (suc k, other, omega (arith, low), same, is)
 
-kept_cases : (lanes : ℕ) (block : Block) (kept : List Block) (at : Occ) (bit : ℕ) → IsKeptBit lanes (block ∷ kept) at bit → IsBitOf lanes block at bit ⊎ IsKeptBit lanes kept at bit
+pub kept_cases : (lanes : ℕ) (block : Block) (kept : List Block) (at : Occ) (bit : ℕ) → IsKeptBit lanes (block ∷ kept) at bit → IsBitOf lanes block at bit ⊎ IsKeptBit lanes kept at bit
 kept_cases lanes block kept at bit (zero, other, low, same, is) = inl (subst (λ (b : Block). IsBitOf lanes b at bit) (sym same) is)
 kept_cases lanes block kept at bit (suc k, other, low, same, is) = inr (k, other, omega (arith, low), same, is)
 
-none_kept : (lanes : ℕ) (at : Occ) (bit : ℕ) → IsKeptBit lanes [] at bit → ⊥
+pub none_kept : (lanes : ℕ) (at : Occ) (bit : ℕ) → IsKeptBit lanes [] at bit → ⊥
 none_kept lanes at bit (k, other, low, same, is) = omega (arith, low)
 
 -- ---- one block
@@ -114,6 +119,9 @@ pub record GivesOne (lanes : ℕ) (v : View) (shape : Shape) (block : Block) (re
   pub owes : DrawsEnded v s
   pub still : GivesAll (after v s) shape rest
   pub same : after v s ≡ beside v (after v s)
+  -- it holds no word more, and knows still what it holds still
+  pub held : (i : ℕ) → is_held (after v s) i ≡ true → is_held v i ≡ true
+  pub known : (i : ℕ) → Contains v.known i → is_held (after v s) i ≡ true → Contains (after v s).known i
   pub left : (at : Occ) (bit : ℕ) → bit < 64 → (reserves (after v s) at bit ≡ true) ↔ ((reserves v at bit ≡ true) × (IsBitOf lanes block at bit → ⊥))
 
 module _ (v : View) (shape : Shape) (block : Block) (rest : List Block) (all : GivesAll v shape (block ∷ rest)) where
@@ -144,6 +152,12 @@ module _ (v : View) (shape : Shape) (block : Block) (rest : List Block) (all : G
       let between : AreDisjoint block other = subst (AreDisjoint block) same (all.apart 0 (suc k) other (omega arith) (omega (arith, low))) in
       (left_one at bit of.low).1 (of.reserved, λ one. no_bit_of_both v all.may.knows block other between at bit one is keeps_it keeps_other)
 
+  held_before : (i : ℕ) → is_held w i ≡ true → is_held v i ≡ true
+  held_before i is = ⊎_elim
+      (λ (mine : (is_in_area v.lane i || list_any (is_under i) v.locks) ≡ true). or_left (is_in_area v.lane i || list_any (is_under i) v.locks) (is_reserved v i) mine)
+      (λ (own : is_reserved w i ≡ true). or_right (is_in_area v.lane i || list_any (is_under i) v.locks) (is_reserved v i) (word_before v shape all.may c.word c.bits vacates i own))
+      (or_cases (is_in_area v.lane i || list_any (is_under i) v.locks) (is_reserved w i) is)
+
   gives_one : GivesOne v.lanes v shape block rest (Vacate c.word c.bits)
   gives_one = record {
     may = vacates;
@@ -157,6 +171,8 @@ module _ (v : View) (shape : Shape) (block : Block) (rest : List Block) (all : G
       apart = λ i j d before low. all.apart (suc i) (suc j) d (omega (arith, before)) (omega (arith, low));
     };
     same = refl;
+    held = held_before;
+    known = λ i there is. contains-filter (is_held w) v.known i there is;
     left = left_one;
   }
 
@@ -171,6 +187,8 @@ pub record HasGiven (lanes : ℕ) (v x : View) (shape : Shape) (given rest : Lis
   pub leads : Leads v (map (vacates_block lanes) given) x
   pub still : GivesAll x shape rest
   pub same : x ≡ beside v x
+  pub held : (i : ℕ) → is_held x i ≡ true → is_held v i ≡ true
+  pub known : (i : ℕ) → Contains v.known i → is_held x i ≡ true → Contains x.known i
   pub left : (at : Occ) (bit : ℕ) → bit < 64 → (reserves x at bit ≡ true) ↔ ((reserves v at bit ≡ true) × (IsKeptBit lanes given at bit → ⊥))
 
 pub has_given : (lanes : ℕ) (v : View) (shape : Shape) (given rest : List Block) → v.lanes ≡ lanes → GivesAll v shape (given ++ rest) → HasGiven lanes v (after_all v (map (vacates_block lanes) given)) shape given rest
@@ -180,6 +198,8 @@ has_given lanes v shape [] rest of all = record {
   leads = refl;
   still = all;
   same = refl;
+  held = λ i is. is;
+  known = λ i there is. there;
   left = λ at bit low. (λ has. (has, none_kept lanes at bit), λ both. both.0);
 }
 has_given lanes v shape (block ∷ given) rest of all =
@@ -193,6 +213,8 @@ has_given lanes v shape (block ∷ given) rest of all =
       leads = (first.may, first.found, first.owes, then.leads);
       still = then.still;
       same = then.same ∙ ap (λ (z : View). beside z x) first.same;
+      held = λ i is. first.held i (then.held i is);
+      known = λ i there is. then.known i (first.known i there (then.held i is)) is;
       left = λ at bit low. (
         λ has.
             let later = (then.left at bit low).0 has in

@@ -1,9 +1,10 @@
--- The step that gives back a block: the bits that it clears, that a lane which rests alone may make it where it reserved the block, and what it leaves.
-use Rattle.std.proofs.Common.{◌≡◌, ◌≢◌, ◌⊎◌, ◌↔◌, ⊎_elim, inl, inr, ℕ, ◌+◌, ◌-◌, ◌*◌, ◌/◌, ◌%◌, ◌^◌, ◌<◌, ◌≤◌, ◌++◌, true, false, All, [], ◌∷◌, slice_index, sym, ap, ◌∙◌, subst, arith}
+-- The step that gives back a block: the bits that it clears, that a lane alone may make it where it reserved the block and has nothing undrained, and what it leaves.
+use Rattle.std.proofs.Common.{◌≡◌, ◌≢◌, ◌⊎◌, ◌↔◌, ⊎_elim, inl, inr, ℕ, ◌+◌, ◌-◌, ◌*◌, ◌/◌, ◌%◌, ◌^◌, ◌<◌, ◌≤◌, ◌++◌, true, false, Bool, ◌&&◌, eqb, leb, All, List, [], ◌∷◌, slice_index, sym, ap, ◌∙◌, subst, arith}
 use Rattle.std.specs.Int.{bit_at}
 use Rattle.std.specs.List.{list_any}
-use Rattle.std.proofs.lemmas.Bool.{and_from, and_parts, cases_eq, cond-false, false_from_ne_true, false≢true}
+use Rattle.std.proofs.lemmas.Bool.{and_from, and_parts, cases_eq, cond-false, eq-eqb, eqb-true, false_from_ne_true, false≢true}
 use Rattle.std.proofs.lemmas.List.Elements.{All-nil}
+use Rattle.std.proofs.lemmas.List.Folds.{Any-from_list_any, list_any-from_Any}
 use Rattle.std.proofs.Math.Pow.{pow-lt}
 use Rattle.pm_layout.specs.Sizes.{blocks_of}
 use Rattle.pm_layout.specs.declared.shape.Shape.{Shape}
@@ -12,17 +13,19 @@ use Rattle.pm_image.specs.Blocks.{chunk_word}
 use Rattle.pm_view.specs.declared.change.Change.{Change}
 use Rattle.pm_view.specs.declared.occ.Occ.{Occ}
 use Rattle.pm_view.specs.declared.occ.Occ.TheVariants.{Run, Zone}
-use Rattle.pm_view.specs.Blocks.{covers, descriptor_word, is_run}
+use Rattle.pm_view.specs.Blocks.{covers, descriptor_word, is_chunk, is_run, page_told, zone_of}
+use Rattle.pm_view.specs.Held.{is_reserved}
 use Rattle.pm_view.specs.Log.{Log, Phase, no_log}
 use Rattle.pm_view.specs.Log.Phase.{Idle, Open}
 use Rattle.pm_view.specs.Steps.Step.{Vacate}
-use Rattle.pm_view.specs.View.{View}
-use Rattle.pm_view.specs.Views.{after, all_of_run, chunk_bit, exchanged, has_bit, has_chunk, is_made, reserves, without_taken, zone_at}
+use Rattle.pm_view.specs.View.{Taken, View}
+use Rattle.pm_view.specs.Views.{after, all_of_run, chunk_bit, exchanged, has_bit, has_chunk, is_made, is_same_occ, reserves, without_taken, zone_at}
 use Rattle.pm_world.specs.Entries.{is_entered}
 use Rattle.pm_world.specs.Heap.{IsOcc}
 use Rattle.pm_world.specs.Lanes.{IsOfShape}
 use Rattle.pm_world.specs.Lawful.{Allowed, IsEarly, IsGivenWhole, LiesInside, MayVacate}
 use Rattle.pm_world.specs.Records.{is_recorded}
+use Rattle.pm_world.proofs.Reserved.{occ_same, same_occ}
 use Rattle.pm_world.proofs.Vacated.{vacated_after, vacated_before, vacated_gone}
 use Rattle.pm_chunks.specs.Chunks.{chunk_bits}
 use Rattle.pm_chunks.proofs.ChunkBits.{bits_small}
@@ -75,14 +78,76 @@ module _ (lanes : ℕ) (block : Block) where
 
 -- ---- that it may be made
 
--- The lane rests in a pool of this shape, with no call open or one in which nothing was done, and nothing undrained, and knows what is taken; no chunk that it reserved is
--- a run.
+-- no word of what it reserved is recorded or entered
+abbrev pub IsUnlogged : View → Type 0
+IsUnlogged v = (i : ℕ) → is_reserved v i ≡ true → (is_recorded v.log.records i ≡ false) × (is_entered v.log.entries i ≡ false)
+
+-- The lane is early in its call, if any is open, in a pool of this shape, with nothing undrained, and logged no word of what it reserved. It knows what is taken, and no
+-- chunk that it reserved is a run.
 pub record MayGive (v : View) (shape : Shape) : Type 0 where
-  pub empty : (v.log ≡ no_log Idle) ⊎ (v.log ≡ no_log (Open [] []))
+  pub early : IsEarly v.log.phase
+  pub unlogged : IsUnlogged v
   pub drained : v.changes ≡ []
   pub of_shape : IsOfShape v shape
   pub no_run : ReservesNoRun v.lanes v
   pub knows : KnowsTaken v
+
+-- where its log is empty no call is open, or one in which nothing was done
+pub early_where_empty : (v : View) → (v.log ≡ no_log Idle) ⊎ (v.log ≡ no_log (Open [] [])) → IsEarly v.log.phase
+early_where_empty v = ⊎_elim (early_by Idle tt) (early_by (Open [] []) tt) where
+  early_by : (phase : Phase) → IsEarly phase → v.log ≡ no_log phase → IsEarly v.log.phase
+  early_by phase early is = subst IsEarly (sym (ap (λ (log : Log). log.phase) is)) early
+
+pub unlogged_where_empty : (v : View) → (v.log ≡ no_log Idle) ⊎ (v.log ≡ no_log (Open [] [])) → IsUnlogged v
+unlogged_where_empty v empty i own = ⊎_elim (unlogged_by Idle) (unlogged_by (Open [] [])) empty where
+  unlogged_by : (phase : Phase) → v.log ≡ no_log phase → (is_recorded v.log.records i ≡ false) × (is_entered v.log.entries i ≡ false)
+  unlogged_by phase is = (ap (λ (log : Log). is_recorded log.records i) is, ap (λ (log : Log). is_entered log.entries i) is)
+
+-- ---- words and bits
+
+-- what covers the word is one bit
+pub record HasCoveringBit (lanes : ℕ) (words : List ℕ) (at : Occ) (bits i : ℕ) : Type 0 where
+  pub bit : ℕ
+  pub set : bit_at bits bit ≡ 1
+  pub any : (more : ℕ) → bit_at more bit ≡ 1 → covers lanes words at more i ≡ true
+
+pub covering : (lanes : ℕ) (words : List ℕ) (at : Occ) (bits i : ℕ) → covers lanes words at bits i ≡ true → HasCoveringBit lanes words at bits i
+covering lanes words (Run place) bits i covered =
+    let bit : ℕ = (i % 512 / 8 - 1) / (slice_index words (descriptor_word lanes (place / 4096)) / 256) in
+    let there : Bool = eqb (i / 512) (place / 4096) && leb 8 (i % 512) in
+    let both = and_parts there (eqb (bit_at bits bit) 1) covered in
+    record { bit = bit; set = eqb-true (bit_at bits bit) 1 both.1; any = λ more set. and_from there (eqb (bit_at more bit) 1) both.0 (eq-eqb (bit_at more bit) 1 set) }
+covering lanes words (Zone zone) bits i covered =
+    let bit : ℕ = chunk_bit lanes (page_told lanes i) in
+    let there : Bool = is_chunk lanes (page_told lanes i) && eqb (zone_of lanes (page_told lanes i)) zone in
+    let both = and_parts there (eqb (bit_at bits bit) 1) covered in
+    record { bit = bit; set = eqb-true (bit_at bits bit) 1 both.1; any = λ more set. and_from there (eqb (bit_at more bit) 1) both.0 (eq-eqb (bit_at more bit) 1 set) }
+
+-- so it is reserved where that bit is
+pub word_reserved : (v : View) (at : Occ) (bit i : ℕ) → reserves v at bit ≡ true → ((more : ℕ) → bit_at more bit ≡ 1 → covers v.lanes v.words at more i ≡ true) → is_reserved v i ≡ true
+word_reserved v at bit i own covered =
+    let t = Any-from_list_any (has_bit at bit) v.reserved own in
+    let both = and_parts (is_same_occ at t.1.at) (eqb (bit_at t.1.bits bit) 1) t.4 in
+    list_any-from_Any (λ (b : Taken). covers v.lanes v.words b.at b.bits i) v.reserved
+    (t.0, t.1, t.2, t.3, subst (λ (o : Occ). covers v.lanes v.words o t.1.bits i ≡ true) (occ_same at t.1.at both.0) (covered t.1.bits (eqb-true (bit_at t.1.bits bit) 1 both.1)))
+
+-- and is there a bit where it is reserved
+pub record HasReservedBit (v : View) (i : ℕ) : Type 0 where
+  pub at : Occ
+  pub bit : ℕ
+  pub reserved : reserves v at bit ≡ true
+  pub any : (more : ℕ) → bit_at more bit ≡ 1 → covers v.lanes v.words at more i ≡ true
+
+pub reserved_by_bit : (v : View) (i : ℕ) → is_reserved v i ≡ true → HasReservedBit v i
+reserved_by_bit v i own =
+    let t = Any-from_list_any (λ (b : Taken). covers v.lanes v.words b.at b.bits i) v.reserved own in
+    let c = covering v.lanes v.words t.1.at t.1.bits i t.4 in
+    record {
+      at = t.1.at;
+      bit = c.bit;
+      reserved = list_any-from_Any (has_bit t.1.at c.bit) v.reserved (t.0, t.1, t.2, t.3, and_from (is_same_occ t.1.at t.1.at) (eqb (bit_at t.1.bits c.bit) 1) (same_occ t.1.at) (eq-eqb (bit_at t.1.bits c.bit) 1 c.set));
+      any = c.any;
+    }
 
 module _ (v : View) (shape : Shape) (may : MayGive v shape) where
   inside : (at : Occ) → IsOcc v.lanes v.zones at → LiesInside v at
@@ -99,13 +164,6 @@ module _ (v : View) (shape : Shape) (may : MayGive v shape) where
   given_whole (Run place) bits of = λ made. absurd (false≢true (sym (may.no_run (place / 4096) of.1) ∙ made))
   given_whole (Zone zone) bits of = λ page chunk same set. may.no_run page chunk
 
-  -- an empty log has no record and no entry
-  unlogged_by : (phase : Phase) (w : ℕ) → v.log ≡ no_log phase → (is_recorded v.log.records w ≡ false) × (is_entered v.log.entries w ≡ false)
-  unlogged_by phase w is = (ap (λ (log : Log). is_recorded log.records w) is, ap (λ (log : Log). is_entered log.entries w) is)
-
-  early_by : (phase : Phase) → IsEarly phase → v.log ≡ no_log phase → IsEarly v.log.phase
-  early_by phase early is = subst IsEarly (sym (ap (λ (log : Log). log.phase) is)) early
-
   may_vacate : (at : Occ) (bits : ℕ) → IsOcc v.lanes v.zones at → bits < 2 ^ 64 → ((bit : ℕ) → bit_at bits bit ≡ 1 → reserves v at bit ≡ true) → MayVacate v at bits
   may_vacate at bits of small own = record {
     there = record { of_pool = of; inside = inside at of };
@@ -113,8 +171,8 @@ module _ (v : View) (shape : Shape) (may : MayGive v shape) where
     own = λ bit set. inl (has_reserved at bit of (own bit set));
     whole = given_whole at bits of;
     drained = subst (All (λ (c : Change). covers v.lanes v.words at bits c.word ≡ false)) (sym may.drained) (All-nil (λ (c : Change). covers v.lanes v.words at bits c.word ≡ false));
-    unlogged = λ w covered. ⊎_elim (unlogged_by Idle w) (unlogged_by (Open [] []) w) may.empty;
-    early = ⊎_elim (early_by Idle tt) (early_by (Open [] []) tt) may.empty;
+    unlogged = λ w covered. let c = covering v.lanes v.words at bits w covered in may.unlogged w (word_reserved v at c.bit w (own c.bit c.set) c.any);
+    early = may.early;
   }
 
   -- the block of a run
@@ -189,6 +247,10 @@ module _ (v : View) (shape : Shape) (may : MayGive v shape) (at : Occ) (bits : �
     λ both. left_is v at bits may.knows vacates other bit ∙ vacated_after at bits vacates.small other bit v.reserved low (λ same set. both.1 (same, set)) both.0,
   )
 
+  -- a word that is reserved was
+  pub word_before : (i : ℕ) → is_reserved w i ≡ true → is_reserved v i ≡ true
+  word_before i own = let b = reserved_by_bit w i own in word_reserved v b.at b.bit i (reserved_before b.at b.bit b.reserved) b.any
+
   none_made : ReservesNoRun v.lanes w
   none_made page chunk = false_from_ne_true (is_made w page) (λ made.
       let both = and_parts (has_chunk w page) (is_run (slice_index v.words (descriptor_word v.lanes page))) made in
@@ -197,7 +259,8 @@ module _ (v : View) (shape : Shape) (may : MayGive v shape) (at : Occ) (bits : �
 
   pub gives_still : MayGive w shape
   gives_still = record {
-    empty = may.empty;
+    early = may.early;
+    unlogged = λ i own. may.unlogged i (word_before i own);
     drained = may.drained;
     of_shape = record { lanes = may.of_shape.lanes; zones = may.of_shape.zones; size = may.of_shape.size };
     no_run = none_made;

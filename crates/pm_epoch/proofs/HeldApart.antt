@@ -29,13 +29,14 @@ use Rattle.pm_world.proofs.Reserved.{reserved_apart}
 use Rattle.pm_crash.specs.Alone.{WorksAlone}
 use Rattle.pm_crash.specs.CallBlocks.{NewObject, block_of}
 use Rattle.pm_crash.specs.HeapChanges.{AreDisjoint, run_at}
+use Rattle.pm_crash.specs.Lying.{Lies}
 use Rattle.pm_crash.specs.NewObjects.{AreFreeChunks, IsFreeInRun, block_of_chunks, block_of_run}
 use Rattle.pm_crash.specs.OpenCall.{block_at_line}
 use Rattle.pm_crash.specs.Reserved.{IsReservedFor, IsReservedInChunks, IsReservedInRun, IsUnusedChunk}
 use Rattle.pm_crash.proofs.AloneCourse.{StandsAlone, begins_clean, begins_holds}
 use Rattle.pm_crash.proofs.AloneMemory.{memory_of}
 use Rattle.pm_crash.proofs.Apart.{size_of_block}
-use Rattle.pm_crash.proofs.BlockPlaces.{Lies, SameTaken, each_lies, free_chunks_apart, free_run_apart, lies_still}
+use Rattle.pm_crash.proofs.BlockPlaces.{SameTaken, each_lies, free_chunks_apart, free_run_apart, lies_still}
 use Rattle.pm_crash.proofs.BorneOut.{free_chunks, free_run}
 use Rattle.pm_crash.proofs.CleanWords.{clean_words_hold}
 use Rattle.pm_crash.proofs.FoundBlocks.{IsPageOf, found_of_words, page_of_chunk}

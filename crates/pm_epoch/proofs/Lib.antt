@@ -56,6 +56,8 @@ pub mod GivingSteps
 pub mod GivenBlocks
 pub mod ClosedCalls
 pub mod GivenAll
+pub mod ReservedWords
+pub mod GivenInCall
 pub mod RoomSteps
 pub mod FilledStill
 pub mod ReservedAside

@@ -1,5 +1,5 @@
 -- An object that a call of a lane alone made is not the pool's root: the root stands in a block of the words, and the object in none of these.
-use Rattle.std.proofs.Common.{◌≡◌, ◌≢◌, ⊎_elim, ℕ, ◌+◌, ◌*◌, ◌≤◌, Bool, true, false, cond, not, eqb, eqb-true, Contains, List, slice_index, None, Some, refl, sym, ap, ◌∙◌, arith}
+use Rattle.std.proofs.Common.{◌≡◌, ◌≢◌, ⊎_elim, ℕ, ◌+◌, ◌*◌, ◌≤◌, ◌++◌, Bool, true, false, cond, not, eqb, eqb-true, Contains, List, slice_index, None, Some, refl, sym, ap, ◌∙◌, arith}
 use Rattle.std.specs.List.{list_any}
 use Rattle.std.proofs.lemmas.Bool.{false≢true}
 use Rattle.std.proofs.lemmas.List.Elements.{All-contains, Contains-append_left}
@@ -17,10 +17,9 @@ use Rattle.pm_view.specs.Steps.{Step}
 use Rattle.pm_view.specs.View.{View}
 use Rattle.pm_world.specs.Opening.{Opening}
 use Rattle.pm_crash.specs.Alone.{WorksAlone}
-use Rattle.pm_crash.specs.CallBlocks.{NewObject, allocated_in, block_of, blocks_in}
+use Rattle.pm_crash.specs.CallBlocks.{NewObject, block_of, blocks_in}
 use Rattle.pm_crash.specs.Operations.{IsMade}
 use Rattle.pm_crash.specs.Reserved.{IsBorneOut, IsReservedFor, root_in}
-use Rattle.pm_crash.proofs.NewStay.{new_is_listed}
 use Rattle.pm_epoch.proofs.GainedObjects.{stood}
 use Rattle.pm_epoch.proofs.HeldApart.{block_has_lines, opening_apart, opening_has_lines, opening_has_no_fault}
 use Rattle.pm_epoch.proofs.StayingBorneOut.{root_stands}
@@ -56,5 +55,5 @@ module _ (o : Opening) (header : Header) (pool : PoolView) (start v : View) (ste
 
   pub made_is_no_root : (id : Oid) → IsBorneOut v → IsMade v id → root_in (slice_index v.words) ≢ Some id.off
   made_is_no_root id borne_out made is =
-      let listed : Contains (allocated_in v) made.new = new_is_listed v made.new (Contains-append_left (blocks_in v).made (blocks_in v).dropped made.new made.has) in
-      reserved_is_no_root made.new (All-contains (IsReservedFor v) (allocated_in v) made.new borne_out.reserved listed) (is ∙ ap (λ off. Some off) made.place)
+      let there : Contains ((blocks_in v).made ++ (blocks_in v).dropped) made.new = Contains-append_left (blocks_in v).made (blocks_in v).dropped made.new made.has in
+      reserved_is_no_root made.new (All-contains (IsReservedFor v) ((blocks_in v).made ++ (blocks_in v).dropped) made.new borne_out.made there) (is ∙ ap (λ off. Some off) made.place)

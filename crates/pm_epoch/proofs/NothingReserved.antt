@@ -19,14 +19,15 @@ use Rattle.pm_world.specs.Opening.{Opening}
 use Rattle.pm_world.specs.Records.{generation_of}
 use Rattle.pm_undo.specs.Working.{IsWorking}
 use Rattle.pm_crash.specs.Alone.{WorksAlone}
-use Rattle.pm_crash.specs.CallBlocks.{reserved_object}
+use Rattle.pm_crash.specs.CallBlocks.{CallBlocks, reserved_object}
 use Rattle.pm_crash.specs.Leading.{Leads}
 use Rattle.pm_crash.specs.Pending.{pending_before, pending_in}
-use Rattle.pm_crash.specs.Reserved.{IsBorneOut, IsReservedFor, root_in}
+use Rattle.pm_crash.specs.Reserved.{IsBorneOut, IsReservedFor, LiesFree, root_in}
 use Rattle.pm_crash.proofs.AloneCourse.{StandsAlone, begins_holds}
 use Rattle.pm_crash.proofs.Leading.{leads_then}
 use Rattle.pm_crash.proofs.PendingOn.{same_before}
 use Rattle.pm_crash.proofs.ReservedOn.{none_reserved}
+use Rattle.pm_crash.proofs.ReservedStays.{nothing_made}
 use Rattle.pm_crash.proofs.StillReserved.{HasSameHeads, reserved_still}
 use Rattle.pm_crash.specs.Reserving.{HasReserved}
 use Rattle.pm_epoch.specs.Epochs.{IsAtWorkAlone, ReservesNoRun}
@@ -114,13 +115,14 @@ module _ (o : Opening) (header : Header) (pool : PoolView) (start : View) (steps
   same_pending = pending_untold x untold ∙ same_before v x (begun_entries v)
 
   same_heads : HasSameHeads v x
-  same_heads = subst (HasSameHeads v) (sym is_next) (record { lanes = refl; zones = refl; reserved = refl; described = λ chunk inside. refl; root = refl })
+  same_heads = subst (HasSameHeads v) (sym is_next) (record { lanes = refl; zones = refl; reserved = refl; described = λ chunk inside. refl; bitmaps = λ chunk inside run. refl; root = refl })
 
   -- where what is reserved and pending stands then
   module _ (has : HasReserved x) (its : All (IsReservedFor v) (map reserved_object (pending_before v).reserved)) where
     bears_out : IsBorneOut x
     bears_out = record {
-      reserved = subst (All (IsReservedFor x)) (sym (none_allocated x untold)) (All-nil (IsReservedFor x));
+      made = subst (λ (b : CallBlocks). All (IsReservedFor x) (b.made ++ b.dropped)) (sym (nothing_made x untold)) (All-nil (IsReservedFor x));
+      free = subst (All (LiesFree x)) (sym (none_allocated x untold)) (All-nil (LiesFree x));
       pending = subst (λ (p : Pending). All (IsReservedFor x) (map reserved_object p.reserved)) (sym same_pending) (All-weaker (IsReservedFor v) (IsReservedFor x) (reserved_still v x same_heads) (map reserved_object (pending_before v).reserved) its);
       root = any_root x (root_in (slice_index x.words)) untold;
     }

@@ -1,8 +1,7 @@
 -- A lane alone reserves an object outside of a transaction, or is refused one, writes bytes into what it reserved, or is refused that: each is a call that has ended, and
 -- what is reserved stands.
-use Rattle.std.proofs.Common.{◌≡◌, inr, ℕ, ◌<◌, ◌≤◌, false, IsTrue, is_some, All, List, [], ◌∷◌, ◌++◌, length, map, slice_index, Option, Some, None, sym, ap, ◌∙◌, subst}
-use Rattle.std.proofs.lemmas.List.{append-nil}
-use Rattle.std.proofs.lemmas.List.Elements.{All-nil, All-weaker}
+use Rattle.std.proofs.Common.{◌≡◌, inr, ℕ, ◌<◌, ◌≤◌, false, IsTrue, is_some, All, List, [], ◌∷◌, ◌++◌, length, Option, Some, None, sym, ap, ◌∙◌, subst}
+use Rattle.std.proofs.lemmas.List.Elements.{All-nil}
 use Rattle.pm_header.specs.declared.header.Header.{Header}
 use Rattle.pm_image.specs.declared.block.Block.{Block}
 use Rattle.pm_layout.specs.Sizes.{class_of}
@@ -22,20 +21,19 @@ use Rattle.pm_view.specs.View.{Lock, Told, View}
 use Rattle.pm_world.specs.Opening.{Opening}
 use Rattle.pm_alloc.specs.NewObjects.{CanMakeObject}
 use Rattle.pm_crash.specs.Alone.{WorksAlone}
-use Rattle.pm_crash.specs.CallBlocks.{AgreesOnRoot, CallBlocks, NewObject, allocated_in, blocks_in, blocks_told, no_blocks, reserved_in, reserved_object}
+use Rattle.pm_crash.specs.CallBlocks.{CallBlocks, NewObject, blocks_in, blocks_told, no_blocks}
 use Rattle.pm_crash.specs.HeldHistory.{IsEndedCall}
 use Rattle.pm_crash.specs.Operations.{KeepsLog, Tells}
 use Rattle.pm_crash.specs.Pending.{pending_before, pending_in, pending_told}
-use Rattle.pm_crash.specs.Reserved.{IsBorneOut, IsReservedFor, root_in}
+use Rattle.pm_crash.specs.Reserved.{IsBorneOut}
 use Rattle.pm_crash.specs.Reserving.{HasReserved, IsReserveReason, PutsOutside, RefusesPut, RefusesReserve, RefusesReserveOutside, ReservesObject, ReservesOutside, WritesReserved, put_refusal}
-use Rattle.pm_crash.proofs.CallBlocks.{agrees_once_more, allocated_once_more}
 use Rattle.pm_crash.proofs.Continued.{two_same}
-use Rattle.pm_crash.proofs.PendingOn.{pending_once_more, same_before}
+use Rattle.pm_crash.proofs.PendingOn.{same_before}
 use Rattle.pm_crash.proofs.PutOn.{none_refuses, refused_put_keeps}
 use Rattle.pm_crash.proofs.ReservedMore.{refused_keeps}
 use Rattle.pm_crash.proofs.ReservedOutside.{outside_reserve_steps}
 use Rattle.pm_crash.proofs.ReservedWritten.{reserved_write_keeps}
-use Rattle.pm_crash.proofs.StillReserved.{reserved_still as still_by_heads, same_root as root_by_heads, HasSameHeads}
+use Rattle.pm_crash.proofs.StillReserved.{borne_refused}
 use Rattle.pm_epoch.specs.Allocating.{HasLockedFreed, HasSameDescriptors, MakesObject, object_in_block}
 use Rattle.pm_epoch.specs.Reserving.{IsAloneBetween, IsAloneOutside, IsAloneOutsideStill, with_object_reserved}
 use Rattle.pm_epoch.proofs.FreedLocks.{none_freed}
@@ -161,21 +159,7 @@ module _ (o : Opening) (header : Header) (pool : PoolView) (start : View) (steps
     -- a put that is refused needs no room
     refused_put_borne : HasSameDescriptors v w → (id : Oid) (off : ℕ) (bytes : List ℕ) (r : Refusal) → Tells v w (WriteReserved id off bytes) (Some (Refused r)) → IsBorneOut w
     refused_put_borne described id off bytes r tells =
-        let op : Operation = WriteReserved id off bytes in
-        let reply : Option Value = Some (Refused r) in
-        let heads : HasSameHeads v w = same_heads o header pool start v w steps more c.outside.works works tells.keeps same described in
-        let still : (n : NewObject) → IsReservedFor v n → IsReservedFor w n = still_by_heads v w heads in
-        record {
-          reserved =
-              subst (All (IsReservedFor w)) (sym (allocated_once_more v w op reply tells.keeps.entries tells.call ∙ append-nil (allocated_in v)))
-              (All-weaker (IsReservedFor v) (IsReservedFor w) still (allocated_in v) c.outside.borne_out.reserved);
-          pending =
-              subst (λ (p : Pending). All (IsReservedFor w) (map reserved_object p.reserved)) (sym (pending_once_more v w op reply tells.keeps.entries tells.call))
-              (All-weaker (IsReservedFor v) (IsReservedFor w) still (reserved_in v) c.outside.borne_out.pending);
-          root =
-              subst (AgreesOnRoot w) (sym (root_by_heads v w heads))
-              (agrees_once_more v w op reply tells.keeps.entries tells.call (root_in (slice_index v.words)) c.outside.borne_out.root tt);
-        }
+        borne_refused v w (same_heads o header pool start v w steps more c.outside.works works tells.keeps same described) (WriteReserved id off bytes) r tells.keeps.entries tells.call tt c.outside.borne_out
 
     pub refused_put_outside : (id : Oid) (off : ℕ) (bytes : List ℕ) (r : Refusal) → RefusesPut v w id off bytes r → IsAloneOutside o header pool start more w shape
     refused_put_outside id off bytes r refuses =

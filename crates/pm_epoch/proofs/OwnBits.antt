@@ -7,10 +7,11 @@ use Rattle.pm_model.specs.Actions.{Action}
 use Rattle.pm_view.specs.declared.occ.Occ.TheVariants.{Run, Zone}
 use Rattle.pm_crash.specs.HeapChanges.{AreDisjoint, HeapChange, block_changed, MayChange}
 use Rattle.pm_crash.specs.HeapChanges.HeapChange.{AllocatesChunks, AllocatesInRun, FreesChunks, FreesInRun}
+use Rattle.pm_crash.specs.Lying.{InChunks, InRun}
 use Rattle.pm_crash.specs.NewObjects.{block_of_chunks, block_of_run}
 use Rattle.pm_crash.specs.Publishing.{AreInOrder, MayFollow}
 use Rattle.pm_crash.specs.Publishing.Published.{Changes, Performs}
-use Rattle.pm_crash.proofs.BlocksApart.{InChunks, InRun, chunks_apart, free_in, run_chunks, runs_apart, whole_in}
+use Rattle.pm_crash.proofs.BlocksApart.{chunks_apart, free_in, run_chunks, runs_apart, whole_in}
 use Rattle.pm_epoch.specs.Epochs.{AreOfOwnBits, ChangesBit, HasNoBitOf}
 
 module _ (w : ℕ → ℕ) (lanes zones : ℕ) where
@@ -19,8 +20,8 @@ module _ (w : ℕ → ℕ) (lanes zones : ℕ) where
   module _ (none : heap_fault w lanes zones ≡ None) where
     -- what a change is of
     data Place (a : HeapChange) : Type 0 where
-      AtRun : (c lines index : ℕ) → InRun w lanes zones c lines index → block_changed lanes a ≡ block_of_run lanes c lines index → ChangesBit lanes a (Run (8 * chunk_word lanes c)) index → Place a
-      AtChunks : (c chunks : ℕ) → InChunks w lanes zones c chunks → block_changed lanes a ≡ block_of_chunks lanes c chunks → ((bit : ℕ) → c % 64 ≤ bit → bit < c % 64 + chunks → ChangesBit lanes a (Zone (c / 64)) bit) → Place a
+      AtRun : (c lines index : ℕ) → InRun w lanes c lines index → block_changed lanes a ≡ block_of_run lanes c lines index → ChangesBit lanes a (Run (8 * chunk_word lanes c)) index → Place a
+      AtChunks : (c chunks : ℕ) → InChunks w lanes c chunks → block_changed lanes a ≡ block_of_chunks lanes c chunks → ((bit : ℕ) → c % 64 ≤ bit → bit < c % 64 + chunks → ChangesBit lanes a (Zone (c / 64)) bit) → Place a
 
     place_of : (a : HeapChange) → MayChange w lanes zones a → Place a
     place_of (AllocatesInRun c lines index kind bytes) can = AtRun c lines index (record { inside = can.inside; described = can.is_run }) refl (inl (refl, refl))

@@ -23,14 +23,14 @@ use Rattle.pm_world.specs.Opening.{Opening}
 use Rattle.pm_world.specs.Records.{records_generation}
 use Rattle.pm_world.proofs.Slots.{word_recorded}
 use Rattle.pm_crash.specs.Alone.{WorksAlone}
-use Rattle.pm_crash.specs.CallBlocks.{IsMadeIn, NewObject, allocated_in, block_of, blocks_in, is_freed_in, object_made, reserved_object}
+use Rattle.pm_crash.specs.CallBlocks.{IsMadeIn, NewObject, block_of, blocks_in, is_freed_in, object_made, reserved_object}
 use Rattle.pm_crash.specs.HeapChanges.{AreDisjoint}
 use Rattle.pm_crash.specs.OpenCall.{block_at_line}
 use Rattle.pm_crash.specs.Operations.{KeepsKnown, KeepsLog, Tells}
 use Rattle.pm_crash.specs.Pending.{pending_in}
-use Rattle.pm_crash.specs.Reserved.{IsBorneOut, IsReservedFor, root_in}
+use Rattle.pm_crash.specs.Reserved.{IsBorneOut, IsReservedFor, LiesFree, root_in}
 use Rattle.pm_crash.proofs.AloneCourse.{StandsAlone}
-use Rattle.pm_crash.proofs.NewStay.{new_is_listed}
+use Rattle.pm_crash.proofs.LyingStill.{free_within, reserved_lies_free}
 use Rattle.pm_crash.proofs.StillReserved.{each_reserved}
 use Rattle.pm_alloc.specs.NewObjects.{CanMakeObject}
 use Rattle.pm_epoch.specs.Allocating.{HasLockedFreed, IsFoundAt, MakesObject, object_in_block}
@@ -73,7 +73,7 @@ module _ (o : Opening) (header : Header) (pool : PoolView) (start : View) (steps
   apart_found l lines there is = found_apart o header pool u s (opening_has_no_fault o header pool start v steps c.works) n gains.own l lines (held_still l there) is
 
   pub apart_made : (m : NewObject) → Contains ((blocks_in v).made ++ (blocks_in v).dropped) m → AreDisjoint (block_of n) (block_of m)
-  apart_made m there = made_apart v u n gains o header pool s m (All-contains (IsReservedFor v) (allocated_in v) m c.borne_out.reserved (new_is_listed v m there))
+  apart_made m there = made_apart v u n gains o header pool s m (All-contains (IsReservedFor v) ((blocks_in v).made ++ (blocks_in v).dropped) m c.borne_out.made there)
 
   -- what the call freed it found under a lock, and so elsewhere
   not_freed : IsFoundAt v n.off → ⊥
@@ -173,3 +173,10 @@ module _ (o : Opening) (header : Header) (pool : PoolView) (start : View) (steps
         let can = may_make_another o header pool start v steps c.works shape c.can c.locked u size kind block makes in
         let told : Step = Tell op reply in
         (on.0 ++ told ∷ [], subst (λ (all : List Step). WorksAlone o header pool start all w) (append_assoc steps on.0 (told ∷ [])) (works_where_told u op reply o header pool start (steps ++ on.0) can.run.working on.1))
+
+    -- what lay in room that the words had free lies so still, and so does the object's block
+    pub still_free : (m : NewObject) → LiesFree v m → LiesFree w m
+    still_free = let on = works_still in free_within o header pool start v w steps (steps ++ on.0) c.works on.1
+
+    pub own_free : LiesFree w n
+    own_free = let on = works_still in reserved_lies_free o header pool start w (steps ++ on.0) on.1 n own

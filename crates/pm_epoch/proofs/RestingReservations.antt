@@ -22,15 +22,15 @@ use Rattle.pm_world.specs.Records.{generation_of}
 use Rattle.pm_reclaim.specs.KeptBlocks.{Keeps}
 use Rattle.pm_alloc.specs.NewObjects.{CanMakeObject}
 use Rattle.pm_crash.specs.Alone.{WorksAlone, standing}
-use Rattle.pm_crash.specs.CallBlocks.{AgreesOnRoot, AllTellOfRoot, NewObject, allocated_in, allocated_told, block_of, reserved_in, reserved_object}
+use Rattle.pm_crash.specs.CallBlocks.{AgreesOnRoot, AllTellOfRoot, CallBlocks, NewObject, allocated_in, allocated_told, block_of, reserved_in, reserved_object}
 use Rattle.pm_crash.specs.HeldHistory.{IsEndedCall}
 use Rattle.pm_crash.specs.Leading.{Leads}
 use Rattle.pm_crash.specs.Pending.{pending_before, pending_from, pending_in}
-use Rattle.pm_crash.specs.Reserved.{IsReservedFor, root_in}
+use Rattle.pm_crash.specs.Reserved.{IsReservedFor, LiesFree, root_in}
 use Rattle.pm_crash.specs.Reserving.{HasReserved, RestsBehind}
 use Rattle.pm_crash.proofs.Leading.{leads_then}
 use Rattle.pm_crash.proofs.PendingOn.{calls_further, same_before}
-use Rattle.pm_crash.proofs.ReservedStays.{rest_stays}
+use Rattle.pm_crash.proofs.ReservedStays.{nothing_made, rest_stays}
 use Rattle.pm_epoch.specs.Epochs.{RestsBehindCall}
 use Rattle.pm_epoch.specs.Reserving.{IsAloneBetween, IsAloneOutside, RestsWithReserved, begins_next, with_next_call}
 use Rattle.pm_epoch.proofs.FreeChunks.{no_run_reserved}
@@ -76,7 +76,8 @@ rests_between o header pool start steps w next shape has rests still works can n
     no_entries = no_entries;
     free = free;
     borne_out = record {
-      reserved = subst (All (IsReservedFor next)) (sym (none_allocated next rests.call)) (All-nil (IsReservedFor next));
+      made = subst (λ (b : CallBlocks). All (IsReservedFor next) (b.made ++ b.dropped)) (sym (nothing_made next rests.call)) (All-nil (IsReservedFor next));
+      free = subst (All (LiesFree next)) (sym (none_allocated next rests.call)) (All-nil (LiesFree next));
       pending = subst (λ (p : Pending). All (IsReservedFor next) (map reserved_object p.reserved)) (sym (pending_behind_call w next rests)) still;
       root = any_root next (root_in (slice_index next.words)) rests.call;
     };

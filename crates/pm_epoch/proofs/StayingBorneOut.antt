@@ -1,5 +1,5 @@
 -- What a lane has bears out what its call told of the heap, from the call's begin on, behind each operation that allocates nothing, and where bytes are written into what is reserved.
-use Rattle.std.proofs.Common.{◌≡◌, ℕ, All, List, [], slice_index, Option, None, sym, ap, ◌∙◌, subst, arith}
+use Rattle.std.proofs.Common.{◌≡◌, ℕ, All, List, [], ◌++◌, slice_index, Option, None, sym, ap, ◌∙◌, subst, arith}
 use Rattle.std.proofs.lemmas.List.Elements.{All-nil}
 use Rattle.pm_header.specs.declared.header.Header.{Header}
 use Rattle.pm_objects.specs.declared.calls.Operation.{Operation}
@@ -12,25 +12,28 @@ use Rattle.pm_view.specs.Steps.{Step}
 use Rattle.pm_view.specs.View.{View}
 use Rattle.pm_world.specs.Opening.{Opening}
 use Rattle.pm_crash.specs.Alone.{WorksAlone}
-use Rattle.pm_crash.specs.CallBlocks.{LeavesReserved, TellsOfRoot, allocated_in, allocated_told, reserved_in}
+use Rattle.pm_crash.specs.CallBlocks.{CallBlocks, LeavesReserved, TellsOfRoot, allocated_in, allocated_told, blocks_in, blocks_told, no_blocks, reserved_in}
 use Rattle.pm_crash.specs.Operations.{BeginsCall, KeepsLane, Tells}
 use Rattle.pm_crash.specs.Pending.{pending_before, pending_in}
-use Rattle.pm_crash.specs.Reserved.{IsBorneOut, IsReservedFor, root_in}
+use Rattle.pm_crash.specs.Reserved.{IsBorneOut, IsReservedFor, LiesFree, root_in}
 use Rattle.pm_crash.specs.Reserving.{HasReserved, WritesReserved}
 use Rattle.pm_crash.proofs.BornePuts.{borne_put}
 use Rattle.pm_crash.proofs.CallBlocks.{first_agrees}
+use Rattle.pm_crash.proofs.LyingStill.{bitmaps_within}
 use Rattle.pm_crash.proofs.StillReserved.{HasSameHeads, borne_told}
 use Rattle.pm_epoch.specs.Allocating.{HasSameDescriptors}
 use Rattle.pm_epoch.proofs.GainedObjects.{stood}
 use Rattle.pm_epoch.proofs.PutDescriptors.{put_describes}
 
 pub begun_borne_out : (v : View) (wants : List Want) → BeginsCall v wants → All (IsReservedFor v) (reserved_in v) → IsBorneOut v
-unfolding allocated_told
+unfolding allocated_told blocks_told
 begun_borne_out v wants begins pending =
     let none : allocated_in v ≡ [] = ap (allocated_told (pending_before v)) begins.call in
+    let none_made : blocks_in v ≡ no_blocks = ap (blocks_told (pending_before v) no_blocks) begins.call in
     record {
-      reserved = subst (All (IsReservedFor v)) (sym none) (All-nil (IsReservedFor v));
+      made = subst (λ (b : CallBlocks). All (IsReservedFor v) (b.made ++ b.dropped)) (sym none_made) (All-nil (IsReservedFor v));
       pending = pending;
+      free = subst (All (LiesFree v)) (sym none) (All-nil (LiesFree v));
       root = first_agrees v (Begin wants) None begins.call (root_in (slice_index v.words)) tt;
     }
 
@@ -38,7 +41,7 @@ begun_borne_out v wants begins pending =
 pub root_stands : (o : Opening) (header : Header) (pool : PoolView) (start v : View) (steps : List Step) → WorksAlone o header pool start steps v → slice_index v.words 64 ≡ slice_index o.words 64
 root_stands o header pool start v steps works = (stood o header pool start v steps works).goes.front 64 (omega arith)
 
--- the same is reserved, and tells the same
+-- the same is reserved, and the words tell the same of blocks: within one world the bitmap of a run is the same where the chunk is described so
 pub same_heads : (o : Opening) (header : Header) (pool : PoolView) (start v w : View) (steps more : List Step) → WorksAlone o header pool start steps v → WorksAlone o header pool start more w → KeepsLane v w
     → w.reserved ≡ v.reserved → HasSameDescriptors v w → HasSameHeads v w
 same_heads o header pool start v w steps more works on lane reserved same = record {
@@ -46,6 +49,7 @@ same_heads o header pool start v w steps more works on lane reserved same = reco
   zones = lane.zones;
   reserved = reserved;
   described = same;
+  bitmaps = λ c in_pool run. bitmaps_within o header pool start v w steps more works on lane.lanes lane.zones c in_pool (same c in_pool) run;
   root = root_stands o header pool start w more on ∙ sym (root_stands o header pool start v steps works);
 }
 

@@ -15,10 +15,10 @@ use Rattle.pm_objects.specs.declared.pool.PoolView.{PoolView}
 use Rattle.pm_view.specs.Steps.{Step}
 use Rattle.pm_view.specs.View.{View}
 use Rattle.pm_world.specs.Opening.{Opening}
-use Rattle.pm_crash.specs.CallBlocks.{AgreesOnRoot, CallBlocks, NewObject, allocated_in, reserved_in, reserved_object}
+use Rattle.pm_crash.specs.CallBlocks.{AgreesOnRoot, CallBlocks, NewObject, allocated_in, blocks_in, reserved_in, reserved_object}
 use Rattle.pm_crash.specs.Operations.{Tells}
 use Rattle.pm_crash.specs.Pending.{pending_in}
-use Rattle.pm_crash.specs.Reserved.{IsBorneOut, IsReservedFor, root_in}
+use Rattle.pm_crash.specs.Reserved.{IsBorneOut, IsReservedFor, LiesFree, root_in}
 use Rattle.pm_crash.specs.Reserving.{HasReserved, ReservesObject}
 use Rattle.pm_crash.proofs.CallBlocks.{agrees_once_more, allocated_once_more, blocks_once_more}
 use Rattle.pm_crash.proofs.PendingOn.{pending_once_more}
@@ -26,7 +26,7 @@ use Rattle.pm_crash.proofs.ReserveOn.{reserve_goes_on}
 use Rattle.pm_crash.proofs.ReservedMore.{keeps_reserved}
 use Rattle.pm_epoch.specs.Allocating.{HasLockedFreed, IsCallAlone, IsCallAloneStill, MakesObject, object_in_block}
 use Rattle.pm_epoch.specs.Reserving.{with_object_reserved}
-use Rattle.pm_epoch.proofs.PlacedObjects.{all_found, apart_found, apart_made, can_still, freed_same, keeps, logs, made, own, same_root, stands, still_reserved, tells, unfreed, unreserved, works_still, zeros, MayMakeAlone}
+use Rattle.pm_epoch.proofs.PlacedObjects.{all_found, apart_found, apart_made, can_still, freed_same, keeps, logs, made, own, own_free, same_root, stands, still_free, still_reserved, tells, unfreed, unreserved, works_still, zeros, MayMakeAlone}
 use Rattle.pm_epoch.proofs.ToldObjects.{may_make}
 
 module _ (o : Opening) (header : Header) (pool : PoolView) (start : View) (steps : List Step) (v : View) (shape : Shape) (may : MayMakeAlone o header pool start steps v shape) (u : View) (size kind : ℕ) (block : Block)
@@ -77,10 +77,17 @@ module _ (o : Opening) (header : Header) (pool : PoolView) (start : View) (steps
   here : IsReservedFor w n
   here = own o header pool start steps v shape may u size kind block makes op reply
 
-  allocated_in_w : All (IsReservedFor w) (allocated_in w)
-  allocated_in_w =
-      subst (All (IsReservedFor w)) (sym (allocated_once_more v w op reply told.keeps.entries told.call))
-      (All-push (IsReservedFor w) (allocated_in v) n (All-weaker (IsReservedFor v) (IsReservedFor w) still (allocated_in v) may.borne_out.reserved) here)
+  made_in_w : All (IsReservedFor w) ((blocks_in w).made ++ (blocks_in w).dropped)
+  made_in_w =
+      subst (λ (b : CallBlocks). All (IsReservedFor w) (b.made ++ b.dropped)) (sym (blocks_once_more v w op reply told.keeps.entries told.call))
+      (All-weaker (IsReservedFor v) (IsReservedFor w) still ((blocks_in v).made ++ (blocks_in v).dropped) may.borne_out.made)
+
+  free_in_w : All (LiesFree w) (allocated_in w)
+  free_in_w =
+      subst (All (LiesFree w)) (sym (allocated_once_more v w op reply told.keeps.entries told.call))
+      (All-push (LiesFree w) (allocated_in v) n
+      (All-weaker (LiesFree v) (LiesFree w) (still_free o header pool start steps v shape may u size kind block makes op reply) (allocated_in v) may.borne_out.free)
+      (own_free o header pool start steps v shape may u size kind block makes op reply))
 
   -- what it reserved
   abbrev new : Reservation
@@ -103,7 +110,7 @@ module _ (o : Opening) (header : Header) (pool : PoolView) (start : View) (steps
       (subst (AgreesOnRoot v) (same_root o header pool start steps v shape may u size kind block makes) may.borne_out.root) tt
 
   pub bears_out : IsBorneOut w
-  bears_out = record { reserved = allocated_in_w; pending = pending_in_w; root = root_agrees }
+  bears_out = record { made = made_in_w; pending = pending_in_w; free = free_in_w; root = root_agrees }
 
   freed_still : HasLockedFreed w
   freed_still =

@@ -45,7 +45,7 @@ module _ (o : Opening) (header : Header) (pool : PoolView) (start : View) (steps
   keeps = subst (KeepsKnown v) (sym is_next) (record { known = λ i out there. refl; recorded = λ i out there. refl })
 
   heads : HasSameHeads v x
-  heads = subst (HasSameHeads v) (sym is_next) (record { lanes = refl; zones = refl; reserved = refl; described = λ chunk inside. refl; root = refl })
+  heads = subst (HasSameHeads v) (sym is_next) (record { lanes = refl; zones = refl; reserved = refl; described = λ chunk inside. refl; bitmaps = λ chunk inside run. refl; root = refl })
 
   can_next : CanMakeObject x shape
   can_next = subst (λ (w : View). CanMakeObject w shape) (sym is_next) (can_where_so v (known_then v) v.call v.actions z.seen v.number v.entries (known_still v) c.outside.can.run.working.undrawn shape c.outside.can)

@@ -1,5 +1,6 @@
--- What a lane that is alone reserved, given back block by block, once its calls left nothing of it pending (pmemobj_cancel(3); docs/MODEL.md, "From call to call").
-use Rattle.std.specs.Prelude.{◌≡◌, ℕ, All, AllPairs, List, [], map}
+-- What a lane that is alone reserved, given back block by block, once its calls left nothing of it pending, or within a call that uses it no more (pmemobj_cancel(3);
+-- docs/MODEL.md, "From call to call").
+use Rattle.std.specs.Prelude.{◌≡◌, ℕ, All, AllPairs, Contains, List, [], map}
 use Rattle.pm_header.specs.declared.header.Header.{Header}
 use Rattle.pm_layout.specs.declared.shape.Shape.{Shape}
 use Rattle.pm_objects.specs.declared.pool.PoolView.{PoolView}
@@ -9,9 +10,12 @@ use Rattle.pm_view.specs.Steps.{Step}
 use Rattle.pm_view.specs.View.{View}
 use Rattle.pm_view.specs.Views.{after_all}
 use Rattle.pm_world.specs.Lanes.{IsOfShape}
+use Rattle.pm_world.specs.Lawful.{IsEarly}
 use Rattle.pm_world.specs.Opening.{Opening}
 use Rattle.pm_blocks.specs.Giving.{MayGiveBackBlock, vacates_block}
+use Rattle.pm_crash.specs.Alone.{WorksAlone}
 use Rattle.pm_crash.specs.CallBlocks.{NewObject, block_of}
+use Rattle.pm_crash.specs.GivingUnused.{in_use}
 use Rattle.pm_crash.specs.HeapChanges.{AreDisjoint}
 use Rattle.pm_crash.specs.Pending.{pending_before}
 use Rattle.pm_crash.specs.Reserved.{IsReservedFor}
@@ -46,3 +50,19 @@ pub record MayGiveAllBack (o : Opening) (header : Header) (pool : PoolView) (sta
 -- the lane of a pool of this shape may give back the object's block, as `give_back` of `pm_blocks` asks
 abbrev pub MayGiveObjectBack : View → Shape → NewObject → Type 0
 MayGiveObjectBack v shape n = IsOfShape v shape × MayGiveBackBlock v (block_of n)
+
+-- ---- within a call
+
+-- The lane works alone on a pool of this shape, early in its call, with nothing undrained and no redo entry; no chunk that it reserved is a run, and what its call uses
+-- lies in what it reserved. So do these objects, each apart from the others and from what the call uses.
+pub record MayGiveInCall (o : Opening) (header : Header) (pool : PoolView) (start : View) (steps : List Step) (v : View) (shape : Shape) (ns : List NewObject) : Type 0 where
+  pub works : WorksAlone o header pool start steps v
+  pub of_shape : IsOfShape v shape
+  pub early : IsEarly v.log.phase
+  pub drained : v.changes ≡ []
+  pub unentered : v.log.entries ≡ []
+  pub no_run : ReservesNoRun v.lanes v
+  pub used : All (IsReservedFor v) (in_use v)
+  pub reserved : All (IsReservedFor v) ns
+  pub apart : LieApart ns
+  pub apart_used : (n m : NewObject) → Contains ns n → Contains (in_use v) m → AreDisjoint (block_of n) (block_of m)

@@ -5,15 +5,18 @@
 //! that pool, from which the next call begins (`a_published_pool_stands`); that a world lets a lane make objects, and publish what it reserved
 //! and found; and that an object which a lane alone made is one that its call may tell (`a_lane_alone_may_tell_its_new_object`), or tell as
 //! reserved (`a_lane_alone_may_reserve_its_new_object`), and that what it has reserved stands from call to call
-//! (`a_lane_alone_rests_with_what_it_reserved`), until the lane gives it back (`a_lane_alone_gives_back_what_it_reserved`). No code runs. It
-//! stands on `pm_sealed` for what a sealed log leaves, and on `pm_crash` for what entries make of a pool; docs/MODEL.md.
+//! (`a_lane_alone_rests_with_what_it_reserved`), until the lane gives it back (`a_lane_alone_gives_back_what_it_reserved`), or within a call that
+//! uses it no more (`a_lane_alone_gives_back_within_a_call`). No code runs. It stands on `pm_sealed` for what a sealed log leaves, and on
+//! `pm_crash` for what entries make of a pool; docs/MODEL.md.
 #![tactic(auto)]
 
 mod giving_back;
 mod laws;
 mod reserving;
 
-pub use giving_back::a_lane_alone_gives_back_what_it_reserved;
+pub use giving_back::{
+    a_lane_alone_gives_back_what_it_reserved, a_lane_alone_gives_back_within_a_call,
+};
 pub use laws::{
     a_call_stays_borne_out, a_clear_chunk_is_unused, a_committed_call_may_publish_what_it_entered,
     a_committed_call_turns_its_pool, a_draw_hands_over, a_draw_promises_what_will_be_taken,

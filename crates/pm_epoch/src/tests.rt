@@ -11,6 +11,7 @@ fn laws(_rt: HostRuntime) {
     a_draw_promises_what_will_be_taken();
     a_filled_block_is_fresh();
     a_lane_alone_gives_back_what_it_reserved();
+    a_lane_alone_gives_back_within_a_call();
     a_lane_alone_holds_its_pools();
     a_lane_alone_may_change_its_blocks();
     a_lane_alone_may_make_objects();

@@ -74,7 +74,7 @@ use Rattle.pm_exec.proofs.QuietSequences.{quiet_in_write}
 use Rattle.pm_exec.proofs.UndrawnSteps.{IsUndrawn, Keeps, adds_undrawn, all_undrawn_keep, writes_undrawn}
 use Rattle.pm_exec.proofs.Along.{same_along}
 use Rattle.pm_exec.proofs.LooksAlone.{looks_none, looks_same}
-use Rattle.pm_pending.specs.declared.actions.SetAction.{SetAction}
+use Rattle.pm_pending.specs.declared.pending.PendingActions.{PendingActions}
 use Rattle.pm_model.specs.Checks.{is_action}
 
 -- one telling is no counted call
@@ -101,12 +101,15 @@ given_up_so names (op.Write id off bytes) r v other w g = g
 given_up_so names (op.Read id off len) r v other w g = g
 given_up_so names (op.Alloc letter size kind) r v other w g = g
 given_up_so names (op.Free id) r v other w g = g
+given_up_so names (op.Reserve letter size kind) r v other w g = g
+given_up_so names (op.WriteReserved id off bytes) r v other w g = g
+given_up_so names (op.DeferFree id) r v other w g = g
 given_up_so names (op.Set id off value) r v other w g = g
 given_up_so names op.Publish r v other w g = g
 given_up_so names op.Cancel r v other w g = g
 given_up_so names op.Commit r v other w g = g
 
-module _ (o : Opening) (first : View) (lane : Lane Solo) (blocks : BlockLists) (actions : List SetAction) (names : Names) (front : List ScriptLine) (values : Values) (a : IsAtLine o first lane blocks actions names front values) (new : Lane Solo) (said : ScriptLine) where
+module _ (o : Opening) (first : View) (lane : Lane Solo) (blocks : BlockLists) (actions : PendingActions) (names : Names) (front : List ScriptLine) (values : Values) (a : IsAtLine o first lane blocks actions names front values) (new : Lane Solo) (said : ScriptLine) where
   -- what is not done is given up, or the lane stops
   pub ends_so : (now : BlockLists) (rest : List ScriptLine) (after_line : Values) (r : Refusal) → r ≢ refusal.Spent → values ≡ after_line → (r ≢ refusal.Stopped → IsGivenUpAt o first new now actions names (front ++ said ∷ rest) values said.line r)
       → (r ≡ refusal.Stopped → IsCut o first new names (front ++ said ∷ rest) values) → IsNotDone o first new now actions names (front ++ said ∷ rest) after_line (not_done said.line r)

@@ -1,5 +1,5 @@
 -- A lane that rests behind an answered call begins again, over the words as they stand, wherever it began.
-use Rattle.std.proofs.Common.{◌≡◌, inr, ℕ, ◌<◌, List, [], slice_index, Some}
+use Rattle.std.proofs.Common.{◌≡◌, ⊎_elim, inr, ℕ, ◌<◌, List, [], slice_index, Some}
 use Rattle.pm_crash.proofs.AloneCourse.{StandsAlone, stands_at}
 use Rattle.pm_crash.proofs.SeenAlone.{works_where_seen}
 use Rattle.pm_crash.specs.Alone.{Begins, WorksAlone, standing}
@@ -11,28 +11,29 @@ use Rattle.pm_lock.specs.Resting.{IsAtRest}
 use Rattle.pm_memory.specs.Solo.{Sees, Solo}
 use Rattle.pm_objects.specs.declared.pool.PoolView.{PoolView}
 use Rattle.pm_transaction.proofs.EndingAlone.{none_run}
+use Rattle.pm_transaction.specs.AtWork.{IsNotMaking}
+use Rattle.pm_view.specs.Founds.{IsAlone}
 use Rattle.pm_view.specs.Log.{no_log}
 use Rattle.pm_view.specs.Log.Phase.{Idle}
 use Rattle.pm_view.specs.Steps.{Step}
 use Rattle.pm_view.specs.View.{View}
 use Rattle.pm_world.specs.Opening.{Opening}
 use Rattle.pm_world.proofs.Filled.{none_filled}
+use Rattle.pm_world.specs.Lawful.{OnlyFilled}
 use Rattle.pm_world.specs.declared.lane.Lane.{Lane}
-use Rattle.pm_exec.proofs.HeapStill.{makes_none}
-use Rattle.pm_exec.specs.Progress.{HasNothing}
 
 module _ (o : Opening) (header : Header) (pool : PoolView) (lane : Lane Solo) (v w : View) (steps : List Step) (begins : Begins o header pool v) (leads : Leads v steps w) (seen : Sees lane.memory w) where
   pub works : WorksAlone o header pool v steps w
   works = works_where_seen o header pool lane.memory v w steps begins leads seen
 
-  -- where it has nothing of the heap, no chunk that it reserved is a run
-  pub rests_behind : IsAtRest Sees lane w → w.changes ≡ [] → w.log ≡ no_log Idle → HasNothing w → (n : ℕ) → w.number ≡ Some n → RestsBehindCall w
-  rests_behind rests drained idle none n numbered = record {
+  -- where it makes no object, no chunk that it reserved is a run
+  pub rests_behind : IsAtRest Sees lane w → w.log ≡ no_log Idle → IsNotMaking w → (n : ℕ) → w.number ≡ Some n → RestsBehindCall w
+  rests_behind rests idle quiet n numbered = record {
     idle = idle;
-    changes = none_filled w drained;
+    changes = ⊎_elim (λ (none : w.changes ≡ []). none_filled w none) (λ (filled : IsAlone w × OnlyFilled w). filled.1) rests.undrained;
     free = rests.free;
-    unlocked = none.unlocked;
-    no_run = none_run o header pool v w steps works (makes_none w none);
+    unlocked = quiet.unlocked;
+    no_run = none_run o header pool v w steps works quiet;
     number = n;
     numbered = numbered;
   }

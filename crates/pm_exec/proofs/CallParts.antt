@@ -1,12 +1,12 @@
 -- The calls that a script's lines are, where its operations are call_lines.
-use Rattle.std.proofs.Common.{◌≡◌, inl, inr, ℕ, suc, Bool, true, false, cond, All, List, [], ◌∷◌, ◌++◌, length, take, drop, eqb, refl, sym, ap, ◌∙◌, subst, arith, append_assoc}
-use Rattle.std.proofs.lemmas.Bool.{eqb-true}
+use Rattle.std.proofs.Common.{◌≡◌, inl, inr, ℕ, suc, Bool, true, false, cond, All, List, [], ◌∷◌, ◌++◌, length, take, drop, get_or, eqb, refl, sym, ap, ◌∙◌, subst, arith, append_assoc}
+use Rattle.std.proofs.lemmas.Bool.{eqb-true, false≢true}
 use Rattle.std.proofs.lemmas.List.Elements.{All-cons, All-head, All-nil, All-tail, All-weaker}
-use Rattle.pm_script.specs.Scripts.{AreCalls, IsChange, IsOutside, operations}
+use Rattle.pm_script.specs.Scripts.{AreCalls, IsChange, IsOutside, IsTransaction, operations}
 use Rattle.pm_script.specs.Scripts.AreCalls.{none, transaction, outside}
 use Rattle.pm_script.specs.declared.script.ScriptLine.{ScriptLine}
 use Rattle.pm_script.specs.declared.script.ScriptOp.{ScriptOp}
-use Rattle.pm_script.specs.declared.script.ScriptOp.TheVariants.{Begin, Add, Write, Read, Alloc, Free, Set, Publish, Cancel, Commit}
+use Rattle.pm_script.specs.declared.script.ScriptOp.TheVariants.{Begin, Add, Write, Read, Alloc, Free, Reserve, WriteReserved, DeferFree, Set, Publish, Cancel, Commit}
 use Rattle.pm_script.specs.declared.script.ScriptWant.{ScriptWant}
 use Rattle.pm_exec.specs.Calls.{IsCall, is_commit, call_lines, call_lines_from, stands_alone, with_line}
 use Rattle.pm_exec.proofs.FirstCall.{alone_first, begins_inside}
@@ -31,6 +31,9 @@ no_commit (Write id off bytes) change = refl
 no_commit (Read id off len) change = refl
 no_commit (Alloc letter size kind) change = refl
 no_commit (Free id) change = refl
+no_commit (Reserve letter size kind) change = refl
+no_commit (WriteReserved id off bytes) change = refl
+no_commit (DeferFree id) change = refl
 no_commit (Set id off value) change = refl
 no_commit Publish change = refl
 no_commit Cancel change = refl
@@ -71,6 +74,9 @@ outside_stands (Write id off bytes) may = absurd may
 outside_stands (Read id off len) may = absurd may
 outside_stands (Alloc letter size kind) may = absurd may
 outside_stands (Free id) may = absurd may
+outside_stands (Reserve letter size kind) may = refl
+outside_stands (WriteReserved id off bytes) may = refl
+outside_stands (DeferFree id) may = refl
 outside_stands (Set id off value) may = refl
 outside_stands Publish may = refl
 outside_stands Cancel may = refl
@@ -119,3 +125,21 @@ pub none_left : (rest : List ScriptLine) → true ≡ eqb (length rest) 0 → ca
 unfolding call_lines_from
 none_left [] nothing = refl
 none_left (line ∷ rest) nothing = absurd (let e : suc (length rest) ≡ 0 = eqb-true (suc (length rest)) 0 (sym nothing) in omega (arith, e))
+
+-- lines that are a call and begin with one that stands alone are that line
+pub one_line : (lines : List ScriptLine) (first : ScriptLine) → IsCall (operations lines) → first ≡ get_or lines 0 first → stands_alone first.operation ≡ true → lines ≡ first ∷ []
+one_line [] first (inl t) is alone = absurd (let clash = ap length t.2 in omega (arith, clash))
+one_line [] first (inr t) is alone = absurd (let clash = ap length t.1 in omega (arith, clash))
+one_line (line ∷ lines) first (inl t) is alone =
+    let begins : line.operation ≡ Begin t.0 = ap (λ (ops : List ScriptOp). get_or ops 0 Commit) t.2 in
+    absurd (false≢true (sym (ap stands_alone begins) ∙ ap (λ (l : ScriptLine). stands_alone l.operation) (sym is) ∙ alone))
+one_line (line ∷ []) first (inr t) is alone = ap (λ (l : ScriptLine). l ∷ []) (sym is)
+one_line (line ∷ more ∷ lines) first (inr t) is alone = absurd (let long = ap length t.1 in omega (arith, long))
+
+-- and if they begin with one that does not, they are a transaction
+pub transaction_lines : (lines : List ScriptLine) (first : ScriptLine) → IsCall (operations lines) → first ≡ get_or lines 0 first → stands_alone first.operation ≡ false → IsTransaction (operations lines)
+transaction_lines lines first (inl t) is other = t
+transaction_lines [] first (inr t) is other = absurd (let clash = ap length t.1 in omega (arith, clash))
+transaction_lines (line ∷ lines) first (inr t) is other =
+    let says : line.operation ≡ t.0 = ap (λ (ops : List ScriptOp). get_or ops 0 Commit) t.1 in
+    absurd (false≢true (sym other ∙ ap (λ (l : ScriptLine). stands_alone l.operation) is ∙ ap stands_alone says ∙ t.2))

@@ -5,12 +5,12 @@ use Rattle.pm_crash.specs.Leading.{Leads}
 use Rattle.pm_crash.proofs.CallBlocks.{blocks_once_more, same_blocks}
 use Rattle.pm_crash.specs.CallBlocks.{CallBlocks, blocks_behind, blocks_in}
 use Rattle.pm_crash.specs.OpenCall.{IsUnderBlock}
-use Rattle.pm_image.specs.Blocks.{descriptor_word}
+use Rattle.pm_image.specs.Blocks.{chunk_word, descriptor_word}
 use Rattle.pm_image.specs.Logs.{generation_word}
 use Rattle.pm_made.specs.Made.{BlockLists}
 use Rattle.pm_transaction.proofs.NotMaking.{not_making_still}
 use Rattle.pm_transaction.specs.AtWork.{IsAtWorkWith, IsNotMaking}
-use Rattle.pm_tx.proofs.BorneOut.{chunk_words_outside, descriptor_unrecorded, root_outside, root_unrecorded}
+use Rattle.pm_tx.proofs.BorneOut.{bitmap_unrecorded, bitmaps_outside, chunk_words_outside, descriptor_unrecorded, root_outside, root_unrecorded}
 use Rattle.pm_tx.proofs.TakenBack.{take_back_lawful}
 use Rattle.pm_view.proofs.Sequences.{after_all-append}
 use Rattle.pm_view.specs.Constants.{IsSameLane}
@@ -58,7 +58,7 @@ use Rattle.pm_world.specs.declared.lane.Lane.{Lane}
 use Rattle.pm_world.specs.declared.lane.Span.{Span}
 use Rattle.pm_world.specs.declared.lane.Stage.TheVariants as stage
 use Rattle.pm_exec.specs.Bounds.{most_stores, recorded_count, stores_of_call, stores_of_lines}
-use Rattle.pm_exec.proofs.FewStores.{bounded, lines_more, lines_within, spans_count}
+use Rattle.pm_exec.proofs.FewStores.{walked, lines_more, lines_within, spans_count}
 use Rattle.pm_exec.specs.Calls.{operation_of}
 use Rattle.pm_exec.specs.Progress.{IsAtLine, IsCalmBehind, IsCut, IsGivenUpAt, AreToldDone, IsToldDone, IsUntorn, Values, numbered, refused, values_told}
 use Rattle.pm_exec.specs.Course.{CameToGiveUp, IsFree, IsFrontOf, IsGivenUpMade, IsLineMade, IsLineStopped, IsRefusalMade, IsStoppedBy, refused_calls, spans_of}
@@ -71,15 +71,16 @@ use Rattle.pm_exec.proofs.CommitFront.{give_up_keeps}
 use Rattle.pm_exec.proofs.HeapStill.{gives_up_heapless, heap_along}
 use Rattle.pm_exec.proofs.Links.{passed}
 use Rattle.pm_exec.proofs.QuietSequences.{quiet_in_give_up}
+use Rattle.pm_transaction.proofs.StandsGivenUp.{MayLeaveStanding, looked_may, refused_leaves_standing}
 use Rattle.pm_exec.proofs.LooksAlone.{IsSameBut, looks_go_on, looks_same}
 use Rattle.pm_exec.proofs.UndrawnSteps.{IsUndrawn, Keeps, all_undrawn_keep, first_undrawn_keep}
-use Rattle.pm_pending.specs.declared.actions.SetAction.{SetAction}
+use Rattle.pm_pending.specs.declared.pending.PendingActions.{PendingActions}
 use Rattle.pm_crash.specs.Pending.{pending_before, pending_behind, pending_in, published_by, published_in}
 use Rattle.pm_crash.proofs.PendingOn.{pending_once_more, pending_same, published_once_more, published_same}
 use Rattle.pm_model.specs.Actions.{Action, Pending}
 use Rattle.pm_model.specs.Checks.{is_action}
 use Rattle.pm_exec.specs.Bounds.{log_due, logs_of}
-use Rattle.pm_exec.specs.Progress.{IsPending}
+use Rattle.pm_pending.specs.AllPending.{IsPendingAs}
 use Rattle.pm_exec.proofs.PendingLists.{drawn_pending, still_pending}
 use Rattle.std.proofs.lemmas.List.{append-nil}
 use Rattle.pm_crash.specs.Alone.{raises}
@@ -123,8 +124,9 @@ pub record GoesTo (v w : View) : Type 0 where
   pub number : w.number ≡ v.number
   pub entries : w.entries ≡ v.entries
   pub log : w.log ≡ v.log
+  pub locks : w.locks ≡ v.locks
 
-module _ (o : Opening) (first : View) (lane : Lane Solo) (blocks : BlockLists) (actions : List SetAction) (names : Names) (front : List ScriptLine) (values : Values) (a : IsAtLine o first lane blocks actions names front values) where
+module _ (o : Opening) (first : View) (lane : Lane Solo) (blocks : BlockLists) (actions : PendingActions) (names : Names) (front : List ScriptLine) (values : Values) (a : IsAtLine o first lane blocks actions names front values) where
   -- once it went on so
   module _ (u : View) (goes : GoesTo a.view u) where
     pub to_there : (steps : List Step) × (Leads first steps u)
@@ -136,7 +138,7 @@ module _ (o : Opening) (first : View) (lane : Lane Solo) (blocks : BlockLists) (
     same_there : IsSameLane a.view u
     same_there = led_same a.view u goes.led
 
-    lane_there : u.lane ≡ 0
+    pub lane_there : u.lane ≡ 0
     lane_there = same_there.lane ∙ a.of_lane
 
     generation_there : generation_of u ≡ generation_word o.words 0
@@ -172,6 +174,58 @@ module _ (o : Opening) (first : View) (lane : Lane Solo) (blocks : BlockLists) (
     spans_there : lane.records.items ≡ spans_of u
     spans_there = a.works.work.seen.records ∙ ap (λ (l : Log). map span_of l.records) (sym goes.log)
 
+    unraised_there : raises to_there.0 ≡ 0
+    unfolding to_there
+    unraised_there = let l = goes.led in let both = raises_append a.steps l.steps in let before = a.unraised in let none = uncounted_raises l.steps l.uncounted in omega (arith, both, before, none)
+
+    pending_there : IsPendingAs actions (pending_in u)
+    pending_there = still_pending (pending_in u) (pending_same a.view u goes.entries goes.call) a.pending
+
+    -- the line is done
+    module _ (new : Lane Solo) (steps : Sequence) (said : ScriptLine) where
+      abbrev behind : View
+      behind = after_all u (steps u)
+
+      -- with these lists of blocks, and this one of what is pending
+      abbrev IsLineEnded : BlockLists → PendingActions → Type 0
+      IsLineEnded now left = Ready u (steps u) → DrawEnded u (steps u) → IsAtWorkWith o Sees new now behind → new.level ≡ 1 → new.locks ≡ lane.locks → (t : Told) → IsToldDone names said.operation t → behind.call ≡ u.call ++ t ∷ []
+          → ((i : ℕ) → IsUnderBlock a.view i → slice_index behind.words i ≡ words_after names (front ++ said ∷ []) (slice_index o.words) i)
+          → (given : Values) → given ≡ values_told (front ++ said ∷ []) (a.view.call ++ t ∷ []) → IsLineMade names said.operation a.view behind
+          → IsPendingAs left (pending_in behind) → stores_among (steps u) + recorded_count behind + log_due behind ≤ recorded_count u + most_stores names said.operation + log_due u
+          → IsAtLine o first new now left names (front ++ said ∷ []) given
+
+      -- where its steps draw no number and raise no generation
+      pub at_there_by : raises (steps u) ≡ 0 → behind.entries ≡ u.entries → (now : BlockLists) (left : PendingActions) → IsLineEnded now left
+      at_there_by none_raised same_entries now left ready draws works level locks t is_done told words given gave made pending few =
+          let leads = ready_leads u (steps u) ready draws in
+          let raised = unraised_when_ready u (steps u) lane_there ready none_raised in
+          let call : behind.call ≡ a.view.call ++ t ∷ [] = told ∙ ap (λ (ts : List Told). ts ++ t ∷ []) goes.call in
+          record {
+            header = a.header;
+            pool = a.pool;
+            begins = a.begins;
+            view = behind;
+            steps = to_there.0 ++ steps u;
+            leads = leads_then first u behind to_there.0 (steps u) to_there.1 leads;
+            of_lane = lane_along u behind (steps u) leads lane_there;
+            works = works;
+            level = level;
+            opens = (a.opens.0, a.opens.1 ++ said ∷ [], ap (λ (ls : List ScriptLine). ls ++ said ∷ []) a.opens.2, a.opens.3);
+            told = subst (AreToldDone names (front ++ said ∷ [])) (sym call) (told_more names front said a.view.call t a.told is_done);
+            gave = gave ∙ ap (values_told (front ++ said ∷ [])) (sym call);
+            entries = same_entries ∙ entries_there;
+            generation = (let g = generation_there in omega (arith, raised, g));
+            words = λ i under. words i (under_same lane new a.view behind a.works.work.seen.locks works.work.seen.locks locks i under);
+            unraised = (let both = raises_append to_there.0 (steps u) in let before = unraised_there in omega (arith, both, before, none_raised));
+            pending = pending;
+            made = made_more names front said first a.view behind a.made made;
+            few = (let both = stores_append to_there.0 (steps u) in let before = few_there in let more = lines_more names front said in omega (arith, both, before, more, few));
+          }
+
+      -- so it is where they are those of a line at work
+      pub at_there_with : Each IsWork (steps u) → Each IsUndrawn (steps u) → (now : BlockLists) (left : PendingActions) → IsLineEnded now left
+      at_there_with work undrawn = at_there_by (all_work_raises (steps u) work) (all_undrawn_keep u (steps u) undrawn).entries
+
     -- the call is given up for it
     module _ (new : Lane Solo) (said : ScriptLine) (working : IsWorking u) where
       given_up_few : (operation : Operation) (reply : Option Value) (number : ℕ) → stores_among (gives_up lane.records.items operation reply number u) ≤ recorded_count u + most_stores names said.operation + 1
@@ -205,12 +259,15 @@ module _ (o : Opening) (first : View) (lane : Lane Solo) (blocks : BlockLists) (
             zones = lane_same.zones ∙ same_there.zones;
             reserved = heap.reserved;
             described = λ c in_pool. here (descriptor_word a.view.lanes c) (subst (λ k. is_in_area k (descriptor_word a.view.lanes c) ≡ false) (sym same_there.lane) (chunk_words_outside a.view.lane a.view.lanes c work.working.area.lane)) (descriptor_unrecorded o Sees lane a.view work c);
+            bitmaps = λ c in_pool run.
+                here (chunk_word a.view.lanes c) (subst (λ k. is_in_area k (chunk_word a.view.lanes c) ≡ false) (sym same_there.lane) (bitmaps_outside a.view.lane a.view.lanes c work.working.area.lane))
+                (bitmap_unrecorded o Sees lane a.view work c run);
             root = here 64 (root_outside u.lane) (root_unrecorded o Sees lane a.view work);
           }) heap.zone_locks a.works.not_making
 
-      pub over_there : (r : Refusal) → CameToGiveUp (operation_of names said.operation) r a.view u → IsEndedBy Sees new u (gives_up lane.records.items (operation_of names said.operation) (Some (Refused r)) new.last) (operation_of names said.operation) (Some (Refused r)) → is_action (operation_of names said.operation) ≡ false → new.level ≡ 1 → new.stage ≡ stage.OnAbort → new.error ≡ error.Refused r
+      pub over_there : MayLeaveStanding u → (r : Refusal) → CameToGiveUp (operation_of names said.operation) r a.view u → IsEndedBy Sees new u (gives_up lane.records.items (operation_of names said.operation) (Some (Refused r)) new.last) (operation_of names said.operation) (Some (Refused r)) → is_action (operation_of names said.operation) ≡ false → new.level ≡ 1 → new.stage ≡ stage.OnAbort → new.error ≡ error.Refused r
           → ((w : View) → IsGivenUpMade names said.operation r a.view w → IsRefusalMade names said.operation r a.view w) → (rest : List ScriptLine) → IsGivenUpAt o first new blocks actions names (front ++ said ∷ rest) values said.line r
-      over_there r came e gives level at fails refusal_made rest =
+      over_there may r came e gives level at fails refusal_made rest =
           let steps : Sequence = gives_up lane.records.items (operation_of names said.operation) (Some (Refused r)) new.last in
           let w : View = after_all u (steps u) in
           let on = ended_leads Sees new u steps (operation_of names said.operation) (Some (Refused r)) e in
@@ -229,6 +286,7 @@ module _ (o : Opening) (first : View) (lane : Lane Solo) (blocks : BlockLists) (
               passed = passed o new first w all (stores_of_call names (front ++ said ∷ rest)) leads e.behind.seen.memory quiet (few_behind said rest (steps u) (given_up_few (operation_of names said.operation) (Some (Refused r)) new.last));
               behind = e.behind;
               unlocked = quiet.unlocked;
+              stands = refused_leaves_standing u may lane.records.items spans_there (operation_of names said.operation) r new.last;
               pages = (let pages = a.works.pages in let before = same_there in let after = same_along u w (steps u) on in let l = before.lanes in let z = before.zones in let lanes = after.lanes in let zones = after.zones in omega (arith, pages, l, z, lanes, zones));
               number = e.over.number;
               entries = e.entries ∙ ap (λ (es : List Numbered). es ++ numbered new.last w.call ∷ []) entries_there;
@@ -268,7 +326,7 @@ module _ (o : Opening) (first : View) (lane : Lane Solo) (blocks : BlockLists) (
           record {
             view = m;
             same = same_along first m all leads;
-            bound = λ drained. bounded first m (stores_of_call names (front ++ said ∷ rest)) all drained leads few;
+            bound = walked first m (stores_of_call names (front ++ said ∷ rest)) all leads few;
             seen = stopped.stops.seen;
             drawn = stopped.drawn;
             way = inl (record {
@@ -315,6 +373,7 @@ module _ (o : Opening) (first : View) (lane : Lane Solo) (blocks : BlockLists) (
           number = same.number;
           entries = same.entries;
           log = (looks_generation n a.view u looks).1;
+          locks = same.locks;
         }
 
     pub to_u : (steps : List Step) × (Leads first steps u)
@@ -332,13 +391,8 @@ module _ (o : Opening) (first : View) (lane : Lane Solo) (blocks : BlockLists) (
     unended_u : is_ending u.log.phase ≡ false
     unended_u = ap (λ (l : Log). is_ending l.phase) looks_go.log ∙ ap is_ending a.works.work.working.is_open
 
-    pub pending_u : IsPending actions (pending_in u)
-    pending_u = still_pending (pending_in u) (pending_same a.view u same.entries same.call) a.pending
-
-    unraised_u : raises to_u.0 ≡ 0
-    unfolding to_u to_there
-    unraised_u =
-        let l = looks_go.led in let both = raises_append a.steps l.steps in let before = a.unraised in let none = uncounted_raises l.steps l.uncounted in omega (arith, both, before, none)
+    pub pending_u : IsPendingAs actions (pending_in u)
+    pending_u = pending_there u looks_go
 
     pub few_u : stores_among to_u.0 + recorded_count u + log_due u ≤ stores_of_lines names front
     unfolding to_u
@@ -377,36 +431,12 @@ module _ (o : Opening) (first : View) (lane : Lane Solo) (blocks : BlockLists) (
       keeps = all_undrawn_keep u (steps u) undrawn
 
       -- with these lists of blocks, and this one of what is pending
-      pub at_next_with : (now : BlockLists) (left : List SetAction) → Ready u (steps u) → DrawEnded u (steps u) → IsAtWorkWith o Sees new now w → new.level ≡ 1 → new.locks ≡ lane.locks → (t : Told) → IsToldDone names said.operation t → w.call ≡ u.call ++ t ∷ []
+      pub at_next_with : (now : BlockLists) (left : PendingActions) → Ready u (steps u) → DrawEnded u (steps u) → IsAtWorkWith o Sees new now w → new.level ≡ 1 → new.locks ≡ lane.locks → (t : Told) → IsToldDone names said.operation t → w.call ≡ u.call ++ t ∷ []
           → ((i : ℕ) → IsUnderBlock a.view i → slice_index w.words i ≡ words_after names (front ++ said ∷ []) (slice_index o.words) i)
           → (given : Values) → given ≡ values_told (front ++ said ∷ []) (a.view.call ++ t ∷ []) → IsLineMade names said.operation a.view w
-          → IsPending left (pending_in w) → stores_among (steps u) + recorded_count w + log_due w ≤ recorded_count u + most_stores names said.operation + log_due u
+          → IsPendingAs left (pending_in w) → stores_among (steps u) + recorded_count w + log_due w ≤ recorded_count u + most_stores names said.operation + log_due u
           → IsAtLine o first new now left names (front ++ said ∷ []) given
-      at_next_with now left ready draws works level locks t is_done told words given gave made pending few =
-          let leads = ready_leads u (steps u) ready draws in
-          let raised = unraised_when_ready u (steps u) lane_u ready (all_work_raises (steps u) work) in
-          let call : w.call ≡ a.view.call ++ t ∷ [] = told ∙ ap (λ (ts : List Told). ts ++ t ∷ []) call_u in
-          record {
-            header = a.header;
-            pool = a.pool;
-            begins = a.begins;
-            view = w;
-            steps = to_u.0 ++ steps u;
-            leads = leads_then first u w to_u.0 (steps u) to_u.1 leads;
-            of_lane = lane_along u w (steps u) leads lane_u;
-            works = works;
-            level = level;
-            opens = (a.opens.0, a.opens.1 ++ said ∷ [], ap (λ (ls : List ScriptLine). ls ++ said ∷ []) a.opens.2, a.opens.3);
-            told = subst (AreToldDone names (front ++ said ∷ [])) (sym call) (told_more names front said a.view.call t a.told is_done);
-            gave = gave ∙ ap (values_told (front ++ said ∷ [])) (sym call);
-            entries = keeps.entries ∙ entries_u;
-            generation = (let g = generation_u in omega (arith, raised, g));
-            words = λ i under. words i (under_same lane new a.view w a.works.work.seen.locks works.work.seen.locks locks i under);
-            unraised = (let both = raises_append to_u.0 (steps u) in let before = unraised_u in let none = all_work_raises (steps u) work in omega (arith, both, before, none));
-            pending = pending;
-            made = made_more names front said first a.view w a.made made;
-            few = (let both = stores_append to_u.0 (steps u) in let before = few_u in let more = lines_more names front said in omega (arith, both, before, more, few));
-          }
+      at_next_with = at_there_with u looks_go new steps said work undrawn
 
       -- an operation that leaves what is pending, publishes nothing, and makes and frees nothing
       pub at_next : Ready u (steps u) → DrawEnded u (steps u) → IsAtWorkWith o Sees new blocks w → new.level ≡ 1 → new.locks ≡ lane.locks → (t : Told) → IsToldDone names said.operation t → w.call ≡ u.call ++ t ∷ []
@@ -434,7 +464,7 @@ module _ (o : Opening) (first : View) (lane : Lane Solo) (blocks : BlockLists) (
           record {
             view = m;
             same = same_along first m all leads;
-            bound = λ drained. bounded first m (stores_of_call names (front ++ said ∷ rest)) all drained leads (few_in said rest (take k (steps u)) (let part = stores_first k (steps u) in omega (arith, part, few)));
+            bound = walked first m (stores_of_call names (front ++ said ∷ rest)) all leads (few_in said rest (take k (steps u)) (let part = stores_first k (steps u) in omega (arith, part, few)));
             seen = stopped.stops.seen;
             drawn = stopped.drawn;
             way = inl (record {
@@ -460,7 +490,7 @@ module _ (o : Opening) (first : View) (lane : Lane Solo) (blocks : BlockLists) (
     module _ (new : Lane Solo) (said : ScriptLine) (working : IsWorking u) where
       pub over_ended : (r : Refusal) → CameToGiveUp (operation_of names said.operation) r a.view u → IsEndedBy Sees new u (gives_up lane.records.items (operation_of names said.operation) (Some (Refused r)) new.last) (operation_of names said.operation) (Some (Refused r)) → is_action (operation_of names said.operation) ≡ false → new.level ≡ 1 → new.stage ≡ stage.OnAbort → new.error ≡ error.Refused r
           → ((w : View) → IsGivenUpMade names said.operation r a.view w → IsRefusalMade names said.operation r a.view w) → (rest : List ScriptLine) → IsGivenUpAt o first new blocks actions names (front ++ said ∷ rest) values said.line r
-      over_ended = over_there u looks_go new said working
+      over_ended = over_there u looks_go new said working (looked_may o Sees lane blocks n a.view u a.works looks looks_go.log (same_there u looks_go).lanes same.locks working)
 
       -- or the lane stopped while it gave the call up
       pub cut_ended : (rest : List ScriptLine) (r : Refusal) → CameToGiveUp (operation_of names said.operation) r a.view u → IsStoppedIn Sees new u (gives_up lane.records.items (operation_of names said.operation) (Some (Refused r)) new.last) (operation_of names said.operation) (Some (Refused r))

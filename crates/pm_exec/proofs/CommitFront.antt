@@ -28,6 +28,7 @@ use Rattle.pm_world.specs.Lanes.{span_of}
 use Rattle.pm_world.specs.Records.{generation_of}
 use Rattle.pm_world.specs.Sequences.{by_lane, by_view, in_turn, looks, makes_room, nothing, one, settles, stores, with_word}
 use Rattle.pm_world.specs.declared.lane.Span.{Span}
+use Rattle.pm_transaction.proofs.CanceledAtWork.{settled_log}
 use Rattle.pm_exec.specs.Progress.{IsFlyingBy}
 use Rattle.pm_exec.proofs.PublishFront.{publishing_flies}
 use Rattle.pm_exec.proofs.UndrawnSteps.{Keeps, before_or_behind, settles_undrawn, takes_back_undrawn}
@@ -62,11 +63,6 @@ ends_fly m (suc (suc (suc (suc j)))) x is below = absurd (omega (arith, below))
 retires_fly : (m : View) (j : ℕ) → m.log.phase ≡ Drawn → m.changes ≡ [] → j < length (retires m) → IsUnsealed (after_all m (take j (retires m))).log.phase
 retires_fly m j is none =
     subst (λ (steps : List Step). j < length steps → IsUnsealed (after_all m (take j steps)).log.phase) (sym (retires_are m none)) (ends_fly m j (generation_of m) is)
-
--- the records of a call at work are the same once all is persistent
-pub settled_log : (v : View) → v.log.phase ≡ Open [] [] → (changes : List Change) → log_settled changes v ≡ v.log
-settled_log v is [] = refl
-settled_log v is (c ∷ changes) = ap (λ (p : Phase). log_drained p (is_some v.number) v.log) is
 
 module _ (v : View) (lane : v.lane ≡ 0) (working : IsWorking v) (n : ℕ) where
   abbrev m : View

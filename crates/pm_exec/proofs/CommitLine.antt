@@ -31,7 +31,7 @@ use Rattle.pm_model.specs.Shown.{answer_of}
 use Rattle.pm_objects.specs.declared.calls.Operation.TheVariants.{Commit}
 use Rattle.pm_objects.specs.declared.pool.PoolView.{PoolView}
 use Rattle.pm_pending.specs.Pending.{entry_of}
-use Rattle.pm_pending.specs.declared.actions.SetAction.{SetAction}
+use Rattle.pm_pending.specs.declared.pending.PendingActions.{PendingActions}
 use Rattle.pm_record.specs.declared.redo.Redo.{Redo}
 use Rattle.pm_redo.specs.Entering.{EntersHeap, IsOfPool, MayEnter}
 use Rattle.pm_script.specs.declared.script.ScriptLine.{ScriptLine}
@@ -39,9 +39,11 @@ use Rattle.pm_script.specs.declared.script.ScriptOp.{ScriptOp}
 use Rattle.pm_script.specs.declared.script.ScriptOp.TheVariants as op
 use Rattle.pm_transaction.proofs.EndedCommit.{commit_drawn, commit_ends, commit_keeps_page, commit_unlocks}
 use Rattle.pm_transaction.proofs.NotMaking.{not_making_still}
+use Rattle.pm_transaction.proofs.StandsBehindCommit.{commit_leaves_standing}
 use Rattle.pm_transaction.specs.AtWork.{IsNotMaking}
 use Rattle.pm_transaction.specs.Committing.{HasCommitted, MayPublishBlocks}
 use Rattle.pm_transaction.specs.Published.{CommitsAlone, HasOwnCounts}
+use Rattle.pm_transaction.specs.Resting.{StandsAtRest}
 use Rattle.pm_tx.proofs.BorneOut.{same_heads_outside}
 use Rattle.pm_tx.proofs.CommitCourse.{commits_of}
 use Rattle.pm_tx.proofs.Leading.{ended_leads}
@@ -73,13 +75,14 @@ use Rattle.pm_exec.proofs.Along.{same_along}
 use Rattle.pm_exec.proofs.AreaSteps.{StoresArea, area_alone, ends_in_area, found_where_foreseen}
 use Rattle.pm_exec.proofs.ChangeLines.{front_of}
 use Rattle.pm_exec.proofs.CommitFront.{commit_flies}
-use Rattle.pm_exec.proofs.FewStores.{bounded_walk, lines_within, walks_then}
+use Rattle.pm_exec.proofs.FewStores.{lines_within, walks_then}
 use Rattle.pm_exec.proofs.HeapStill.{commits_heapless, heap_along}
 use Rattle.pm_exec.proofs.LineLists.{gave_nothing, made_more, told_more}
 use Rattle.pm_exec.proofs.LineStores.{entries_count, listed_few}
 use Rattle.pm_exec.proofs.Links.{passed}
 use Rattle.pm_exec.proofs.PendingLists.{drawn_pending, still_pending}
 use Rattle.pm_exec.proofs.QuietSequences.{quiet_in_commit}
+use Rattle.pm_exec.proofs.Starts.{own_counts}
 
 -- a line that stands in a transaction is told without a refusal, once it is done
 unrefused_inside : (names : Names) (x : ScriptOp) (t : Told) → stands_alone x ≡ false → IsToldDone names x t → is_refusal t.reply ≡ false
@@ -107,23 +110,19 @@ empty_is : {A : Type 0} (xs : List A) → length xs ≡ 0 → xs ≡ []
 empty_is [] none = refl
 empty_is (x ∷ xs) none = absurd (omega (arith, none))
 
--- the lane's own counts, as its memory has them
-own_counts : (m : Solo) (w : View) → Sees m w → HasOwnCounts w
-own_counts m w seen = record { numbered = seen.numbers; within = subst (λ (stop : Option ℕ). ForSome stop (λ s. w.calls ≤ s)) (sym seen.stop) seen.within }
-
 -- steps that are ready, and the first of them
-ready_walks : (v : View) (steps : List Step) → Ready v steps → Walks v steps (after_all v steps)
+pub ready_walks : (v : View) (steps : List Step) → Ready v steps → Walks v steps (after_all v steps)
 unfolding Ready Walks after_all
 ready_walks v [] ready = refl
 ready_walks v (s ∷ steps) ready = (ready.0, found_where_foreseen v s ready.1, ready_walks (after v s) steps ready.2)
 
-ready_front : (v : View) (steps : List Step) (k : ℕ) → Ready v steps → Ready v (take k steps)
+pub ready_front : (v : View) (steps : List Step) (k : ℕ) → Ready v steps → Ready v (take k steps)
 unfolding Ready
 ready_front v steps zero ready = tt
 ready_front v [] (suc k) ready = tt
 ready_front v (s ∷ steps) (suc k) ready = (ready.0, ready.1, ready_front (after v s) steps k ready.2)
 
-module _ (o : Opening) (first : View) (lane : Lane Solo) (blocks : BlockLists) (actions : List SetAction) (names : Names) (front : List ScriptLine) (values : Values) (a : IsAtLine o first lane blocks actions names front values) (new : Lane Solo) (said : ScriptLine)
+module _ (o : Opening) (first : View) (lane : Lane Solo) (blocks : BlockLists) (actions : PendingActions) (names : Names) (front : List ScriptLine) (values : Values) (a : IsAtLine o first lane blocks actions names front values) (new : Lane Solo) (said : ScriptLine)
     (is : said.operation ≡ op.Commit) where
   abbrev v : View
   v = a.view
@@ -227,6 +226,10 @@ module _ (o : Opening) (first : View) (lane : Lane Solo) (blocks : BlockLists) (
       counts : HasOwnCounts w
       counts = own_counts new.memory w h.behind.seen.memory
 
+      -- what is reserved stands behind it
+      stands : StandsAtRest w
+      stands = commit_leaves_standing o a.header a.pool first v a.steps Sees lane blocks new.last (works_where_seen o a.header a.pool lane.memory first v a.steps a.begins a.leads a.works.work.seen.memory) a.works a.level h.ready counts
+
       walked : Walks first (a.steps ++ steps v) w
       walked = walks_then first v w a.steps (steps v) (walks_of first v a.steps a.leads) (ready_walks v (steps v) h.ready)
 
@@ -235,7 +238,7 @@ module _ (o : Opening) (first : View) (lane : Lane Solo) (blocks : BlockLists) (
       passed_publishing some = record {
         same = same_lane-then first v w (same_along first v a.steps a.leads) (same_lane-after_all v (steps v));
         page = λ header pool begins. commit_keeps_page o header pool first v a.steps Sees lane blocks own lane.records.items new.last (commits_alone header pool begins some) h.ready counts;
-        bound = λ drained. bounded_walk first w (stores_of_call names all) (a.steps ++ steps v) drained walked (few_in (steps v) commit_stores);
+        bound = record { steps = a.steps ++ steps v; walks = walked; stores = few_in (steps v) commit_stores };
         came = λ header pool begins. inl (commit_ends o header pool first v a.steps Sees lane blocks own lane.records.items new.last (commits_alone header pool begins some) h.ready counts);
       }
 
@@ -275,6 +278,7 @@ module _ (o : Opening) (first : View) (lane : Lane Solo) (blocks : BlockLists) (
               passed = passes;
               behind = h.behind;
               unlocked = unlocked;
+              stands = stands;
               pages = (let pages = a.works.pages in let lane_same = same_lane-after_all v (steps v) in let lanes = lane_same.lanes in let zones = lane_same.zones in omega (arith, pages, lanes, zones));
               number = h.over.number;
               entries = drawn;
@@ -317,8 +321,11 @@ module _ (o : Opening) (first : View) (lane : Lane Solo) (blocks : BlockLists) (
       cut_by way = record {
         view = x;
         same = same_lane-then first v x (same_along first v a.steps a.leads) (same_lane-after_all v (take k (steps v)));
-        bound = λ drained. bounded_walk first x (stores_of_call names all) (a.steps ++ take k (steps v)) drained
-            (walks_then first v x a.steps (take k (steps v)) (walks_of first v a.steps a.leads) (ready_walks v (take k (steps v)) x_ready)) (few_in (take k (steps v)) x_few);
+        bound = record {
+          steps = a.steps ++ take k (steps v);
+          walks = walks_then first v x a.steps (take k (steps v)) (walks_of first v a.steps a.leads) (ready_walks v (take k (steps v)) x_ready);
+          stores = few_in (take k (steps v)) x_few;
+        };
         seen = s.stops.seen;
         drawn = s.drawn;
         way = way;

@@ -12,6 +12,12 @@ use Rattle.pm_transaction.proofs.LeftCommits.{drawn_lost}
 use Rattle.pm_crash.specs.Alone.{Begins, BeginsAlone, IsDrawnAt, Rests, WorksAlone, raises, standing}
 use Rattle.pm_crash.proofs.Raising.{generation_raised}
 use Rattle.pm_crash.specs.Leading.{Leads}
+use Rattle.pm_crash.specs.Walking.{Walks}
+use Rattle.pm_crash.proofs.Leading.{leads_then}
+use Rattle.pm_lock.proofs.Drawless.{drawless}
+use Rattle.pm_lock.proofs.Leads.{led_same}
+use Rattle.pm_lock.specs.Leading.{DrawEnded}
+use Rattle.pm_view.specs.Views.{after, after_all}
 use Rattle.pm_memory.specs.Solo.{Sees, Solo}
 use Rattle.pm_model.specs.History.{is_answered, is_lost}
 use Rattle.pm_objects.specs.declared.history.Entry.{Entry}
@@ -27,8 +33,8 @@ use Rattle.pm_world.specs.Crash.{loses}
 use Rattle.pm_world.specs.Records.{generation_of}
 use Rattle.pm_view.proofs.SameLane.{same_lane, same_lane-then}
 use Rattle.pm_view.specs.Constants.{IsSameLane}
-use Rattle.pm_exec.specs.Bounds.{IsBounded, stores_of_call, stores_of_calls}
-use Rattle.pm_exec.proofs.FewStores.{bounded, bounded_then, bounded_within, calls_within, led_stores}
+use Rattle.pm_exec.specs.Bounds.{IsWalked, stores_of_call, stores_of_calls}
+use Rattle.pm_exec.proofs.FewStores.{calls_front, walked, walked_then, walked_within, calls_within, led_stores}
 use Rattle.pm_exec.specs.declared.ending.CallAnswer.{CallAnswer}
 use Rattle.pm_exec.specs.declared.ending.CallAnswer.TheVariants as answer
 use Rattle.pm_objects.specs.declared.history.TxErr.TheVariants as error
@@ -41,10 +47,10 @@ use Rattle.pm_world.specs.Opening.{Opening}
 use Rattle.pm_world.proofs.CrashLaw.{all_drained}
 use Rattle.pm_world.specs.declared.lane.Lane.{Lane}
 use Rattle.pm_exec.specs.Calls.{call_of}
-use Rattle.pm_exec.specs.Course.{ComesToEnd}
+use Rattle.pm_exec.specs.Course.{BeginsNone, ComesToEnd, IsFinishMade, IsSpentAt}
 use Rattle.pm_exec.specs.Histories.{closed_history, open_fate, settled_fate}
 use Rattle.pm_exec.specs.Progress.{IsCut, IsCutAtWork, IsCutPublishing, IsFlying, IsInFlight, IsUndrawn, Values}
-use Rattle.pm_exec.specs.Running.{AreEntries, HasCalled, HasFinished, HasHaltedIn, HasRun, HasSpent, HasStopped, open_entry}
+use Rattle.pm_exec.specs.Running.{AreEntries, HasAnsweredUpTo, HasCalled, HasClosed, HasClosedBehind, HasClosedStopped, HasGivenUp, HasStopped, HasStoppedGivingUp, open_entry}
 use Rattle.pm_exec.specs.declared.calls.Names.{Names}
 use Rattle.pm_exec.specs.declared.running.Halt.{Halt}
 use Rattle.pm_exec.proofs.Along.{same_along}
@@ -90,10 +96,29 @@ rising_next : (calls : List (List ScriptLine)) (call : List ScriptLine) (more : 
 rising_next [] call more rising = All-head Rises call more rising
 rising_next (c ∷ calls) call more rising = rising_next calls call more (All-tail Rises c (calls ++ call ∷ more) rising)
 
--- no steps lead to where they began
-leads_nowhere : (v : View) → Leads v [] v
-unfolding Leads
-leads_nowhere v = refl
+-- a stop number that there is
+abbrev stop_number : LaneEnd → ℕ
+stop_number end.Ended = 0
+stop_number (end.Stopped n) = n
+stop_number (end.Spent n) = 0
+
+same_stop : (x y : ℕ) → end.Stopped x ≡ end.Stopped y → x ≡ y
+same_stop x y same = ap stop_number same
+
+-- steps that a lane alone walks lead on, where they draw no number
+walks_end : (v w : View) (steps : List Step) → Walks v steps w → w ≡ after_all v steps
+unfolding Walks after_all
+walks_end v w [] walks = walks
+walks_end v w (s ∷ steps) walks = walks_end (after v s) w steps walks.2
+
+drawn_lead : (v w : View) (steps : List Step) → Walks v steps w → DrawEnded v steps → Leads v steps w
+unfolding Walks DrawEnded Leads
+drawn_lead v w [] walks draws = walks
+drawn_lead v w (s ∷ steps) walks draws = (walks.0, walks.1, draws.0, drawn_lead (after v s) w steps walks.2 draws.1)
+
+walks_lead : (v w : View) (steps : List Step) → Walks v steps w → w.entries ≡ v.entries → Leads v steps w
+walks_lead v w steps walks same =
+    drawn_lead v w steps walks (drawless v steps (let many : length (after_all v steps).entries ≡ length v.entries = ap (λ (u : View). length u.entries) (sym (walks_end v w steps walks)) ∙ ap length same in omega (arith, many)))
 
 -- at its last view the lane was cut short in a call of the run, which it began at the view before
 pub record IsCutAt (o : Opening) (first : View) (lane : Lane Solo) (names : Names) (all : List (List ScriptLine)) (before last : View) : Type 0 where
@@ -131,7 +156,7 @@ pub record IsEnded (o : Opening) (first : View) (lane : Lane Solo) (names : Name
   pub settled_first : history ≡ settled ++ others
   pub called : HasCalled o first names answered settled middle
   pub same : IsSameLane middle last
-  pub bound : IsBounded first last (stores_of_calls names all)
+  pub bound : IsWalked first last (stores_of_calls names all)
   pub seen : Sees lane.memory last
   pub ends : ComesToEnd names behind ended middle last
   pub numbered : List (List ScriptLine)
@@ -166,88 +191,17 @@ module _ (o : Opening) (first : View) (names : Names) (all : List (List ScriptLi
     at_rest_fated last over generation header pool begins keep left kept decides k d low =
         (settled_at names calls history entries entered k d low).1 ∙ sym (ended_stays last left (slice_index_or history k d).number (over (slice_index_or history k d).number))
 
-  -- all calls were answered
-  pub ended_finished : (lane : Lane Solo) (history : List Entry) (halt : Halt) → HasFinished o first lane names all history halt → IsEnded o first lane names all decided halt.generation (closed_history history halt.is_open decided) halt.end
-  ended_finished lane history halt f =
-      let view : View = f.answered.view in
-      let called = f.answered.called in
-      let nothing : all ≡ all ++ [] = sym (append-nil all) in
-      let rests : Rests view = record { empty = inl f.answered.idle; drained = λ slot low. all_drained view slot f.answered.drained } in
-      let many = as_many_calls all [] nothing history view.entries called.are in
-      subst (λ (x : Option Entry). IsEnded o first lane names all decided halt.generation (closed_history history x decided) halt.end) (sym f.is_open)
-      (subst (IsEnded o first lane names all decided halt.generation history) (sym f.ends) (record {
-        answered = all;
-        behind = [];
-        are = nothing;
-        middle = view;
-        settled = history;
-        others = [];
-        settled_first = sym (append-nil history);
-        called = called;
-        same = same_lane view;
-        last = view;
-        bound = called.bound;
-        seen = f.answered.rests.seen.memory;
-        ends = (refl, refl);
-        numbered = all;
-        rest = [];
-        calls_are = nothing;
-        shown = all_shown all [] nothing history view.entries called.are;
-        most = omega (arith, many);
-        fates = all_answered all [] nothing history view.entries called.are;
-        whole = λ same. refl;
-        unstopped = λ other. many;
-        at_stop = λ calls same. absurd (let clash : end.Ended ≡ end.Stopped calls = same in cc);
-        fated = at_rest_fated all [] nothing history view.entries called.are view (λ n. inl (ap (λ (l : Log). l.phase) f.answered.idle)) halt.generation;
-        stands = inl (record { steps = []; leads = leads_nowhere view; rests = rests });
-      }))
-
-  -- one could not begin
+  -- in one the lane stopped
   module _ (lane : Lane Solo) (answered : List (List ScriptLine)) (lines : List ScriptLine) (behind : List (List ScriptLine)) (are : all ≡ answered ++ lines ∷ behind) (history : List Entry) (halt : Halt) where
     stores_within : stores_of_calls names answered + stores_of_call names lines ≤ stores_of_calls names all
     stores_within = subst (λ (calls : List (List ScriptLine)). stores_of_calls names answered + stores_of_call names lines ≤ stores_of_calls names calls) (sym are) (calls_within names answered behind lines)
 
     -- with those of the call in which the lane came to its end
-    within_all : {before : View} (last : View) → IsBounded first before (stores_of_calls names answered) → IsBounded before last (stores_of_call names lines) → IsBounded first last (stores_of_calls names all)
+    within_all : {before : View} (last : View) → IsWalked first before (stores_of_calls names answered) → IsWalked before last (stores_of_call names lines) → IsWalked first last (stores_of_calls names all)
     within_all {before} last first_bound last_bound =
-        bounded_within first last (stores_of_calls names answered + stores_of_call names lines) (stores_of_calls names all) stores_within
-        (bounded_then first before last (stores_of_calls names answered) (stores_of_call names lines) first_bound last_bound)
+        walked_within first last (stores_of_calls names answered + stores_of_call names lines) (stores_of_calls names all) stores_within
+        (walked_then first before last (stores_of_calls names answered) (stores_of_call names lines) first_bound last_bound)
 
-    pub ended_spent : HasSpent o first lane names answered lines history halt → IsEnded o first lane names all decided halt.generation (closed_history history halt.is_open decided) halt.end
-    ended_spent s =
-        let view : View = s.unbegun.view in
-        let called = s.called in
-        let rests : Rests view = record { empty = ⊎_elim (λ (idle : view.log ≡ no_log Idle). inl idle) (λ begun. inr begun.0) s.unbegun.fresh; drained = λ slot low. all_drained view slot s.unbegun.drained } in
-        let many = as_many_calls answered (lines ∷ behind) are history s.before.entries called.are in
-        subst (λ (x : Option Entry). IsEnded o first lane names all decided halt.generation (closed_history history x decided) halt.end) (sym s.is_open)
-        (subst (IsEnded o first lane names all decided halt.generation history) (sym s.ends) (record {
-          answered = answered;
-          behind = lines ∷ behind;
-          are = are;
-          middle = s.before;
-          settled = history;
-          others = [];
-          settled_first = sym (append-nil history);
-          called = called;
-          same = same_along s.before view s.unbegun.free.led.steps s.unbegun.free.led.leads;
-          last = view;
-          bound = within_all view called.bound (bounded s.before view (stores_of_call names lines) s.unbegun.free.led.steps s.drained s.unbegun.free.led.leads (let none = led_stores s.before view s.unbegun.free.led in omega (arith, none)));
-          seen = s.unbegun.seen;
-          ends = record { call = lines; behind = behind; are = refl; of_line = s.of_line; free = s.unbegun.free; used_up = s.unbegun.used_up };
-          numbered = answered;
-          rest = lines ∷ behind;
-          calls_are = are;
-          shown = subst (AreShown names answered history) (sym s.unbegun.free.undrawn) (all_shown answered (lines ∷ behind) are history s.before.entries called.are);
-          most = omega (arith, many);
-          fates = all_answered answered (lines ∷ behind) are history s.before.entries called.are;
-          whole = λ same. absurd (let clash : end.Spent s.line ≡ end.Ended = same in cc);
-          unstopped = λ other. many;
-          at_stop = λ calls same. absurd (let clash : end.Spent s.line ≡ end.Stopped calls = same in cc);
-          fated = at_rest_fated answered (lines ∷ behind) are history s.before.entries called.are view (λ n. ⊎_elim (λ (idle : view.log ≡ no_log Idle). inl (ap (λ (l : Log). l.phase) idle)) (λ begun. inr (λ some. none-some n (sym begun.1 ∙ some))) s.unbegun.fresh) halt.generation;
-          stands = inl (record { steps = s.unbegun.free.led.steps; leads = s.unbegun.free.led.leads; rests = rests });
-        }))
-
-    -- in one the lane stopped
     module _ (fits : ForSome first.stop (λ n. n < 2 ^ 64)) (s : HasStopped o first lane names answered lines history halt) where
       abbrev last : View
       last = s.halted.cut.view
@@ -265,11 +219,7 @@ module _ (o : Opening) (first : View) (names : Names) (all : List (List ScriptLi
       exact = counted_exactly first last lane.memory same s.halted.cut.seen fits s.halted.cut.at_stop
 
       stopped_calls : (calls : ℕ) → end.Stopped (last.calls % 2 ^ 64) ≡ end.Stopped calls → last.calls ≡ calls
-      stopped_calls calls same = sym exact ∙ ap stop_number same where
-        stop_number : LaneEnd → ℕ
-        stop_number end.Ended = 0
-        stop_number (end.Stopped n) = n
-        stop_number (end.Spent n) = 0
+      stopped_calls calls same = sym exact ∙ same_stop (last.calls % 2 ^ 64) calls same
 
       -- with a history whose entries are these calls'
       ended_with : (numbered rest : List (List ScriptLine)) (full others : List Entry) → full ≡ history ++ others → all ≡ numbered ++ rest → AreShown names numbered full last.entries → length full ≤ length answered + 1
@@ -286,9 +236,9 @@ module _ (o : Opening) (first : View) (names : Names) (all : List (List ScriptLi
             called = s.called;
             same = s.halted.cut.same;
             last = last;
-            bound = within_all last s.called.bound (s.halted.cut.bound s.drained);
+            bound = within_all last s.called.bound s.halted.cut.bound;
             seen = s.halted.cut.seen;
-            ends = record { call = lines; behind = behind; are = refl; stops = s.halted.cut.stops; at_stop = sym exact };
+            ends = inl (record { call = lines; behind = behind; are = refl; stops = s.halted.cut.stops; at_stop = sym exact });
             numbered = numbered;
             rest = rest;
             calls_are = calls_are;
@@ -451,13 +401,112 @@ module _ (o : Opening) (first : View) (names : Names) (all : List (List ScriptLi
           (λ (cut : IsCutPublishing (standing o before) before names lines s.reply.values last). ended_flying cut.flight (publishing_fated cut))
           s.halted.cut.way
 
+  -- behind its calls the lane gave up what was pending, or stopped as it did
+  module _ (lane : Lane Solo) (history : List Entry) (halt : Halt) (ended : LaneEnd) (v : View) (u : HasAnsweredUpTo o first names all history ended v) (no_call : halt.is_open ≡ None) where
+    abbrev middle : View
+    middle = u.before
+
+    as_many_answered : length history ≡ length u.answered
+    as_many_answered = as_many_calls u.answered u.behind u.are history middle.entries u.called.are
+
+    stores_before : stores_of_calls names u.answered ≤ stores_of_calls names all
+    stores_before = subst (λ (calls : List (List ScriptLine)). stores_of_calls names u.answered ≤ stores_of_calls names calls) (sym u.are) (calls_front names u.answered u.behind)
+
+    -- at the end it is none that stopped in a call
+    not_stopped : (stop : ℕ) → ended ≡ end.Stopped stop → ⊥
+    not_stopped stop same = ⊎_elim
+        (λ (t : (ended ≡ end.Ended) × (u.behind ≡ []) × (v ≡ middle)). let clash : end.Ended ≡ end.Stopped stop = sym t.0 ∙ same in absurd cc)
+        (λ (t : (line : ℕ) × (ended ≡ end.Spent line) × IsSpentAt u.behind line middle v). let clash : end.Spent t.0 ≡ end.Stopped stop = sym t.1 ∙ same in absurd cc)
+        u.comes
+
+    begins_none : BeginsNone u.behind middle v
+    begins_none = ⊎_elim
+        (λ (t : (ended ≡ end.Ended) × (u.behind ≡ []) × (v ≡ middle)). inl (t.1, t.2))
+        (λ (t : (line : ℕ) × (ended ≡ end.Spent line) × IsSpentAt u.behind line middle v). inr (t.0, t.2))
+        u.comes
+
+    -- with its last view, at rest
+    module _ (w : View) (walks : IsWalked v w 0) (same : IsSameLane v w) (seen : Sees lane.memory w) (rests : Rests w) (entries : w.entries ≡ v.entries) (number : w.number ≡ v.number) (log : w.log ≡ v.log) where
+      same_all : IsSameLane middle w
+      same_all = same_lane-then middle v w (led_same middle v u.free.led) same
+
+      bound_all : IsWalked first w (stores_of_calls names all)
+      bound_all =
+          walked_within first w (stores_of_calls names u.answered + (0 + 0)) (stores_of_calls names all) (let few = stores_before in omega (arith, few))
+          (walked_then first middle w (stores_of_calls names u.answered) (0 + 0) u.called.bound
+          (walked_then middle v w 0 0 (walked middle v 0 u.free.led.steps u.free.led.leads (let none = led_stores middle v u.free.led in omega (arith, none))) walks))
+
+      over : (n : ℕ) → (w.log.phase ≡ Idle) ⊎ (w.number ≢ Some n)
+      over n = ⊎_elim
+          (λ (idle : v.log ≡ no_log Idle). inl (ap (λ (l : Log). l.phase) (log ∙ idle)))
+          (λ (begun : (v.log ≡ no_log (Open [] [])) × (v.number ≡ None) × (v.call ≡ [])). inr (λ some. none-some n (sym (number ∙ begun.1) ∙ some)))
+          u.fresh
+
+      closed_with : (last : LaneEnd) → halt.end ≡ last → ComesToEnd names u.behind last middle w → (last ≡ end.Ended → u.behind ≡ []) → ((calls : ℕ) → last ≡ end.Stopped calls → first.stop ≡ Some calls)
+          → IsEnded o first lane names all decided halt.generation (closed_history history halt.is_open decided) halt.end
+      closed_with last ends comes whole at_stop =
+          subst (λ (x : Option Entry). IsEnded o first lane names all decided halt.generation (closed_history history x decided) halt.end) (sym no_call)
+          (subst (IsEnded o first lane names all decided halt.generation history) (sym ends) (record {
+            answered = u.answered;
+            behind = u.behind;
+            are = u.are;
+            middle = middle;
+            settled = history;
+            others = [];
+            settled_first = sym (append-nil history);
+            called = u.called;
+            same = same_all;
+            last = w;
+            bound = bound_all;
+            seen = seen;
+            ends = comes;
+            numbered = u.answered;
+            rest = u.behind;
+            calls_are = u.are;
+            shown = subst (AreShown names u.answered history) (sym (entries ∙ u.free.undrawn)) (all_shown u.answered u.behind u.are history middle.entries u.called.are);
+            most = (let many = as_many_answered in omega (arith, many));
+            fates = all_answered u.answered u.behind u.are history middle.entries u.called.are;
+            whole = whole;
+            unstopped = λ other. as_many_answered;
+            at_stop = at_stop;
+            fated = at_rest_fated u.answered u.behind u.are history middle.entries u.called.are w over halt.generation;
+            stands = inl (record {
+              steps = u.free.led.steps ++ walks.steps;
+              leads = leads_then middle v w u.free.led.steps walks.steps u.free.led.leads (walks_lead v w walks.steps walks.walks entries);
+              rests = rests;
+            });
+          }))
+
+    pub ended_giving_up : HasGivenUp lane v → halt.end ≡ ended → IsEnded o first lane names all decided halt.generation (closed_history history halt.is_open decided) halt.end
+    ended_giving_up g ends =
+        closed_with g.view g.walks g.same g.seen g.rests g.entries g.number g.phase ended ends
+        (⊎_elim
+        (λ (t : (ended ≡ end.Ended) × (u.behind ≡ []) × (v ≡ middle)). subst (λ (e : LaneEnd). ComesToEnd names u.behind e middle g.view) (sym t.0) (t.1, subst (λ (x : View). IsFinishMade x g.view) t.2 g.made))
+        (λ (t : (line : ℕ) × (ended ≡ end.Spent line) × IsSpentAt u.behind line middle v). subst (λ (e : LaneEnd). ComesToEnd names u.behind e middle g.view) (sym t.1) (v, t.2, g.made))
+        u.comes)
+        (λ last. ⊎_elim
+        (λ (t : (ended ≡ end.Ended) × (u.behind ≡ []) × (v ≡ middle)). t.1)
+        (λ (t : (line : ℕ) × (ended ≡ end.Spent line) × IsSpentAt u.behind line middle v). absurd (let clash : end.Spent t.0 ≡ end.Ended = sym t.1 ∙ last in cc))
+        u.comes)
+        (λ calls last. absurd (not_stopped calls last))
+
+    pub ended_stopping : ForSome first.stop (λ n. n < 2 ^ 64) → (g : HasStoppedGivingUp lane v) → halt.end ≡ end.Stopped (g.view.calls % 2 ^ 64) → IsEnded o first lane names all decided halt.generation (closed_history history halt.is_open decided) halt.end
+    ended_stopping fits g ends =
+        let w : View = g.view in
+        let same : IsSameLane first w = same_lane-then first middle w u.called.same (same_all w g.walks g.same g.seen g.rests g.entries g.number g.phase) in
+        let exact : w.calls % 2 ^ 64 ≡ w.calls = counted_exactly first w lane.memory same g.seen fits g.at_stop in
+        closed_with w g.walks g.same g.seen g.rests g.entries g.number g.phase (end.Stopped (w.calls % 2 ^ 64)) ends
+        (inr (record { before = v; begins_none = begins_none; stops = g.stops; at_stop = sym exact }))
+        (λ last. absurd (let clash : end.Stopped (w.calls % 2 ^ 64) ≡ end.Ended = last in cc))
+        (λ calls last. stopped_at first w lane.memory same g.seen g.at_stop ∙ ap Some (sym exact ∙ same_stop (w.calls % 2 ^ 64) calls last))
+
   -- however it came to its end
-  pub ended_run : (lane : Lane Solo) (history : List Entry) (halt : Halt) → ForSome first.stop (λ n. n < 2 ^ 64) → HasRun o first lane names all history halt
+  pub ended_run : (lane : Lane Solo) (history : List Entry) (halt : Halt) → ForSome first.stop (λ n. n < 2 ^ 64) → HasClosed o first lane names all history halt
       → IsEnded o first lane names all decided halt.generation (closed_history history halt.is_open decided) halt.end
   ended_run lane history halt fits run = ⊎_elim
-      (λ (f : HasFinished o first lane names all history halt). ended_finished lane history halt f)
-      (λ (h : HasHaltedIn o first lane names all history halt). ⊎_elim
-      (λ (s : HasStopped o first lane names h.answered h.lines history halt). ended_cut lane h.answered h.lines h.behind h.are history halt fits s)
-      (λ (s : HasSpent o first lane names h.answered h.lines history halt). ended_spent lane h.answered h.lines h.behind h.are history halt s)
-      h.halted)
+      (λ (s : HasClosedStopped o first lane names all history halt). ended_cut lane s.answered s.lines s.behind s.are history halt fits s.stopped)
+      (λ (b : HasClosedBehind o first lane names all history halt). ⊎_elim
+      (λ (t : HasGivenUp lane b.view × (halt.end ≡ b.ended)). ended_giving_up lane history halt b.ended b.view b.up_to b.is_open t.0 t.1)
+      (λ (t : (stopped : HasStoppedGivingUp lane b.view) × (halt.end ≡ end.Stopped (stopped.view.calls % 2 ^ 64))). ended_stopping lane history halt b.ended b.view b.up_to b.is_open fits t.0 t.1)
+      b.closes)
       run

@@ -18,7 +18,7 @@ use Rattle.pm_tx.proofs.PlannedWords.{new_are_covered}
 use Rattle.pm_tx.proofs.StoreCounts.{stores_counted}
 use Rattle.pm_tx.specs.Sequences.{word_count}
 use Rattle.pm_undo.specs.Spans.{words_in}
-use Rattle.pm_view.specs.Counts.{among, counted, is_counted, is_drain, is_flush, is_store, stores_among}
+use Rattle.pm_view.specs.Counts.{among, counted, is_counted, is_store, stores_among}
 use Rattle.pm_view.specs.Log.{Log, Phase, Recorded, no_log, log_drawn}
 use Rattle.pm_view.specs.Log.Phase.{Idle, Open, Drawn, Sealing, Applying, Clearing, Retiring}
 use Rattle.pm_view.specs.Steps.{Step}
@@ -26,7 +26,7 @@ use Rattle.pm_view.specs.Steps.Step.{Load, Store, Or, And, Flush, Drain, TakeWri
 use Rattle.pm_view.specs.View.{View}
 use Rattle.pm_view.specs.Views.{after, after_all, begun}
 use Rattle.pm_world.specs.Lanes.{span_of}
-use Rattle.pm_exec.specs.Bounds.{IsBounded, most_stores, recorded_count, stores_of_call, stores_of_calls, stores_of_lines}
+use Rattle.pm_exec.specs.Bounds.{IsBounded, IsWalked, most_stores, recorded_count, stores_of_call, stores_of_calls, stores_of_lines}
 use Rattle.pm_exec.specs.declared.calls.Names.{Names}
 
 -- one line more
@@ -49,6 +49,9 @@ calls_within names calls behind lines =
     let both = sum_by-append (stores_of_call names) calls (lines ∷ behind) in
     let next = sum_by-cons (stores_of_call names) lines behind in
     omega (arith, both, next)
+
+pub calls_front : (names : Names) (calls behind : List (List ScriptLine)) → stores_of_calls names calls ≤ stores_of_calls names (calls ++ behind)
+calls_front names calls behind = let both = sum_by-append (stores_of_call names) calls behind in omega (arith, both)
 
 -- steps that are no counted calls store nothing
 pub led_stores : (v w : View) (led : IsLed v w) → stores_among led.steps ≡ 0
@@ -137,21 +140,9 @@ unfolding Walks
 walks_then u v w [] ys first second = subst (λ (x : View). Walks x ys w) first second
 walks_then u v w (s ∷ xs) ys first second = (first.0, first.1, walks_then (after u s) v w xs ys first.2 second)
 
--- from a view at which nothing was undrained
-pub bounded_walk : (v w : View) (most : ℕ) (steps : List Step) → v.changes ≡ [] → Walks v steps w → stores_among steps ≤ most → IsBounded v w most
-bounded_walk v w most steps none walks few =
-    let empty = ap length none in
-    record {
-      steps = steps;
-      walks = walks;
-      stores = few;
-      flushes = (let f = flushes_few v w steps walks in omega (arith, f, empty));
-      drains = (let d = drains_few v w steps walks in omega (arith, d, empty));
-      calls = calls_are v w steps walks;
-    }
-
-pub bounded : (v w : View) (most : ℕ) (steps : List Step) → v.changes ≡ [] → Leads v steps w → stores_among steps ≤ most → IsBounded v w most
-bounded v w most steps none leads few = bounded_walk v w most steps none (walks_of v w steps leads) few
+-- by steps that lead
+pub walked : (v w : View) (most : ℕ) (steps : List Step) → Leads v steps w → stores_among steps ≤ most → IsWalked v w most
+walked v w most steps leads few = record { steps = steps; walks = walks_of v w steps leads; stores = few }
 
 -- one behind the other
 among_append : (kind : Step → Bool) (xs ys : List Step) → among kind (xs ++ ys) ≡ among kind xs + among kind ys
@@ -159,22 +150,30 @@ unfolding among
 among_append kind [] ys = (let e : among kind ys ≡ 0 + among kind ys = omega arith in e)
 among_append kind (x ∷ xs) ys = let rest = among_append kind xs ys in omega (arith, rest)
 
-pub bounded_then : (u v w : View) (most more : ℕ) → IsBounded u v most → IsBounded v w more → IsBounded u w (most + more)
-bounded_then u v w most more first second =
+pub walked_then : (u v w : View) (most more : ℕ) → IsWalked u v most → IsWalked v w more → IsWalked u w (most + more)
+walked_then u v w most more first second =
     let stores = among_append is_store first.steps second.steps in
-    let flushes = among_append is_flush first.steps second.steps in
-    let drains = among_append is_drain first.steps second.steps in
     record {
       steps = first.steps ++ second.steps;
       walks = walks_then u v w first.steps second.steps first.walks second.walks;
       stores = (let a = first.stores in let b = second.stores in omega (arith, stores, a, b));
-      flushes = (let a = first.flushes in let b = second.flushes in omega (arith, stores, flushes, a, b));
-      drains = (let a = first.drains in let b = second.drains in omega (arith, stores, drains, a, b));
-      calls = (let a = first.calls in let b = second.calls in omega (arith, stores, flushes, drains, a, b));
     }
 
-pub bounded_within : (v w : View) (most more : ℕ) → most ≤ more → IsBounded v w most → IsBounded v w more
-bounded_within v w most more few b = record { steps = b.steps; walks = b.walks; stores = (let s = b.stores in omega (arith, s, few)); flushes = b.flushes; drains = b.drains; calls = b.calls }
+pub walked_within : (v w : View) (most more : ℕ) → most ≤ more → IsWalked v w most → IsWalked v w more
+walked_within v w most more few b = record { steps = b.steps; walks = b.walks; stores = (let s = b.stores in omega (arith, s, few)) }
+
+-- from a view at which nothing was undrained
+pub bounded : (v w : View) (most : ℕ) → v.changes ≡ [] → IsWalked v w most → IsBounded v w most
+bounded v w most none b =
+    let empty = ap length none in
+    record {
+      steps = b.steps;
+      walks = b.walks;
+      stores = b.stores;
+      flushes = (let f = flushes_few v w b.steps b.walks in omega (arith, f, empty));
+      drains = (let d = drains_few v w b.steps b.walks in omega (arith, d, empty));
+      calls = calls_are v w b.steps b.walks;
+    }
 
 pub calls_bounded : (v w : View) (most : ℕ) → v.calls ≡ 0 → IsBounded v w most → w.calls ≤ 3 * most
 calls_bounded v w most none b = let c = b.calls in let s = b.stores in let f = b.flushes in let d = b.drains in omega (arith, none, c, s, f, d)

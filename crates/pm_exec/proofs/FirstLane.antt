@@ -1,7 +1,22 @@
 -- A lane that is made over the words of a pool has made no step.
-use Rattle.std.proofs.Common.{◌%◌, [], ◌≡◌, inl, ℕ, ◌+◌, ◌-◌, ◌*◌, List, slice_index, length, take, drop, Option, refl, sym, ap, ◌∙◌, subst, arith}
+use Rattle.std.proofs.lemmas.Bool.{false≢true}
+use Rattle.std.proofs.Common.{All, map, [], ◌≡◌, inl, ℕ, ◌+◌, ◌-◌, ◌*◌, List, slice_index, length, take, drop, Option, refl, sym, ap, ◌∙◌, subst, arith}
 use Rattle.std.proofs.Math.Seq.{take-length}
-use Rattle.pm_crash.specs.Alone.{BeginsAlone}
+use Rattle.pm_crash.specs.Alone.{Begins, BeginsAlone, WorksAlone}
+use Rattle.pm_crash.specs.CallBlocks.{reserved_object}
+use Rattle.pm_crash.specs.Leading.{Leads}
+use Rattle.pm_crash.proofs.ReservedOn.{none_reserved}
+use Rattle.pm_crash.proofs.SeenAlone.{works_where_seen}
+use Rattle.pm_epoch.proofs.NothingReserved.{rests_with_none}
+use Rattle.pm_epoch.specs.Reserving.{with_next_call}
+use Rattle.pm_lock.specs.Resting.{HasPlace}
+use Rattle.pm_model.specs.Actions.{Pending, none_pending}
+use Rattle.pm_pending.specs.AllPending.{IsPendingAs}
+use Rattle.pm_transaction.proofs.EndingAlone.{none_run}
+use Rattle.pm_transaction.proofs.RestingViews.{NextOf, next_of, next_pending}
+use Rattle.pm_transaction.specs.Resting.{StandsAtRest}
+use Rattle.pm_view.specs.View.{View}
+use Rattle.pm_exec.proofs.PendingLists.{still_pending}
 use Rattle.pm_header.specs.declared.header.Header.{Header}
 use Rattle.pm_layout.specs.declared.shape.Shape.{Shape}
 use Rattle.pm_memory.proofs.Unlocked.{sees_opened}
@@ -11,14 +26,13 @@ use Rattle.pm_occupancy.proofs.Words.{run_words_count, zone_words_count}
 use Rattle.pm_objects.specs.declared.history.TxErr.TheVariants as error
 use Rattle.pm_objects.specs.declared.pool.PoolView.{PoolView}
 use Rattle.pm_made.specs.Made.{BlockLists}
-use Rattle.pm_transaction.specs.AtWork.{AreForPool}
+use Rattle.pm_transaction.specs.AtWork.{AreForPool, IsNotMaking, LiesInReserved}
 use Rattle.pm_world.specs.Lanes.{IsIdle, IsOfShape, IsSeenAs}
 use Rattle.pm_world.specs.declared.lane.Lane.{Lane}
 use Rattle.pm_exec.specs.Openings.{first_view, opening_of}
-use Rattle.pm_exec.specs.Progress.{IsStart}
-use Rattle.pm_pending.specs.declared.actions.SetAction.{SetAction}
+use Rattle.pm_exec.specs.Progress.{IsStart, KeepsReserved}
+use Rattle.pm_pending.specs.declared.pending.PendingActions.{PendingActions}
 use Rattle.pm_crash.specs.Pending.{pending_before, pending_from}
-use Rattle.pm_exec.specs.Progress.{IsPending}
 use Rattle.std.proofs.lemmas.List.Elements.{All-nil}
 
 -- the memory of the words, with the occupancy words that they give
@@ -74,30 +88,61 @@ begun_long pool words stop begun = let bytes = begun.1.holds.has_header.has_shap
 pub shaped_first : (pool : PoolView) (words : List ℕ) (stop : Option ℕ) (shape : Shape) → length words ≡ 512 + 1024 * pool.lanes + 33280 * pool.zones → shape.lanes ≡ pool.lanes → shape.zones ≡ pool.zones → IsOfShape (first_view pool words stop) shape
 shaped_first pool words stop shape size lanes zones = record { lanes = sym lanes; zones = sym zones; size = omega (arith, size, lanes, zones) }
 
--- before the first call nothing is pending
-none_pending : (pool : PoolView) (words : List ℕ) (stop : Option ℕ) → IsPending [] (pending_before (first_view pool words stop))
+-- before the first call nothing is pending, and nothing reserved
+none_yet : (pool : PoolView) (words : List ℕ) (stop : Option ℕ) → pending_before (first_view pool words stop) ≡ none_pending
 unfolding pending_from
-none_pending pool words stop = record { are = refl; aligned = All-nil (λ (a : SetAction). a.off % 8 ≡ 0) }
+none_yet pool words stop = refl
+
+makes_none : (pool : PoolView) (words : List ℕ) (stop : Option ℕ) → IsNotMaking (first_view pool words stop)
+makes_none pool words stop = record { unlocked = refl; no_run = λ c in_pool reserved. absurd (false≢true reserved) }
+
+module _ (pool : PoolView) (words : List ℕ) (stop : Option ℕ) (lane : Lane Solo) (seen : IsSeenAs Sees lane (first_view pool words stop)) (place : HasPlace (first_view pool words stop)) where
+  abbrev first : View
+  first = first_view pool words stop
+
+  next : NextOf first (with_next_call first)
+  next = next_of first place.lane (inl refl)
+
+  stands_none : StandsAtRest first
+  stands_none = record {
+    stands = none_reserved (with_next_call first) (ap (λ (p : Pending). p.reserved) (next_pending first (with_next_call first) next ∙ none_yet pool words stop));
+    within = subst (λ (p : Pending). All (LiesInReserved first) (map reserved_object p.reserved)) (sym (none_yet pool words stop)) (All-nil (LiesInReserved first));
+  }
+
+  works_none : (header : Header) (held : PoolView) → Begins (opening_of pool words) header held first → WorksAlone (opening_of pool words) header held first [] first
+  unfolding Leads
+  works_none header held begins = works_where_seen (opening_of pool words) header held lane.memory first first [] begins refl seen.memory
+
+  keeps_none : KeepsReserved (opening_of pool words) lane.shape first
+  keeps_none = record {
+    quiet = makes_none pool words stop;
+    stands = stands_none;
+    rests = λ header held begins.
+        let works = works_none header held begins in
+        rests_with_none (opening_of pool words) header held first [] first lane.shape works refl refl refl refl seen.shape
+        (none_run (opening_of pool words) header held first first [] works (makes_none pool words stop)) (ap (λ (p : Pending). p.reserved) (none_yet pool words stop));
+  }
 
 pub is_start : (pool : PoolView) (words : List ℕ) (stop : Option ℕ) (lane : Lane Solo) → (header : Header) × BeginsAlone (opening_of pool words) header pool (first_view pool words stop) → IsSeenAs Sees lane (first_view pool words stop) → IsIdle lane → lane.error ≡ error.None → lane.entries.items ≡ []
-    → (blocks : BlockLists) → AreForPool blocks (first_view pool words stop) → IsStart (opening_of pool words) lane blocks [] (first_view pool words stop)
-is_start pool words stop lane begun seen idle unharmed unlisted blocks pages = record {
-  rests = record {
-    seen = seen;
-    answered = idle.answered;
-    unharmed = unharmed;
-    unstopped = idle.unstopped;
-    unlisted = unlisted;
-    fresh = inl refl;
-    undrained = inl refl;
-    free = refl;
-    place = (let shape = begun.1.holds.has_header.has_shape in let some = shape.shape.lanes_from in let bytes = shape.size in record { lane = omega (arith, some); few = omega arith; inside = omega (arith, some, bytes) });
-  };
-  drained = refl;
-  header = begun.0;
-  pool = pool;
-  begins = inl begun.1;
-  has_none = record { unlocked = refl; no_chunk = λ chunk low. refl };
-  pages = pages;
-  pending = none_pending pool words stop;
-}
+    → (blocks : BlockLists) (actions : PendingActions) → AreForPool blocks (first_view pool words stop) → IsPendingAs actions none_pending → IsStart (opening_of pool words) lane blocks actions (first_view pool words stop)
+is_start pool words stop lane begun seen idle unharmed unlisted blocks actions pages nothing =
+    let place : HasPlace (first_view pool words stop) = (let shape = begun.1.holds.has_header.has_shape in let some = shape.shape.lanes_from in let bytes = shape.size in record { lane = omega (arith, some); few = omega arith; inside = omega (arith, some, bytes) }) in
+    record {
+      rests = record {
+        seen = seen;
+        answered = idle.answered;
+        unharmed = unharmed;
+        unstopped = idle.unstopped;
+        unlisted = unlisted;
+        fresh = inl refl;
+        undrained = inl refl;
+        free = refl;
+        place = place;
+      };
+      header = begun.0;
+      pool = pool;
+      begins = inl begun.1;
+      keeps = keeps_none pool words stop lane seen place;
+      pages = pages;
+      pending = still_pending (pending_before (first_view pool words stop)) (none_yet pool words stop) nothing;
+    }

@@ -10,7 +10,7 @@ use Rattle.pm_objects.specs.declared.calls.Operation.TheVariants as operation
 use Rattle.pm_objects.specs.declared.ids.Oid.{Oid}
 use Rattle.pm_objects.specs.declared.refusal.Refusal.{Refusal}
 use Rattle.pm_objects.specs.declared.refusal.Refusal.TheVariants as refusal
-use Rattle.pm_pending.specs.declared.actions.SetAction.{SetAction}
+use Rattle.pm_pending.specs.declared.pending.PendingActions.{PendingActions}
 use Rattle.pm_script.specs.declared.script.ScriptId.{ScriptId}
 use Rattle.pm_script.specs.declared.script.ScriptLine.{ScriptLine}
 use Rattle.pm_script.specs.declared.script.ScriptOp.{ScriptOp}
@@ -52,7 +52,7 @@ free_not_spent r (inr (inr (inl is))) = λ spent. let clash : refusal.RootKept �
 free_not_spent r (inr (inr (inr (inl is)))) = λ spent. let clash : refusal.ActionsFull ≡ refusal.Spent = sym is ∙ spent in cc
 free_not_spent r (inr (inr (inr (inr is)))) = λ spent. let clash : refusal.Stopped ≡ refusal.Spent = sym is ∙ spent in cc
 
-module _ (o : Opening) (first : View) (lane : Lane Solo) (blocks : BlockLists) (actions : List SetAction) (names : Names) (front : List ScriptLine) (values : Values) (a : IsAtLine o first lane blocks actions names front values) (new : Lane Solo) (said : ScriptLine)
+module _ (o : Opening) (first : View) (lane : Lane Solo) (blocks : BlockLists) (actions : PendingActions) (names : Names) (front : List ScriptLine) (values : Values) (a : IsAtLine o first lane blocks actions names front values) (new : Lane Solo) (said : ScriptLine)
     (id : ScriptId) (place : Oid) (place_is : place ≡ id_of names id) (is : said.operation ≡ op.Free id) where
   pub free_is : operation.Free place ≡ operation_of names said.operation
   free_is = ap (λ (i : Oid). operation.Free i) place_is ∙ ap (operation_of names) (sym is)

@@ -5,7 +5,7 @@ use Rattle.std.proofs.lemmas.List.Elements.{All-append, All-cons, All-contains, 
 use Rattle.pm_made.specs.Made.{BlockLists}
 use Rattle.pm_memory.specs.Solo.{Solo}
 use Rattle.pm_objects.specs.declared.history.Entry.{Entry}
-use Rattle.pm_pending.specs.declared.actions.SetAction.{SetAction}
+use Rattle.pm_pending.specs.declared.pending.PendingActions.{PendingActions}
 use Rattle.pm_script.specs.declared.script.ScriptLine.{ScriptLine}
 use Rattle.pm_view.specs.View.{Numbered, View}
 use Rattle.pm_world.specs.Opening.{Opening}
@@ -18,7 +18,7 @@ use Rattle.pm_exec.specs.declared.running.Halt.{Halt}
 use Rattle.pm_exec.proofs.GivenLetters.{AreAbove, IsAbove, call_lines_resolved, calls_above, calls_stand, calls_stay, front_above, given_kept}
 
 -- the lane came through the calls before these lines, whose letters are resolved by what was given; their lines are above all of these
-pub record HasRunTo (o : Opening) (first : View) (lane : Lane Solo) (blocks : BlockLists) (actions : List SetAction) (names : Names) (given : Offsets) (script rest : List ScriptLine) (history : List Entry) : Type 0 where
+pub record HasRunTo (o : Opening) (first : View) (lane : Lane Solo) (blocks : BlockLists) (actions : PendingActions) (names : Names) (given : Offsets) (script rest : List ScriptLine) (history : List Entry) : Type 0 where
   pub calls : List (List ScriptLine)
   pub are : call_lines script ≡ calls ++ call_lines rest
   pub above : All (AreAbove rest) calls
@@ -62,7 +62,7 @@ calls_below names given rest (call ∷ calls) (e ∷ history) (n ∷ entries) ar
     (subst (λ (last : ℕ). All (λ (other : ScriptLine). last < other.line) rest) (sym (ap (λ c. c.last) are.0.call)) (last_below rest call given (All-head (AreAbove rest) call calls above)))
     (calls_below names given rest calls history entries are.1 (All-tail (AreAbove rest) call calls above))
 
-module _ (o : Opening) (first : View) (lane : Lane Solo) (blocks : BlockLists) (actions : List SetAction) (names : Names) (given : Offsets) (script rest : List ScriptLine) (history : List Entry) (r : HasRunTo o first lane blocks actions names given script rest history) where
+module _ (o : Opening) (first : View) (lane : Lane Solo) (blocks : BlockLists) (actions : PendingActions) (names : Names) (given : Offsets) (script rest : List ScriptLine) (history : List Entry) (r : HasRunTo o first lane blocks actions names given script rest history) where
   -- what the lines of its calls gave stays, whatever the next call gives
   pub told_still : (n : ℕ) (new : Offsets) → given ≡ offsets_of history → KeepsGiven (take n rest) given new → AreTold history new
   told_still n new is keeps e line there low =
@@ -88,7 +88,7 @@ module _ (o : Opening) (first : View) (lane : Lane Solo) (blocks : BlockLists) (
     taken_some (suc k) (l ∷ ls) low high = omega arith
 
     -- it came through the next call too
-    pub one_call_more : (lane2 : Lane Solo) (blocks2 : BlockLists) (actions2 : List SetAction) (history2 : List Entry)
+    pub one_call_more : (lane2 : Lane Solo) (blocks2 : BlockLists) (actions2 : PendingActions) (history2 : List Entry)
         → (HasComeTo o first lane blocks actions names (map (resolved given) r.calls) history → HasComeTo o first lane2 blocks2 actions2 names (map (resolved given) r.calls ++ resolved new call ∷ []) history2)
         → HasRunTo o first lane2 blocks2 actions2 names new script behind history2
     one_call_more lane2 blocks2 actions2 history2 goes = record {
@@ -103,16 +103,16 @@ module _ (o : Opening) (first : View) (lane : Lane Solo) (blocks : BlockLists) (
     }
 
     -- it came to its end in the next call
-    pub halted_next : (lane2 : Lane Solo) (history2 : List Entry) (halt : Halt)
-        → (HasComeTo o first lane blocks actions names (map (resolved given) r.calls) history → HasHalted o first lane2 names (map (resolved given) r.calls) (resolved new call) history2 halt)
-        → HasHaltedIn o first lane2 names (call_lines (resolved new script)) history2 halt
-    halted_next lane2 history2 halt ends = record {
+    pub halted_next : (lane2 : Lane Solo) (actions2 : PendingActions) (history2 : List Entry) (halt : Halt)
+        → (HasComeTo o first lane blocks actions names (map (resolved given) r.calls) history → HasHalted o first lane2 actions2 names (map (resolved given) r.calls) (resolved new call) history2 halt)
+        → HasHaltedIn o first lane2 actions2 names (call_lines (resolved new script)) history2 halt
+    halted_next lane2 actions2 history2 halt ends = record {
       answered = map (resolved new) r.calls;
       lines = resolved new call;
       behind = map (resolved new) (call_lines behind);
       are = call_lines_resolved new script
           ∙ (ap (map (resolved new)) (r.are ∙ ap (λ (cs : List (List ScriptLine)). r.calls ++ cs) split) ∙ map-append (resolved new) r.calls (call ∷ call_lines behind));
-      halted = subst (λ (cs : List (List ScriptLine)). HasHalted o first lane2 names cs (resolved new call) history2 halt) (sym stay) (ends r.came);
+      halted = subst (λ (cs : List (List ScriptLine)). HasHalted o first lane2 actions2 names cs (resolved new call) history2 halt) (sym stay) (ends r.came);
     }
 
   -- it came through all

@@ -1,7 +1,5 @@
 -- Steps that take and give nothing of the heap leave a lane what it had of it, where what they draw is an ended call's; a transaction's are such.
-use Rattle.std.proofs.Common.{◌≡◌, ℕ, ◌+◌, ◌/◌, ◌%◌, List, [], ◌∷◌, ◌++◌, length, Option, None, slice_index, refl, sym, ap, ◌∙◌, subst, arith}
-use Rattle.std.specs.List.{list_any}
-use Rattle.std.proofs.lemmas.Bool.{false≢true}
+use Rattle.std.proofs.Common.{ℕ, ◌+◌, ◌/◌, List, [], ◌∷◌, ◌++◌, length, Option, None, slice_index, refl, sym, subst}
 use Rattle.pm_crash.specs.HeldHistory.{DrawsEnded}
 use Rattle.pm_crash.specs.Leading.{Leads}
 use Rattle.pm_objects.specs.declared.calls.Operation.{Operation}
@@ -19,10 +17,8 @@ use Rattle.pm_view.specs.Log.{Phase}
 use Rattle.pm_view.specs.Log.Phase.{Applying, Clearing, Drawn, Idle, Open, Retiring, Sealing}
 use Rattle.pm_view.specs.Steps.{Step}
 use Rattle.pm_view.specs.Steps.Step.{Load, Store, Or, And, Flush, Drain, TakeWrite, TakeRead, Raise, Give, ZoneTry, ZoneGive, Occupied, Occupy, Vacate, Draw, NumberSeen, StopSeen, SetStop, Tell}
-use Rattle.pm_transaction.specs.AtWork.{IsNotMaking}
-use Rattle.pm_view.specs.declared.occ.Occ.TheVariants.{Zone}
-use Rattle.pm_view.specs.View.{Taken, View}
-use Rattle.pm_view.specs.Views.{after, begun, has_bit}
+use Rattle.pm_view.specs.View.{View}
+use Rattle.pm_view.specs.Views.{after, begun}
 use Rattle.pm_world.specs.Entries.{entry_word}
 use Rattle.pm_world.specs.Sequences.{finds_in, in_turn, makes_room, one, ors, ands, settles, stores}
 use Rattle.pm_world.specs.declared.lane.Span.{Span}
@@ -30,7 +26,6 @@ use Rattle.pm_lock.proofs.Leads.{heap_drawn, heap_still, heap_then}
 use Rattle.pm_lock.specs.Leading.{KeepsHeap}
 use Rattle.pm_tx.proofs.StepKinds.{Each, HasOnly, HasQuietSteps, only_by_lane, only_counted, only_in_turn, only_makes_room, only_nothing, only_one, only_persists, only_restores, only_settles, only_stores, only_with_generation}
 use Rattle.pm_tx.specs.Sequences.{commits, decides, decides_all, ends_call, gives_up, performs_logged, publishes, retires_any, takes_back, undoes}
-use Rattle.pm_exec.specs.Progress.{HasNothing}
 
 -- a step that takes and gives no zone's lock, and neither reserves nor gives back
 abbrev pub IsHeapless : Step → Type 0
@@ -75,17 +70,6 @@ pub heap_along : (v w : View) (steps : List Step) → Each IsHeapless steps → 
 unfolding Each Leads
 heap_along v w [] only leads = subst (KeepsHeap v) (sym leads) (heap_still v)
 heap_along v w (s ∷ steps) only leads = heap_then v (after v s) w (heap_after v s only.0 leads.2) (heap_along (after v s) w steps only.1 leads.3)
-
--- a lane that had nothing has nothing
-pub nothing_still : (v w : View) → w.zones ≡ v.zones → KeepsHeap v w → HasNothing v → HasNothing w
-nothing_still v w zones heap none = record {
-  unlocked = heap.zone_locks ∙ none.unlocked;
-  no_chunk = λ c in_pool. ap (λ (reserved : List Taken). list_any (has_bit (Zone (c / 64)) (c % 64)) reserved) heap.reserved ∙ none.no_chunk c (omega (arith, in_pool, zones));
-}
-
--- and makes no object
-pub makes_none : (v : View) → HasNothing v → IsNotMaking v
-makes_none v none = record { unlocked = none.unlocked; no_run = λ c in_pool reserved. absurd (false≢true (sym (none.no_chunk c in_pool) ∙ reserved)) }
 
 -- ---- a transaction's steps
 

@@ -47,3 +47,16 @@ pub mod EndedRuns
 pub mod RunEnds
 pub mod FewStores
 pub mod LineStores
+pub mod OutsideAnswered
+pub mod FinishSteps
+pub mod RestsUnbegun
+pub mod ClosedRuns
+pub mod KeptBlocks
+pub mod PutLine
+pub mod RefusedLines
+pub mod RestingReserved
+pub mod ReservedLine
+pub mod CancelLine
+pub mod LoggedOutside
+pub mod PublishLine
+pub mod GivenBackSteps

@@ -10,7 +10,7 @@ use Rattle.pm_world.specs.Opening.{Opening}
 use Rattle.pm_world.specs.declared.lane.Lane.{Lane}
 use Rattle.pm_exec.proofs.Along.{same_along}
 use Rattle.pm_exec.proofs.BeginsBehind.{begins_behind, page_behind, works}
-use Rattle.pm_exec.proofs.FewStores.{bounded}
+use Rattle.pm_exec.proofs.FewStores.{walked}
 use Rattle.pm_exec.specs.Links.{HasPassed, IsLink}
 use Rattle.pm_transaction.specs.AtWork.{IsNotMaking}
 
@@ -19,7 +19,7 @@ linked o lane first view steps most leads seen rests few = record {
   same = same_along first view steps leads;
   again = λ header pool begins. begins_behind o header pool lane first view steps begins leads seen rests;
   page = λ header pool begins. page_behind o header pool lane first view steps begins leads seen;
-  bound = λ drained. bounded first view most steps drained leads few;
+  bound = walked first view most steps leads few;
 }
 
 -- one that is over, and works alone still where it makes no object, is passed
@@ -27,6 +27,6 @@ pub passed : (o : Opening) (lane : Lane Solo) (first view : View) (steps : List 
 passed o lane first view steps most leads seen quiet few = record {
   same = same_along first view steps leads;
   page = λ header pool begins. page_behind o header pool lane first view steps begins leads seen;
-  bound = λ drained. bounded first view most steps drained leads few;
+  bound = walked first view most steps leads few;
   came = λ header pool begins. inr (record { steps = steps; works = works o header pool lane first view steps begins leads seen; quiet = quiet });
 }

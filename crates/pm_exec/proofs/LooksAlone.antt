@@ -17,6 +17,7 @@ pub record IsSameBut (v w : View) : Type 0 where
   pub call : w.call ≡ v.call
   pub number : w.number ≡ v.number
   pub entries : w.entries ≡ v.entries
+  pub locks : w.locks ≡ v.locks
   pub heap : KeepsHeap v w
 
 pub looks_none : (v : View) → Looks 0 v v
@@ -34,7 +35,7 @@ looks_go_on (suc n) v w t =
 
 pub looks_same : (n : ℕ) (v w : View) → Looks n v w → IsAlone v → IsSameBut v w
 unfolding Looks
-looks_same zero v w is alone = subst (IsSameBut v) (sym is) (record { alone = alone; lane = refl; words = refl; call = refl; number = refl; entries = refl; heap = heap_still v })
+looks_same zero v w is alone = subst (IsSameBut v) (sym is) (record { alone = alone; lane = refl; words = refl; call = refl; number = refl; entries = refl; locks = refl; heap = heap_still v })
 looks_same (suc n) v w t alone =
     let m : View = t.0 in
     let front : IsSameBut v m = looks_same n v m t.3 alone in
@@ -46,5 +47,6 @@ looks_same (suc n) v w t alone =
       call = front.call;
       number = front.number;
       entries = front.entries;
+      locks = ap (λ (u : View). u.locks) (sym t.6) ∙ t.7 ∙ front.locks;
       heap = heap_then v m (after m (Load t.1 t.2)) front.heap (record { zone_locks = refl; reserved = refl; freed = refl });
     })

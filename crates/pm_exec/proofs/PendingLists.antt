@@ -9,25 +9,18 @@ use Rattle.pm_pending.specs.Pending.{pending_of}
 use Rattle.pm_crash.specs.Pending.{pending_before, pending_behind, pending_from, pending_in, pending_told}
 use Rattle.pm_crash.proofs.PendingOn.{calls_further, pending_once_more, same_before}
 use Rattle.pm_model.specs.Actions.{Pending, none_pending}
-use Rattle.pm_pending.specs.declared.actions.SetAction.{SetAction}
+use Rattle.pm_pending.specs.declared.pending.PendingActions.{PendingActions}
 use Rattle.pm_view.specs.View.{Numbered, Told, View}
 use Rattle.pm_crash.specs.Alone.{is_raise, raises}
 use Rattle.pm_crash.proofs.Raises.{raise_by}
 use Rattle.pm_view.specs.Counts.{counted, is_counted}
 use Rattle.pm_view.specs.Steps.{Step}
 use Rattle.pm_view.specs.Steps.Step.{And, Drain, Draw, Flush, Give, Load, NumberSeen, Occupied, Occupy, Or, Raise, SetStop, StopSeen, Store, TakeRead, TakeWrite, Tell, Vacate, ZoneGive, ZoneTry}
-use Rattle.pm_exec.specs.Progress.{IsPending}
+use Rattle.pm_pending.specs.AllPending.{IsPendingAs}
 
 -- the list is the same, where the same is pending
-pub still_pending : {actions : List SetAction} {before : Pending} (behind : Pending) → behind ≡ before → IsPending actions before → IsPending actions behind
-still_pending behind same is = record { are = is.are ∙ sym same; aligned = is.aligned }
-
--- set-values alone: nothing is reserved
-pub has_none_reserved : (actions : List SetAction) (w : View) → pending_of actions ≡ pending_in w → HasReserved w
-has_none_reserved actions w are = none_reserved w (ap (λ (p : Pending). p.reserved) (sym are))
-
-pub none_within : (actions : List SetAction) (w : View) → pending_of actions ≡ pending_in w → All (LiesInReserved w) (reserved_in w)
-none_within actions w are = subst (λ (p : Pending). All (LiesInReserved w) (map reserved_object p.reserved)) are (All-nil (LiesInReserved w))
+pub still_pending : {actions : PendingActions} {before : Pending} (behind : Pending) → behind ≡ before → IsPendingAs actions before → IsPendingAs actions behind
+still_pending {actions} behind same is = subst (IsPendingAs actions) (sym same) is
 
 -- behind a call that came to one operation more and drew its number
 pub drawn_pending : (first v w : View) (n : ℕ) (t : Told) → v.entries ≡ first.entries → w.entries ≡ first.entries ++ record { number = n; call = w.call } ∷ [] → w.call ≡ v.call ++ t ∷ []

@@ -32,6 +32,7 @@ use Rattle.pm_world.specs.Sequences.{Sequence, in_turn, looks, one, settles, sto
 use Rattle.pm_world.specs.declared.lane.HeldLock.{HeldLock}
 use Rattle.pm_world.specs.declared.lane.Span.{Span}
 use Rattle.pm_lock.specs.Locking.{gives, line_at, takes}
+use Rattle.pm_transaction.specs.Published.{logs_call}
 use Rattle.pm_tx.proofs.Retirement.{records_beside}
 use Rattle.pm_tx.proofs.StepKinds.{Each, HasOnly, HasQuietSteps, each_first, each_more, only_by_lane, only_counted, only_in_turn, only_looks, only_looks_from, only_nothing, only_one, only_persists, only_restores, only_settles, only_stores, only_with_generation, only_with_word, only_makes_room}
 use Rattle.pm_tx.specs.Ranges.{reads_range, writes_range}
@@ -304,6 +305,14 @@ pub quiet_in_publish : (v : View) (entries : List Redo) (operation : Operation) 
 quiet_in_publish v entries operation n k quiet few each =
     let steps : List Step = publishes entries operation n v in
     quiet_all v (take k steps) quiet (each_first IsSlotless k steps (only_publishes entries operation n few (pool_sets v entries quiet.lane each) v quiet.lane))
+
+-- nor does a call that one log decides
+pub quiet_in_log : (v : View) (entries : List Redo) (operation : Operation) (n k : ℕ) → IsQuiet v → length entries ≤ 63 → All (MayEnter v) entries → IsQuiet (after_all v (take k (logs_call operation entries n v)))
+unfolding logs_call
+quiet_in_log v entries operation n k quiet few each =
+    let steps : List Step = logs_call operation entries n v in
+    quiet_all v (take k steps) quiet
+    (each_first IsSlotless k steps (only_in_turn IsSlotless settles (publishes entries operation n) (only_settles IsSlotless slotless_steps) (only_publishes entries operation n few (pool_sets v entries quiet.lane each)) v quiet.lane))
 
 -- nor does a commit
 pub quiet_in_commit : (v : View) (spans : List Span) (entries : List Redo) (n k : ℕ) → IsQuiet v → length entries ≤ 63 → All (MayEnter v) entries → IsQuiet (after_all v (take k (commits spans entries n v)))

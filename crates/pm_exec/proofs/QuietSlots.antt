@@ -150,7 +150,7 @@ quiet_begun v (Applying applied) quiet = quiet
 quiet_begun v Clearing quiet = quiet
 quiet_begun v Retiring quiet = quiet
 
-marked_word : (c : Change) (b : Bool) → (cond b (record c { flushed = true }) c).word ≡ c.word
+pub marked_word : (c : Change) (b : Bool) → (cond b (record c { flushed = true }) c).word ≡ c.word
 marked_word c true = refl
 marked_word c false = refl
 

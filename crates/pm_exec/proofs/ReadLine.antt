@@ -46,7 +46,7 @@ use Rattle.pm_exec.proofs.AddAndWrite.{cut_giving_up, under_outside}
 use Rattle.pm_exec.proofs.LooksAlone.{looks_none}
 use Rattle.pm_exec.proofs.LineLists.{gave_more, words_more}
 use Rattle.pm_exec.proofs.UndrawnSteps.{Keeps, all_undrawn_keep, reads_undrawn, undrawn_leave}
-use Rattle.pm_pending.specs.declared.actions.SetAction.{SetAction}
+use Rattle.pm_pending.specs.declared.pending.PendingActions.{PendingActions}
 
 -- the first of some numbers are those in front
 pub front_is : (n : ℕ) (xs ys : List ℕ) → n ≡ length xs → take n (xs ++ ys) ≡ xs
@@ -75,7 +75,7 @@ read_not_spent r (inr (inl is)) = λ spent. let clash : refusal.NoObject ≡ ref
 read_not_spent r (inr (inr (inl is))) = λ spent. let clash : refusal.OutOfRange ≡ refusal.Spent = sym is ∙ spent in cc
 read_not_spent r (inr (inr (inr is))) = λ spent. let clash : refusal.Stopped ≡ refusal.Spent = sym is ∙ spent in cc
 
-module _ (o : Opening) (first : View) (lane : Lane Solo) (blocks : BlockLists) (actions : List SetAction) (names : Names) (front : List ScriptLine) (values : Values) (a : IsAtLine o first lane blocks actions names front values) (new : Lane Solo) (said : ScriptLine)
+module _ (o : Opening) (first : View) (lane : Lane Solo) (blocks : BlockLists) (actions : PendingActions) (names : Names) (front : List ScriptLine) (values : Values) (a : IsAtLine o first lane blocks actions names front values) (new : Lane Solo) (said : ScriptLine)
     (id : ScriptId) (place : Oid) (place_is : place ≡ id_of names id) (off len : ℕ) (is : said.operation ≡ op.Read id off len) where
   pub read_is : operation.Read place off len ≡ operation_of names said.operation
   read_is = ap (λ (i : Oid). operation.Read i off len) place_is ∙ ap (operation_of names) (sym is)

@@ -4,8 +4,8 @@ use Rattle.std.proofs.lemmas.List.{map-append, take-append-drop}
 use Rattle.std.proofs.lemmas.List.Elements.{All-cons, All-get_or, All-head, All-nil, All-tail}
 use Rattle.pm_made.specs.Made.{BlockLists}
 use Rattle.pm_memory.specs.Solo.{Solo}
-use Rattle.pm_pending.specs.declared.actions.SetAction.{SetAction}
-use Rattle.pm_script.specs.Scripts.{IsChange, operations}
+use Rattle.pm_pending.specs.declared.pending.PendingActions.{PendingActions}
+use Rattle.pm_script.specs.Scripts.{IsChange, NamesEarlierLines, operations}
 use Rattle.pm_script.specs.declared.script.ScriptLine.{ScriptLine}
 use Rattle.pm_view.specs.View.{View}
 use Rattle.pm_world.specs.Opening.{Opening}
@@ -19,7 +19,7 @@ use Rattle.pm_exec.proofs.GivenLetters.{StandsBefore, all_drop, all_stay, all_ta
 use Rattle.pm_exec.proofs.ScriptParts.{Parts, first_line, lines_taken, middle}
 
 -- an answer that is not for want of memory has its fact where letters are kept
-pub unless_memory : (lines : List ScriptLine) (a b : Values) (o : Opening) (first : View) (lane : Lane Solo) (blocks : BlockLists) (actions : List SetAction) (names : Names) (ls : List ScriptLine) (values : Values) (why : NotDone)
+pub unless_memory : (lines : List ScriptLine) (a b : Values) (o : Opening) (first : View) (lane : Lane Solo) (blocks : BlockLists) (actions : PendingActions) (names : Names) (ls : List ScriptLine) (values : Values) (why : NotDone)
     → LettersKept {T = Unit {0}} lines a b (Err why) → (KeepsLetters lines a b → IsNotDone o first lane blocks actions names ls values why) → IsNotDone o first lane blocks actions names ls values why
 unless_memory lines a b o first lane blocks actions names ls values (GivenUp line r) kept so = so kept
 unless_memory lines a b o first lane blocks actions names ls values Stopped kept so = so kept
@@ -137,3 +137,19 @@ module _ (given : Offsets) (script : List ScriptLine) (order : AreInOrder script
         let g : Offsets = given ++ offsets_in values in
         (λ i. begin_same i ∷ (resolved g (middle script p i) ++ resolved_line g p.commit ∷ []))
         ∙ sym (ap (resolved g) p.is ∙ map-append (resolved_line g) (p.begin ∷ p.changes) (p.commit ∷ []))
+
+-- the line of a call that is one line, as it was resolved before its call gave anything, is so behind that too
+module _ (given : Offsets) (lines : List ScriptLine) (order : AreInOrder lines) (raw said : ScriptLine) (one : lines ≡ raw ∷ []) (so : said ≡ resolved_line (given ++ offsets_in []) raw) (values : Values) (kept : KeepsLetters (said ∷ []) [] values) where
+  kept_raw : KeepsLetters (raw ∷ []) [] values
+  kept_raw = letters_of said raw [] values (ap (λ (l : ScriptLine). l.line) so) kept
+
+  names : NamesEarlierLines raw
+  names = (subst AreInOrder one order).0
+
+  pub one_resolved : said ∷ [] ≡ resolved (given ++ offsets_in values) lines
+  one_resolved =
+      ap (λ (l : ScriptLine). l ∷ []) (so ∙ sym (kept_raw given raw names (All-cons (λ (other : ScriptLine). raw.line ≤ other.line) raw [] (omega arith) (All-nil (λ (other : ScriptLine). raw.line ≤ other.line)))))
+      ∙ sym (ap (resolved (given ++ offsets_in values)) one)
+
+  pub one_keeps : KeepsLetters lines [] values
+  one_keeps = subst (λ (ls : List ScriptLine). KeepsLetters ls [] values) (sym one) kept_raw

@@ -35,7 +35,7 @@ use Rattle.pm_world.specs.declared.lane.Lane.{Lane}
 use Rattle.pm_memory.specs.Solo.{Solo}
 use Rattle.pm_view.specs.Counts.{among}
 use Rattle.pm_exec.specs.Bounds.{stores_of_script}
-use Rattle.pm_exec.proofs.FewStores.{bounded, calls_bounded}
+use Rattle.pm_exec.proofs.FewStores.{bounded, calls_bounded, walked}
 use Rattle.pm_exec.specs.Calls.{call_of, names_of, numbers_of, call_lines}
 use Rattle.pm_exec.specs.Histories.{closed_history}
 use Rattle.pm_exec.specs.Openings.{first_view, opening_of}
@@ -43,7 +43,8 @@ use Rattle.pm_crash.specs.Leading.{Leads}
 use Rattle.pm_exec.specs.Course.{CallsMade}
 use Rattle.pm_exec.specs.Progress.{IsCutAtWork, IsCutPublishing, IsStart}
 use Rattle.pm_made.specs.Made.{BlockLists}
-use Rattle.pm_exec.specs.Running.{AreEntries, HasComeTo, HasRun, MayRun, MayStart}
+use Rattle.pm_pending.specs.declared.pending.PendingActions.{PendingActions}
+use Rattle.pm_exec.specs.Running.{AreEntries, HasComeTo, HasClosed, MayRun, MayStart}
 use Rattle.pm_exec.specs.Runs.{IsHistoryOf, LeavesReplay, MakesCalls}
 use Rattle.pm_exec.specs.Torn.{HasNoTornMatch}
 use Rattle.pm_exec.specs.declared.calls.Names.{Names}
@@ -56,10 +57,10 @@ use Rattle.pm_exec.proofs.StoppedEnd.{within_stop}
 use Rattle.pm_exec.proofs.Untorn.{none_torn_where_stopped}
 
 -- before the first call none was answered
-begins_run : (pool : PoolView) (words : List ℕ) (stop : Option ℕ) (lane : Lane Solo) (blocks : BlockLists) (names : Names) (history : List Entry) → history ≡ [] → IsStart (opening_of pool words) lane blocks [] (first_view pool words stop)
-    → HasComeTo (opening_of pool words) (first_view pool words stop) lane blocks [] names [] history
+begins_run : (pool : PoolView) (words : List ℕ) (stop : Option ℕ) (lane : Lane Solo) (blocks : BlockLists) (actions : PendingActions) (names : Names) (history : List Entry) → history ≡ [] → IsStart (opening_of pool words) lane blocks actions (first_view pool words stop)
+    → HasComeTo (opening_of pool words) (first_view pool words stop) lane blocks actions names [] history
 unfolding Leads CallsMade among
-begins_run pool words stop lane blocks names history none is = record {
+begins_run pool words stop lane blocks actions names history none is = record {
   header = is.header;
   pool = is.pool;
   begins = is.begins;
@@ -71,12 +72,11 @@ begins_run pool words stop lane blocks names history none is = record {
       page = λ header pool begins i low. refl;
       same = same_lane (first_view pool words stop);
       made = subst (λ (es : List Entry). CallsMade names [] es (first_view pool words stop) (first_view pool words stop)) (sym none) refl;
-      bound = bounded (first_view pool words stop) (first_view pool words stop) 0 [] refl refl (omega arith);
+      bound = walked (first_view pool words stop) (first_view pool words stop) 0 [] refl (omega arith);
     };
     rests = is.rests;
-    drained = is.drained;
     idle = refl;
-    has_none = is.has_none;
+    keeps = is.keeps;
     pages = is.pages;
     pending = is.pending;
   };
@@ -85,13 +85,13 @@ begins_run pool words stop lane blocks names history none is = record {
 pub run_begins : (pool : PoolView) (words : List ℕ) (stop : Option ℕ) (lane : Lane Solo) (names : Names) (history : List Entry) → history ≡ [] → MayStart (opening_of pool words) (first_view pool words stop) lane
     → MayRun (opening_of pool words) (first_view pool words stop) lane names history
 run_begins pool words stop lane names history none may =
-    record { of_shape = may.of_shape; begins = λ blocks pages. begins_run pool words stop lane blocks names history none (may.starts blocks pages) }
+    record { of_shape = may.of_shape; begins = λ blocks actions pages nothing. begins_run pool words stop lane blocks actions names history none (may.starts blocks actions pages nothing) }
 
 -- the same of names and lines that are given otherwise
 pub run_of : (o : Opening) (first : View) (lane : Lane Solo) (history : List Entry) (halt : Halt) (names other : Names) (lines script : List ScriptLine) → names ≡ other → lines ≡ script
-    → HasRun o first lane names (call_lines lines) history halt → HasRun o first lane other (call_lines script) history halt
+    → HasClosed o first lane names (call_lines lines) history halt → HasClosed o first lane other (call_lines script) history halt
 run_of o first lane history halt names other lines script named are run =
-    subst (λ (ns : Names). HasRun o first lane ns (call_lines script) history halt) named (subst (λ (ls : List ScriptLine). HasRun o first lane names (call_lines ls) history halt) are run)
+    subst (λ (ns : Names). HasClosed o first lane ns (call_lines script) history halt) named (subst (λ (ls : List ScriptLine). HasClosed o first lane names (call_lines ls) history halt) are run)
 
 -- recovery leaves the header page, but for the root's word
 page_recovered : (image words : List ℕ) (pool : PoolView) → IsMeaning image pool → IsRecovered image words pool.lanes → (i : ℕ) → i < 512 → i ≢ 64 → slice_index words i ≡ slice_index image i
@@ -115,7 +115,7 @@ front_mapped names xs ys n is =
     ∙ (ap (λ (k : ℕ). take k (map (call_of names) xs)) (sym long) ∙ take-length (map (call_of names) xs)))))
 
 module _ (pool : PoolView) (words : List ℕ) (stop : Option ℕ) (script : List ScriptLine) (rising : IsStrictlyIncreasing (numbers_of script)) (fits : ForSome stop (λ n. n < 2 ^ 64)) (lane : Lane Solo) (history : List Entry)
-    (halt : Halt) (run : HasRun (opening_of pool words) (first_view pool words stop) lane (names_of pool) (call_lines script) history halt) (decided : Bool) where
+    (halt : Halt) (run : HasClosed (opening_of pool words) (first_view pool words stop) lane (names_of pool) (call_lines script) history halt) (decided : Bool) where
   abbrev o : Opening
   o = opening_of pool words
 
@@ -175,8 +175,8 @@ module _ (pool : PoolView) (words : List ℕ) (stop : Option ℕ) (script : List
         ends = e.ends;
         within = within_stop first e.last lane.memory same e.seen;
         image = image_kept;
-        bound = e.bound;
-        few = calls_bounded first e.last (stores_of_script names script) refl e.bound;
+        bound = bounded first e.last (stores_of_script names script) refl e.bound;
+        few = calls_bounded first e.last (stores_of_script names script) refl (bounded first e.last (stores_of_script names script) refl e.bound);
         numbers = as_many_numbered names e.numbered closed e.last.entries e.shown;
         fates = e.fates;
         losses = losses;

@@ -1,7 +1,6 @@
 -- A call of a script as the plain model's: its lines were done, or one of them was refused.
-use Rattle.std.proofs.Common.{◌≡◌, ⊎_elim, ℕ, ◌-◌, ◌&&◌, ◌||◌, not, Bool, true, false, cond, List, [], ◌∷◌, ◌++◌, map, slice_index, Option, Some, None, refl, sym, ap, ◌∙◌, subst, append-nil, append_assoc}
+use Rattle.std.proofs.Common.{◌≡◌, ⊎_elim, inl, inr, ℕ, ◌-◌, ◌&&◌, ◌||◌, not, Bool, true, false, cond, List, [], ◌∷◌, ◌++◌, map, slice_index, Option, Some, None, refl, sym, ap, ◌∙◌, subst, append-nil, append_assoc}
 use Rattle.std.specs.List.Sorted.{IsStrictlyIncreasing}
-use Rattle.std.specs.Option.{option_map}
 use Rattle.std.proofs.lemmas.Bool.{and_right}
 use Rattle.std.proofs.lemmas.List.{length-map}
 use Rattle.pm_crash.specs.Pending.{told_of as model_told}
@@ -16,17 +15,19 @@ use Rattle.pm_objects.specs.declared.calls.Operation.{Operation}
 use Rattle.pm_objects.specs.declared.history.Entry.{Entry}
 use Rattle.pm_objects.specs.declared.history.Fate.{Fate}
 use Rattle.pm_objects.specs.declared.history.Reply.{Reply}
-use Rattle.pm_objects.specs.declared.history.Value.TheVariants.{Refused}
+use Rattle.pm_objects.specs.declared.calls.Operation.TheVariants as operation
+use Rattle.pm_objects.specs.declared.history.Value.{Value}
+use Rattle.pm_objects.specs.declared.history.Value.TheVariants.{Offset, Refused}
 use Rattle.pm_objects.specs.declared.history.TxErr.{TxErr}
 use Rattle.pm_objects.specs.declared.history.TxErr.TheVariants as error
 use Rattle.pm_objects.specs.declared.refusal.Refusal.{Refusal}
 use Rattle.pm_script.specs.declared.script.ScriptLine.{ScriptLine}
 use Rattle.pm_script.specs.declared.script.ScriptOp.{ScriptOp}
-use Rattle.pm_script.specs.declared.script.ScriptOp.TheVariants.{Begin, Add, Write, Read, Alloc, Free, Set, Publish, Cancel, Commit}
+use Rattle.pm_script.specs.declared.script.ScriptOp.TheVariants.{Begin, Add, Write, Read, Alloc, Free, Reserve, WriteReserved, DeferFree, Set, Publish, Cancel, Commit}
 use Rattle.pm_view.specs.View.{Told}
 use Rattle.pm_exec.specs.Calls.{call_of, numbers_of, operation_of, stands_alone, starts_alone}
 use Rattle.pm_exec.specs.Histories.{open_fate, settled_fate}
-use Rattle.pm_exec.specs.Progress.{AreToldDone, HasEnded, IsRefusedAt, IsToldDone, OutsideEnded, TransactionEnded, Values, refused, values_told}
+use Rattle.pm_exec.specs.Progress.{AreToldDone, HasEnded, IsOutsideReply, IsRefusedAt, IsToldDone, OutsideEnded, TransactionEnded, Values, refused, values_outside, values_told}
 use Rattle.pm_exec.specs.declared.ending.CallAnswer.{CallAnswer}
 use Rattle.pm_exec.specs.declared.ending.CallAnswer.TheVariants as answer
 use Rattle.pm_exec.specs.declared.calls.Names.{Names}
@@ -45,6 +46,12 @@ goes_on names (Write id off bytes) t is = subst (GoesOn names (Write id off byte
 goes_on names (Read id off len) t is = subst (GoesOn names (Read id off len)) (sym is.1) (record { of_line = refl; error = λ rest. refl; line = λ line lines rest. refl })
 goes_on names (Alloc letter size kind) t is = subst (GoesOn names (Alloc letter size kind)) (sym is.1) (record { of_line = refl; error = λ rest. refl; line = λ line lines rest. refl })
 goes_on names (Free id) t is = subst (GoesOn names (Free id)) (sym is) (record { of_line = refl; error = λ rest. refl; line = λ line lines rest. refl })
+goes_on names (Reserve letter size kind) t (inl (off, is)) = subst (GoesOn names (Reserve letter size kind)) (sym is) (record { of_line = refl; error = λ rest. refl; line = λ line lines rest. refl })
+goes_on names (Reserve letter size kind) t (inr (r, is)) = subst (GoesOn names (Reserve letter size kind)) (sym is) (record { of_line = refl; error = λ rest. refl; line = λ line lines rest. refl })
+goes_on names (WriteReserved id off bytes) t (None, is) = subst (GoesOn names (WriteReserved id off bytes)) (sym is) (record { of_line = refl; error = λ rest. refl; line = λ line lines rest. refl })
+goes_on names (WriteReserved id off bytes) t (Some r, is) = subst (GoesOn names (WriteReserved id off bytes)) (sym is) (record { of_line = refl; error = λ rest. refl; line = λ line lines rest. refl })
+goes_on names (DeferFree id) t (None, is) = subst (GoesOn names (DeferFree id)) (sym is) (record { of_line = refl; error = λ rest. refl; line = λ line lines rest. refl })
+goes_on names (DeferFree id) t (Some r, is) = subst (GoesOn names (DeferFree id)) (sym is) (record { of_line = refl; error = λ rest. refl; line = λ line lines rest. refl })
 goes_on names (Set id off value) t (None, is) = subst (GoesOn names (Set id off value)) (sym is) (record { of_line = refl; error = λ rest. refl; line = λ line lines rest. refl })
 goes_on names (Set id off value) t (Some r, is) = subst (GoesOn names (Set id off value)) (sym is) (record { of_line = refl; error = λ rest. refl; line = λ line lines rest. refl })
 goes_on names Publish t is = subst (GoesOn names Publish) (sym is) (record { of_line = refl; error = λ rest. refl; line = λ line lines rest. refl })
@@ -59,6 +66,9 @@ outside_is names (Write id off bytes) = refl
 outside_is names (Read id off len) = refl
 outside_is names (Alloc letter size kind) = refl
 outside_is names (Free id) = refl
+outside_is names (Reserve letter size kind) = refl
+outside_is names (WriteReserved id off bytes) = refl
+outside_is names (DeferFree id) = refl
 outside_is names (Set id off value) = refl
 outside_is names Publish = refl
 outside_is names Cancel = refl
@@ -244,22 +254,45 @@ module _ (names : Names) where
         })
         ended.1
 
-    -- and of a call outside of one
-    outside_fate : (op : Operation) (r : Option Refusal) → IsFateOutside (option_map Refused r) (settled_fate (answer.Outside r))
-    outside_fate op None = refl
-    outside_fate op (Some r) = refl
+    -- and of a call outside of one: by its reply, its fate is what it came to, and its values are what its line gave
+    record IsShownOutside (op : Operation) (r : Option Refusal) (reply : Option Value) (gave : Option ℕ) : Type 0 where
+      fate : IsFateOutside reply (settled_fate (answer.Outside r))
+      values : (line : ℕ) → stands_outside op ≡ true → values_shown (line ∷ []) (record { operation = op; reply = reply } ∷ []) ≡ values_outside line gave
 
-    outside_shows : (line : ℕ) (op : Operation) (r : Option Refusal) → stands_outside op ≡ true → values_shown (line ∷ []) (record { operation = op; reply = option_map Refused r } ∷ []) ≡ []
+    no_values : (b : Bool) → cond {A = Values} (b && false) [] [] ≡ []
+    no_values true = refl
+    no_values false = refl
+
+    one_value : (b : Bool) (line off : ℕ) → cond {A = Values} (b && false) [] ((line, Offset off) ∷ []) ≡ (line, Offset off) ∷ []
+    one_value true line off = refl
+    one_value false line off = refl
+
+    -- a refusal gives nothing
+    refused_outside : (op : Operation) (r : Refusal) → IsShownOutside op (Some r) (Some (Refused r)) None
+    refused_outside op r = record { fate = refl; values = λ line outside. ap (λ b. cond (b && true) [] (values_of (line ∷ []) (record { operation = op; reply = Some (Refused r) } ∷ []))) outside }
+
+    -- nor does what has no reply
+    done_outside : (op : Operation) → IsShownOutside op None None None
     unfolding values_of
-    outside_shows line op None outside = and_none (stands_outside op) where
-      and_none : (b : Bool) → cond {A = Values} (b && false) [] [] ≡ []
-      and_none true = refl
-      and_none false = refl
-    outside_shows line op (Some r) outside = ap (λ b. cond (b && true) [] (values_of (line ∷ []) (record { operation = op; reply = Some (Refused r) } ∷ []))) outside
+    done_outside op = record { fate = refl; values = λ line outside. no_values (stands_outside op) }
+
+    -- an object that is reserved has its offset
+    offset_outside : (op : Operation) (off : ℕ) → IsShownOutside op None (Some (Offset off)) (Some off)
+    unfolding values_of
+    offset_outside op off = record { fate = refl; values = λ line outside. one_value (stands_outside op) line off }
+
+    by_reply : (op : Operation) (r : Option Refusal) (reply reply2 : Option Value) (gave gave2 : Option ℕ) → reply ≡ reply2 → gave ≡ gave2 → IsShownOutside op r reply2 gave2 → IsShownOutside op r reply gave
+    by_reply op r reply reply2 gave gave2 replies gives shown = subst (λ (v : Option Value). IsShownOutside op r v gave) (sym replies) (subst (IsShownOutside op r reply2) (sym gives) shown)
+
+    shown_outside : (op : Operation) (r : Option Refusal) (reply : Option Value) (gave : Option ℕ) → IsOutsideReply op r reply gave → IsShownOutside op r reply gave
+    shown_outside op (Some r) reply gave t = by_reply op (Some r) reply (Some (Refused r)) gave None t.0 t.1 (refused_outside op r)
+    shown_outside (operation.Reserve size kind) None reply gave t = by_reply (operation.Reserve size kind) None reply (Some (Offset t.0)) gave (Some t.0) t.1.0 t.1.1 (offset_outside (operation.Reserve size kind) t.0)
+    shown_outside op None reply gave t = by_reply op None reply None gave None t.0 t.1 (done_outside op)
 
     outside_entry : (e : Entry) (r : Option Refusal) (told : List Told) → e.call ≡ call_of names lines → e.fate ≡ settled_fate (answer.Outside r) → OutsideEnded names lines r e.reply told → IsEntry e (act_told told)
     outside_entry e r told call fate ended =
-        let t : Told = record { operation = operation_of names ended.op; reply = option_map Refused r } in
+        let t : Told = record { operation = operation_of names ended.op; reply = ended.answer } in
+        let shows = shown_outside t.operation r ended.answer ended.gave ended.replies in
         let outside : stands_outside t.operation ≡ true = outside_is names ended.op ∙ ended.one.outside in
         let told_is : map model_told told ≡ model_told t ∷ [] = ap (map model_told) ended.told_so in
         let lines_are : numbers_of lines ≡ ended.one.line.line ∷ [] = ap numbers_of ended.one.alone in
@@ -268,10 +301,10 @@ module _ (names : Names) where
               (shown_as e.reply told []
               (ap (λ (ts : List Answered). map (λ (a : Answered). a.operation) ts ++ []) told_is ∙ sym (ap (operations_said names) ended.one.alone ∙ ap (λ (x : ScriptOp). operation_of names x ∷ []) ended.one.says))
               (λ none. refl)
-              (ended.values ∙ sym ((λ j. values_shown (lines_are j) (told_is j)) ∙ outside_shows ended.one.line.line t.operation r outside))
+              (ended.values ∙ sym ((λ j. values_shown (lines_are j) (told_is j)) ∙ shows.values ended.one.line.line outside))
               (ended.at ∙ sym (ap (λ b. cond b 0 (line_of_abort (numbers_of lines) (map model_told told))) (ap is_outside told_is ∙ outside))));
           fate = subst (λ b. IsFate b (map model_told told) e.fate) (sym (ap is_outside told_is ∙ outside))
-              (subst (λ (ts : List Answered). IsFateOutside (answer_of ts) e.fate) (sym told_is) (subst (IsFateOutside t.reply) (sym fate) (outside_fate t.operation r)));
+              (subst (λ (ts : List Answered). IsFateOutside (answer_of ts) e.fate) (sym told_is) (subst (IsFateOutside t.reply) (sym fate) shows.fate));
         }
 
     -- the entry of an answered call

@@ -1,5 +1,6 @@
 -- What a lane has where it begins, and at views that it comes to from there without a counted call.
-use Rattle.std.proofs.Common.{◌≡◌, ◌≤◌, List, ◌∙◌}
+use Rattle.std.proofs.Common.{◌≡◌, ◌≤◌, ℕ, List, Option, sym, subst, ◌∙◌}
+use Rattle.std.specs.Option.{ForSome}
 use Rattle.pm_crash.proofs.AloneCourse.{begins_alone, begins_holds, begins_idle, begins_lane, begins_words, stands_at, stands_begun}
 use Rattle.pm_crash.proofs.SeenAlone.{works_where_seen}
 use Rattle.pm_crash.specs.Alone.{WorksAlone}
@@ -8,7 +9,8 @@ use Rattle.pm_lock.proofs.LookedAlone.{led_words}
 use Rattle.pm_lock.specs.Leading.{IsLed}
 use Rattle.pm_made.specs.Made.{BlockLists}
 use Rattle.pm_memory.specs.Solo.{Sees, Solo}
-use Rattle.pm_pending.specs.declared.actions.SetAction.{SetAction}
+use Rattle.pm_pending.specs.declared.pending.PendingActions.{PendingActions}
+use Rattle.pm_transaction.specs.Published.{HasOwnCounts}
 use Rattle.pm_undo.specs.Working.{FindsOpening}
 use Rattle.pm_view.specs.Founds.{IsAlone}
 use Rattle.pm_view.specs.Log.{no_log}
@@ -18,7 +20,11 @@ use Rattle.pm_world.specs.Opening.{IsSound, Opening}
 use Rattle.pm_world.specs.declared.lane.Lane.{Lane}
 use Rattle.pm_exec.specs.Progress.{IsStart}
 
-module _ (o : Opening) (lane : Lane Solo) (blocks : BlockLists) (actions : List SetAction) (v : View) (is : IsStart o lane blocks actions v) where
+-- a lane's own counts, as its memory has them
+pub own_counts : (m : Solo) (w : View) → Sees m w → HasOwnCounts w
+own_counts m w seen = record { numbered = seen.numbers; within = subst (λ (stop : Option ℕ). ForSome stop (λ s. w.calls ≤ s)) (sym seen.stop) seen.within }
+
+module _ (o : Opening) (lane : Lane Solo) (blocks : BlockLists) (actions : PendingActions) (v : View) (is : IsStart o lane blocks actions v) where
   pub start_lane : v.lane ≡ 0
   start_lane = begins_lane o is.header is.pool v is.begins
 
@@ -27,6 +33,9 @@ module _ (o : Opening) (lane : Lane Solo) (blocks : BlockLists) (actions : List 
 
   pub start_alone : IsAlone v
   start_alone = begins_alone o is.header is.pool v is.begins
+
+  pub start_words : v.words ≡ o.words
+  start_words = begins_words o is.header is.pool v is.begins
 
   pub start_zones : o.zones ≤ 32
   start_zones = (begins_holds o is.header is.pool v is.begins).1.has_header.has_shape.shape.zones_to
@@ -42,4 +51,4 @@ module _ (o : Opening) (lane : Lane Solo) (blocks : BlockLists) (actions : List 
       finds_opening o is.header is.pool w (stands_at o is.header is.pool v led.steps w is.begins led.leads works.numbered works.within)
 
   pub words_led : (w : View) → IsLed v w → w.words ≡ o.words
-  words_led w led = led_words v w led start_alone ∙ begins_words o is.header is.pool v is.begins
+  words_led w led = led_words v w led start_alone ∙ start_words

@@ -9,7 +9,7 @@ use Rattle.pm_objects.specs.Pool.{block_lines}
 use Rattle.pm_script.specs.declared.script.ScriptId.{ScriptId}
 use Rattle.pm_script.specs.declared.script.ScriptLine.{ScriptLine}
 use Rattle.pm_script.specs.declared.script.ScriptOp.{ScriptOp}
-use Rattle.pm_script.specs.declared.script.ScriptOp.TheVariants.{Begin, Add, Write, Read, Alloc, Free, Set, Publish, Cancel, Commit}
+use Rattle.pm_script.specs.declared.script.ScriptOp.TheVariants.{Begin, Add, Write, Read, Alloc, Free, Reserve, WriteReserved, DeferFree, Set, Publish, Cancel, Commit}
 use Rattle.pm_tx.specs.Sequences.{word_count}
 use Rattle.pm_view.specs.Counts.{drains_among, flushes_among, stores_among}
 use Rattle.pm_view.specs.Steps.{Step}
@@ -30,8 +30,8 @@ abbrev pub making_stores : ℕ → ℕ
 making_stores size = 8 * block_lines (class_of size) + 2
 
 -- how many stores a line is good for: for each word that it adds the eight of a record, and one that puts the word back if the transaction is
--- given up; one for each word that it writes; those that make an object; and for a publish, and for each line that makes or frees an object, those of a full
--- redo log, which its transaction performs once at most
+-- given up; one for each word that it writes, into what is reserved too; those that make an object, be it only reserved; and for a publish, and for each line that
+-- makes or frees an object at once, those of a full redo log, which its transaction performs once at most
 abbrev pub most_stores : Names → ScriptOp → ℕ
 most_stores names (Begin wants) = 0
 most_stores names (Add id off len) = 9 * words_of_range names id off len
@@ -39,6 +39,9 @@ most_stores names (Write id off bytes) = words_of_range names id off (length byt
 most_stores names (Read id off len) = 0
 most_stores names (Alloc letter size kind) = making_stores size + log_stores
 most_stores names (Free id) = log_stores
+most_stores names (Reserve letter size kind) = making_stores size
+most_stores names (WriteReserved id off bytes) = words_of_range names id off (length bytes)
+most_stores names (DeferFree id) = 0
 most_stores names (Set id off value) = 0
 most_stores names Publish = log_stores
 most_stores names Cancel = 0
@@ -73,8 +76,13 @@ logs_of (suc n) = log_stores
 abbrev pub log_due : View → ℕ
 log_due v = logs_of (entries_so_far v)
 
--- the lane came from the one view to the other with at most so many stores, and with at most as many flushes, and drains. The counted calls
--- that it made are these three
+-- the lane came from the one view to the other with at most so many stores
+pub record IsWalked (v w : View) (most : ℕ) : Type 0 where
+  pub steps : List Step
+  pub walks : Walks v steps w
+  pub stores : stores_among steps ≤ most
+
+-- so it did, and with at most as many flushes, and drains. The counted calls that it made are these three
 pub record IsBounded (v w : View) (most : ℕ) : Type 0 where
   pub steps : List Step
   pub walks : Walks v steps w

@@ -11,7 +11,7 @@ use Rattle.pm_script.specs.declared.script.ScriptId.{ScriptId}
 use Rattle.pm_script.specs.declared.script.ScriptId.TheVariants.{Root, At, Bound}
 use Rattle.pm_script.specs.declared.script.ScriptLine.{ScriptLine}
 use Rattle.pm_script.specs.declared.script.ScriptOp.{ScriptOp}
-use Rattle.pm_script.specs.declared.script.ScriptOp.TheVariants.{Begin, Add, Write, Read, Alloc, Free, Set, Publish, Cancel, Commit}
+use Rattle.pm_script.specs.declared.script.ScriptOp.TheVariants.{Begin, Add, Write, Read, Alloc, Free, Reserve, WriteReserved, DeferFree, Set, Publish, Cancel, Commit}
 use Rattle.pm_script.specs.declared.script.ScriptWant.{ScriptWant}
 use Rattle.pm_exec.specs.declared.calls.Names.{Names}
 use Rattle.pm_script.specs.Scripts.{IsTransaction}
@@ -46,6 +46,9 @@ operation_of names (Write id off bytes) = operation.Write (id_of names id) off b
 operation_of names (Read id off len) = operation.Read (id_of names id) off len
 operation_of names (Alloc letter size kind) = operation.Alloc size kind
 operation_of names (Free id) = operation.Free (id_of names id)
+operation_of names (Reserve letter size kind) = operation.Reserve size kind
+operation_of names (WriteReserved id off bytes) = operation.WriteReserved (id_of names id) off bytes
+operation_of names (DeferFree id) = operation.DeferFree (id_of names id)
 operation_of names (Set id off value) = operation.SetValue (id_of names id) off value
 operation_of names Publish = operation.Publish
 operation_of names Cancel = operation.Cancel
@@ -63,6 +66,8 @@ has_root (Add id off len) = is_root id
 has_root (Write id off bytes) = is_root id
 has_root (Read id off len) = is_root id
 has_root (Free id) = is_root id
+has_root (WriteReserved id off bytes) = is_root id
+has_root (DeferFree id) = is_root id
 has_root (Set id off value) = is_root id
 has_root op = false
 
@@ -95,6 +100,9 @@ with_line line (first ∷ more) = (line ∷ first) ∷ more
 
 -- what is a call of its own where no transaction is open
 abbrev pub stands_alone : ScriptOp → Bool
+stands_alone (Reserve letter size kind) = true
+stands_alone (WriteReserved id off bytes) = true
+stands_alone (DeferFree id) = true
 stands_alone (Set id off value) = true
 stands_alone Publish = true
 stands_alone Cancel = true

@@ -2,9 +2,10 @@
 use Rattle.std.specs.Prelude.{Any, ◌≡◌, ◌⊎◌, ℕ, ◌≤◌, true, List, [], ◌∷◌, ◌++◌, length, map, Option, None, Some, slice_index, ⊤}
 use Rattle.pm_alloc.specs.NewObjects.{GivesNoObject, HasNewObject}
 use Rattle.pm_blocks.specs.declared.making.NoBlock.TheVariants as no_block
-use Rattle.pm_crash.specs.CallBlocks.{blocks_in}
+use Rattle.pm_crash.specs.CallBlocks.{blocks_behind, blocks_in, no_blocks}
 use Rattle.pm_crash.specs.Operations.{IsMade}
 use Rattle.pm_epoch.specs.Allocating.{object_in_block, with_object_told}
+use Rattle.pm_epoch.specs.Reserving.{with_object_reserved}
 use Rattle.pm_image.specs.declared.block.Block.{Block}
 use Rattle.pm_made.specs.Entries.{entries_of}
 use Rattle.pm_made.specs.Made.{BlockLists, ListsBlocks}
@@ -15,21 +16,23 @@ use Rattle.pm_objects.specs.declared.history.Value.TheVariants.{Refused}
 use Rattle.pm_objects.specs.declared.history.Entry.{Entry}
 use Rattle.pm_objects.specs.declared.history.TxErr.{TxErr}
 use Rattle.pm_objects.specs.declared.history.TxErr.TheVariants as error
+use Rattle.pm_objects.specs.declared.ids.Oid.{Oid}
 use Rattle.pm_objects.specs.declared.refusal.Refusal.{Refusal}
 use Rattle.pm_objects.specs.declared.refusal.Refusal.TheVariants as refusal
 use Rattle.pm_script.specs.declared.script.ScriptId.{ScriptId}
 use Rattle.pm_script.specs.declared.script.ScriptLine.{ScriptLine}
 use Rattle.pm_script.specs.declared.script.ScriptOp.{ScriptOp}
-use Rattle.pm_script.specs.declared.script.ScriptOp.TheVariants.{Begin, Add, Write, Read, Alloc, Free, Set, Publish, Cancel, Commit}
+use Rattle.pm_script.specs.declared.script.ScriptOp.TheVariants.{Begin, Add, Write, Read, Alloc, Free, Reserve, WriteReserved, DeferFree, Set, Publish, Cancel, Commit}
 use Rattle.pm_script.specs.declared.script.ScriptWant.{ScriptWant}
 use Rattle.pm_text.specs.declared.report.LaneEnd.{LaneEnd}
 use Rattle.pm_text.specs.declared.report.LaneEnd.TheVariants as end
 use Rattle.pm_lock.specs.Lacking.{LacksObject}
 use Rattle.pm_lock.specs.Leading.{IsLed}
 use Rattle.pm_tx.specs.Ranges.{adds_range, writes_range}
-use Rattle.pm_tx.specs.Sequences.{commits, gives_up, publishes}
+use Rattle.pm_tx.specs.Sequences.{commits, gives_up}
+use Rattle.pm_view.specs.Steps.Step.{Draw, Tell}
 use Rattle.pm_view.specs.View.{View}
-use Rattle.pm_view.specs.Views.{after_all}
+use Rattle.pm_view.specs.Views.{after, after_all}
 use Rattle.pm_world.specs.Lanes.{span_of}
 use Rattle.pm_world.specs.Lawful.{generation_limit}
 use Rattle.pm_world.specs.Records.{generation_of}
@@ -38,16 +41,21 @@ use Rattle.pm_world.specs.declared.lane.Span.{Span}
 use Rattle.pm_exec.specs.Calls.{id_of, numbers_of, operation_of, stands_alone, want_of}
 use Rattle.pm_exec.specs.Histories.{settled_fate}
 use Rattle.pm_exec.specs.declared.calls.Names.{Names}
-use Rattle.pm_crash.specs.OnActions.{set_refusal}
+use Rattle.pm_crash.specs.OnActions.{defer_refusal, set_refusal}
+use Rattle.pm_crash.specs.Reserving.{IsReserveReason, put_refusal}
 use Rattle.pm_crash.specs.Pending.{pending_before, published_in, sets_before}
+use Rattle.pm_action.specs.Canceling.{cancels_outside, finishes}
 use Rattle.pm_action.specs.Holding.{Overruns}
-use Rattle.pm_model.specs.Actions.{Action, Pending, none_pending, wants_for}
+use Rattle.pm_model.specs.Actions.{Pending, none_pending, pending_count, wants_pending}
 use Rattle.pm_objects.specs.declared.calls.Operation.{Operation}
 use Rattle.pm_objects.specs.declared.calls.Operation.TheVariants as operation
 use Rattle.pm_pending.specs.Pending.{entry_of}
 use Rattle.pm_record.specs.declared.redo.Redo.{Redo}
 use Rattle.pm_transaction.specs.Allocating.{CameToRefuse}
+use Rattle.pm_transaction.specs.Canceling.{cancels_pending}
 use Rattle.pm_tx.specs.Actions.{cancels}
+use Rattle.pm_transaction.specs.Filling.{puts_range}
+use Rattle.pm_transaction.specs.Published.{logs_call}
 use Rattle.pm_exec.specs.declared.ending.CallAnswer.{CallAnswer}
 use Rattle.pm_exec.specs.declared.ending.CallAnswer.TheVariants as answer
 
@@ -60,23 +68,27 @@ pub record IsFree (v w : View) : Type 0 where
 abbrev pub spans_of : View → List Span
 spans_of v = map span_of v.log.records
 
--- the entries of what the call published, and of what was pending as it began
+-- the entries of what the call published
 abbrev pub published_entries : View → List Redo
 published_entries v = map entry_of (published_in v)
 
-abbrev pub pending_entries : View → List Redo
-pending_entries v = map entry_of (sets_before v)
-
--- the memory calls of an add of an object that the call found, and of a write
+-- the memory calls of an add of an object that the call found, of a write, and of a write into what is reserved
 abbrev pub add_calls : Names → ScriptId → ℕ → ℕ → Sequence
 add_calls names id off len = by_view (λ v. adds_range (spans_of v) (id_of names id) off len)
 
 abbrev pub write_calls : Names → ScriptId → ℕ → List ℕ → Sequence
 write_calls names id off bytes = writes_range (id_of names id) off bytes
 
+abbrev pub put_calls : Names → ScriptId → ℕ → List ℕ → Sequence
+put_calls names id off bytes = puts_range (id_of names id) off bytes
+
 -- those of a commit by this number, where the call made and freed what these lists have: it performs the entries of what it published, and then those of the blocks
 abbrev pub commit_calls : BlockLists → ℕ → Sequence
 commit_calls blocks n = by_view (λ v. commits (spans_of v) (published_entries v ++ entries_of v.lanes blocks) n)
+
+-- those of a publish of all that was pending as the call began, by this number, where that is to make and free what these lists have
+abbrev pub publish_calls : BlockLists → ℕ → Sequence
+publish_calls blocks n = by_view (λ v. logs_call operation.Publish (map entry_of (sets_before v) ++ entries_of v.lanes blocks) n)
 
 -- the memory calls of a line that is refused so: what the transaction did is taken back, and the call draws this number
 abbrev pub refused_calls : Names → ScriptOp → Refusal → ℕ → Sequence
@@ -95,6 +107,19 @@ pub record IsObjectMade (size kind : ℕ) (v w : View) : Type 0 where
   pub made : HasNewObject (λ u. u ≡ view) v size kind block
   pub told : w ≡ with_object_told view (object_in_block block size kind)
 
+-- an object was reserved: it was made so, and told as reserved
+pub record IsObjectReserved (size kind : ℕ) (v w : View) : Type 0 where
+  pub block : Block
+  pub view : View
+  pub made : HasNewObject (λ u. u ≡ view) v size kind block
+  pub told : w ≡ with_object_reserved view (object_in_block block size kind)
+
+-- a reservation was refused so: where there is `NoSpace` no block was found for it; and that was told
+pub record IsReserveRefused (size kind : ℕ) (r : Refusal) (v w : View) : Type 0 where
+  pub view : View
+  pub came : CameToRefuse v size r view
+  pub told : w ≡ after view (Tell (operation.Reserve size kind) (Some (Refused r)))
+
 -- the call was committed, with the entries of all that it made and freed
 pub record IsCommitMade (v w : View) : Type 0 where
   pub blocks : BlockLists
@@ -102,7 +127,8 @@ pub record IsCommitMade (v w : View) : Type 0 where
   pub number : ℕ
   pub made : IsMadeBy (commit_calls blocks number) v w
 
--- the line was done: a begin, a read, a free, a set and a publish make no counted calls, nor does an add of an object that the call made
+-- the line was done: a begin, a read, a free, a free that is deferred, a set and a publish make no counted calls, nor does an add of an object that the call made,
+-- nor a reservation or a put that is refused
 abbrev pub IsLineMade : Names → ScriptOp → View → View → Type 0
 IsLineMade names (Begin wants) v w = IsFree v w
 IsLineMade names (Add id off len) v w = IsMadeBy (add_calls names id off len) v w ⊎ (IsMade v (id_of names id) × IsFree v w)
@@ -110,9 +136,12 @@ IsLineMade names (Write id off bytes) v w = IsMadeBy (write_calls names id off b
 IsLineMade names (Read id off len) v w = IsFree v w
 IsLineMade names (Alloc letter size kind) v w = IsObjectMade size kind v w
 IsLineMade names (Free id) v w = IsFree v w
+IsLineMade names (Reserve letter size kind) v w = IsObjectReserved size kind v w ⊎ ((r : Refusal) × IsReserveRefused size kind r v w)
+IsLineMade names (WriteReserved id off bytes) v w = IsMadeBy (put_calls names id off bytes) v w ⊎ IsFree v w
+IsLineMade names (DeferFree id) v w = IsFree v w
 IsLineMade names (Set id off value) v w = IsFree v w
 IsLineMade names Publish v w = IsFree v w
-IsLineMade names Cancel v w = IsMadeBy cancels v w
+IsLineMade names Cancel v w = IsMadeBy cancels_pending v w
 IsLineMade names Commit v w = IsCommitMade v w
 
 -- some lines were done, one after another
@@ -138,9 +167,9 @@ IsBeginRefusal names wants refusal.LocksFull v = ⊤
 IsBeginRefusal names wants refusal.NoObject v = Any (LacksObject v) (map (want_of names) wants)
 IsBeginRefusal names wants r v = ⊥
 
--- a begin that is refused makes no counted call
+-- the line was refused so, and its call given up; a begin for this cause
 abbrev pub IsRefusalMade : Names → ScriptOp → Refusal → View → View → Type 0
-IsRefusalMade names (Begin wants) r v w = IsLed v w × IsBeginRefusal names wants r v
+IsRefusalMade names (Begin wants) r v w = IsGivenUpMade names (Begin wants) r v w × IsBeginRefusal names wants r v
 IsRefusalMade names op r v w = IsGivenUpMade names op r v w
 
 -- lines were done, and then one was refused so; those behind it are passed over
@@ -168,35 +197,84 @@ pub record IsTransactionMade (names : Names) (lines : List ScriptLine) (e : TxEr
   pub closed : IsFree over unlocked
   pub reclaims : Reclaims unlocked w
 
--- what is pending was published outside of a transaction: locks were taken, the entries logged and performed, and the locks given back
+-- what is pending was published outside of a transaction: locks were taken, all was made persistent, the entries of the words, of the frees and of what was reserved
+-- were logged and performed, and the locks given back; then the blocks that were freed
 pub record IsPublishMade (v w : View) : Type 0 where
   pub start : View
   pub free : IsFree v start
-  pub some : 1 ≤ length (sets_before v)
+  pub some : 1 ≤ pending_count (pending_before v)
+  pub blocks : BlockLists
+  pub lists : ListsBlocks blocks (blocks_behind operation.Publish None (pending_before v) no_blocks)
   pub number : ℕ
   pub over : View
-  pub is : over ≡ after_all start (publishes (pending_entries v) operation.Publish number start)
-  pub closed : IsFree over w
+  pub is : over ≡ after_all start (publish_calls blocks number start)
+  pub unlocked : View
+  pub closed : IsFree over unlocked
+  pub given : (w ≡ unlocked) ⊎ Reclaims unlocked w
 
--- why a publish of these actions by a lane that is alone may be refused: by the pool's words one names no object, or passes the end of its object. No
--- lock is another lane's
-abbrev pub IsPublishRefusal : List Action → Refusal → View → Type 0
-IsPublishRefusal actions refusal.NoObject v = Any (LacksObject v) (wants_for actions)
-IsPublishRefusal actions refusal.OutOfRange v = Any (Overruns v) actions
-IsPublishRefusal actions r v = ⊥
+-- an object was reserved outside of a transaction, as all of a call, which drew a number
+pub record IsReserveMade (size kind : ℕ) (v w : View) : Type 0 where
+  pub start : View
+  pub free : IsFree v start
+  pub told : View
+  pub reserved : IsObjectReserved size kind start told
+  pub number : ℕ
+  pub drawn : w ≡ after told (Draw number)
 
--- why a call outside of a transaction may be refused, where this is pending: a set-value for its place or for room, and a publish for the
--- objects of the actions
-abbrev pub IsOutsideRefusal : ScriptOp → Pending → Refusal → View → Type 0
-IsOutsideRefusal (Set id off value) p r v = set_refusal off p ≡ Some r
-IsOutsideRefusal Publish p r v = IsPublishRefusal p.sets r v
-IsOutsideRefusal op p r v = ⊥
+-- no block was found for it
+pub record IsReserveRefusedOutside (size kind : ℕ) (r : Refusal) (v w : View) : Type 0 where
+  pub start : View
+  pub free : IsFree v start
+  pub told : View
+  pub refused : IsReserveRefused size kind r start told
+  pub number : ℕ
+  pub drawn : w ≡ after told (Draw number)
 
--- a call outside of a transaction was done, or refused so. But for a publish of some actions that is done it makes no counted call
-abbrev pub IsOutsideMade : ScriptOp → Option Refusal → View → View → Type 0
-IsOutsideMade Publish None v w = IsPublishMade v w ⊎ (IsLed v w × (pending_before v ≡ none_pending))
-IsOutsideMade op None v w = IsLed v w
-IsOutsideMade op (Some r) v w = IsLed v w × IsOutsideRefusal op (pending_before v) r v
+-- bytes were written into what is reserved
+pub record IsPutMade (names : Names) (id : ScriptId) (off : ℕ) (bytes : List ℕ) (v w : View) : Type 0 where
+  pub start : View
+  pub free : IsFree v start
+  pub number : ℕ
+  pub drawn : w ≡ after (after_all start (put_calls names id off bytes start)) (Draw number)
+
+-- what was pending was given up: all was made persistent, that was told and the number drawn, and then each block that was reserved was given back
+pub record IsCancelMade (v w : View) : Type 0 where
+  pub start : View
+  pub free : IsFree v start
+  pub number : ℕ
+  pub made : w ≡ after_all start (cancels_outside number start)
+
+-- why a publish of what is pending by a lane that is alone may be refused: by the pool's words one names no object, or one was asked for of an object that was to be
+-- freed already; an object that is to be freed is the root; or an action passes the end of its object. No lock is another lane's
+abbrev pub IsPublishRefusal : Pending → Refusal → View → Type 0
+IsPublishRefusal p refusal.NoObject v = Any (LacksObject v) (wants_pending p) ⊎ (p.late ≡ true)
+IsPublishRefusal p refusal.RootKept v = Any (λ (id : Oid). slice_index v.words 64 ≡ id.off) p.frees
+IsPublishRefusal p refusal.OutOfRange v = Any (Overruns v) p.sets
+IsPublishRefusal p r v = ⊥
+
+-- why a call outside of a transaction may be refused, where this is pending: a set-value for its place or for room, a free that is deferred for room, a reservation for
+-- its size, for room or for want of a block, a put for its place, and a publish for the objects that it names
+abbrev pub IsOutsideRefusal : Names → ScriptOp → Pending → Refusal → View → Type 0
+IsOutsideRefusal names (Set id off value) p r v = set_refusal off p ≡ Some r
+IsOutsideRefusal names (DeferFree id) p r v = defer_refusal p ≡ Some r
+IsOutsideRefusal names (Reserve letter size kind) p r v = IsReserveReason p size r
+IsOutsideRefusal names (WriteReserved id off bytes) p r v = put_refusal v.pool p (id_of names id) off (length bytes) ≡ Some r
+IsOutsideRefusal names Publish p r v = IsPublishRefusal p r v
+IsOutsideRefusal names op p r v = ⊥
+
+-- how a call outside of a transaction is refused: a reservation may have looked for a block; no counted call is made
+abbrev pub IsRefusedOutside : Names → ScriptOp → Refusal → View → View → Type 0
+IsRefusedOutside names (Reserve letter size kind) r v w = IsReserveRefusedOutside size kind r v w
+IsRefusedOutside names op r v w = IsLed v w
+
+-- a call outside of a transaction was done, or refused so
+abbrev pub IsOutsideMade : Names → ScriptOp → Option Refusal → View → View → Type 0
+IsOutsideMade names (Reserve letter size kind) None v w = IsReserveMade size kind v w
+IsOutsideMade names (WriteReserved id off bytes) None v w = IsPutMade names id off bytes v w
+IsOutsideMade names Publish None v w = IsPublishMade v w ⊎ (IsLed v w × (pending_before v ≡ none_pending))
+IsOutsideMade names Cancel None v w = IsCancelMade v w
+IsOutsideMade names op None v w = IsLed v w
+IsOutsideMade names op (Some r) v w = IsRefusedOutside names op r v w × IsOutsideRefusal names op (pending_before v) r v
 
 -- the one line of these lines
 pub record IsOneLine (lines : List ScriptLine) (op : ScriptOp) : Type 0 where
@@ -208,7 +286,7 @@ pub record IsOneLine (lines : List ScriptLine) (op : ScriptOp) : Type 0 where
 -- a call was answered so
 abbrev pub IsCallMade : Names → List ScriptLine → CallAnswer → View → View → Type 0
 IsCallMade names lines (answer.Transaction e) v w = IsTransactionMade names lines e v w
-IsCallMade names lines (answer.Outside r) v w = (op : ScriptOp) × IsOneLine lines op × IsOutsideMade op r v w
+IsCallMade names lines (answer.Outside r) v w = (op : ScriptOp) × IsOneLine lines op × IsOutsideMade names op r v w
 
 -- calls were answered, one after another, as their entries say
 unfoldable pub CallsMade : Names → List (List ScriptLine) → List Entry → View → View → Type 0
@@ -239,6 +317,8 @@ abbrev pub IsLineStopped : Names → ScriptOp → View → View → Type 0
 IsLineStopped names (Add id off len) v w = IsStoppedBy (add_calls names id off len) v w
 IsLineStopped names (Write id off bytes) v w = IsStoppedBy (write_calls names id off bytes) v w
 IsLineStopped names (Alloc letter size kind) v w = (stop : HasStopped) × GivesNoObject (λ u. u ≡ w) v size kind (no_block.Stopped stop)
+IsLineStopped names (Reserve letter size kind) v w = (stop : HasStopped) × GivesNoObject (λ u. u ≡ w) v size kind (no_block.Stopped stop)
+IsLineStopped names (WriteReserved id off bytes) v w = IsStoppedBy (put_calls names id off bytes) v w
 IsLineStopped names Cancel v w = IsStoppedBy cancels v w
 IsLineStopped names Commit v w = IsStoppedInCommit v w
 IsLineStopped names op v w = ⊥
@@ -259,16 +339,30 @@ pub record IsStoppedInTransaction (names : Names) (lines : List ScriptLine) (v w
   pub made : LinesMade names front v middle
   pub stops : IsLineStopped names said.operation middle w ⊎ ((r : Refusal) × IsStoppedGivingUp names said.operation r middle w)
 
--- what is pending was being published outside of a transaction, and a counted call is due
-pub record IsStoppedInPublish (lines : List ScriptLine) (v w : View) : Type 0 where
-  pub publish : IsOneLine lines Publish
+-- an object was being reserved outside of a transaction, and a counted call is due
+pub record IsStoppedInReserve (size kind : ℕ) (v w : View) : Type 0 where
   pub start : View
   pub free : IsFree v start
+  pub stop : HasStopped
+  pub gives : GivesNoObject (λ u. u ≡ w) start size kind (no_block.Stopped stop)
+
+-- so it is of a publish
+pub record IsStoppedInPublish (v w : View) : Type 0 where
+  pub blocks : BlockLists
+  pub lists : ListsBlocks blocks (blocks_behind operation.Publish None (pending_before v) no_blocks)
   pub number : ℕ
-  pub stops : IsFrontOf (publishes (pending_entries v) operation.Publish number) start w
+  pub stopped : IsStoppedBy (publish_calls blocks number) v w
+
+-- in the calls of a line outside of a transaction a counted call is due
+abbrev pub IsOutsideStopped : Names → ScriptOp → View → View → Type 0
+IsOutsideStopped names (Reserve letter size kind) v w = IsStoppedInReserve size kind v w
+IsOutsideStopped names (WriteReserved id off bytes) v w = IsStoppedBy (put_calls names id off bytes) v w
+IsOutsideStopped names Publish v w = IsStoppedInPublish v w
+IsOutsideStopped names Cancel v w = (number : ℕ) × IsStoppedBy (cancels_outside number) v w
+IsOutsideStopped names op v w = ⊥
 
 abbrev pub IsStoppedInCall : Names → List ScriptLine → View → View → Type 0
-IsStoppedInCall names lines v w = IsStoppedInTransaction names lines v w ⊎ IsStoppedInPublish lines v w
+IsStoppedInCall names lines v w = IsStoppedInTransaction names lines v w ⊎ ((op : ScriptOp) × IsOneLine lines op × IsOutsideStopped names op v w)
 
 -- no generation is left to the lane, or no number
 abbrev pub IsUsedUp : View → Type 0
@@ -291,8 +385,27 @@ pub record IsSpentAt (calls : List (List ScriptLine)) (line : ℕ) (v w : View) 
   pub free : IsFree v w
   pub used_up : IsUsedUp v
 
+-- the lane has no call left, or can't begin the first of these
+abbrev pub BeginsNone : List (List ScriptLine) → View → View → Type 0
+BeginsNone calls v w = ((calls ≡ []) × (w ≡ v)) ⊎ ((line : ℕ) × IsSpentAt calls line v w)
+
+-- there it was to give up what was pending still, and a counted call is due
+pub record StopsInFinish (calls : List (List ScriptLine)) (stop : ℕ) (v w : View) : Type 0 where
+  pub before : View
+  pub begins_none : BeginsNone calls v before
+  pub stops : IsFrontOf finishes before w
+  pub at_stop : w.calls ≡ stop
+
+-- behind all of its calls the lane gave up what was pending still: all was made persistent, and each block that was reserved was given back
+abbrev pub IsFinishMade : View → View → Type 0
+IsFinishMade v w = w ≡ after_all v (finishes v)
+
+-- the lane stopped in the first of these calls; or there was none, or it could not begin, and the lane stopped as it gave up what was pending
+abbrev pub StopsSomewhere : Names → List (List ScriptLine) → ℕ → View → View → Type 0
+StopsSomewhere names calls stop v w = StopsInFirst names calls stop v w ⊎ StopsInFinish calls stop v w
+
 -- how a lane with these calls left to it comes to this end
 abbrev pub ComesToEnd : Names → List (List ScriptLine) → LaneEnd → View → View → Type 0
-ComesToEnd names calls end.Ended v w = (calls ≡ []) × (w ≡ v)
-ComesToEnd names calls (end.Stopped stop) v w = StopsInFirst names calls stop v w
-ComesToEnd names calls (end.Spent line) v w = IsSpentAt calls line v w
+ComesToEnd names calls end.Ended v w = (calls ≡ []) × IsFinishMade v w
+ComesToEnd names calls (end.Stopped stop) v w = StopsSomewhere names calls stop v w
+ComesToEnd names calls (end.Spent line) v w = (m : View) × IsSpentAt calls line v m × IsFinishMade m w

@@ -10,7 +10,7 @@ use Rattle.pm_script.specs.declared.script.ScriptId.{ScriptId}
 use Rattle.pm_script.specs.declared.script.ScriptId.TheVariants.{At, Bound}
 use Rattle.pm_script.specs.declared.script.ScriptLine.{ScriptLine}
 use Rattle.pm_script.specs.declared.script.ScriptOp.{ScriptOp}
-use Rattle.pm_script.specs.declared.script.ScriptOp.TheVariants.{Begin, Add, Write, Read, Free, Set}
+use Rattle.pm_script.specs.declared.script.ScriptOp.TheVariants.{Begin, Add, Write, Read, Free, WriteReserved, DeferFree, Set}
 use Rattle.pm_script.specs.declared.script.ScriptWant.{ScriptWant}
 use Rattle.pm_text.specs.declared.report.LaneEnd.{LaneEnd}
 use Rattle.pm_text.specs.declared.report.LaneEnd.TheVariants as end
@@ -56,6 +56,8 @@ resolved_op given (Add id off len) = Add (resolved_id given id) off len
 resolved_op given (Write id off bytes) = Write (resolved_id given id) off bytes
 resolved_op given (Read id off len) = Read (resolved_id given id) off len
 resolved_op given (Free id) = Free (resolved_id given id)
+resolved_op given (WriteReserved id off bytes) = WriteReserved (resolved_id given id) off bytes
+resolved_op given (DeferFree id) = DeferFree (resolved_id given id)
 resolved_op given (Set id off value) = Set (resolved_id given id) off value
 resolved_op given op = op
 

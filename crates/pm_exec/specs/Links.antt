@@ -1,5 +1,5 @@
 -- What an answered call keeps of its run, whatever steps it made: for the crate's own functions.
-use Rattle.std.specs.Prelude.{◌≡◌, ◌⊎◌, ℕ, ◌<◌, List, [], slice_index}
+use Rattle.std.specs.Prelude.{◌≡◌, ◌⊎◌, ℕ, ◌<◌, List, slice_index}
 use Rattle.pm_crash.specs.Alone.{Begins, WorksAlone, standing}
 use Rattle.pm_epoch.specs.Epochs.{HasEnded}
 use Rattle.pm_header.specs.declared.header.Header.{Header}
@@ -9,7 +9,7 @@ use Rattle.pm_transaction.specs.AtWork.{IsNotMaking}
 use Rattle.pm_view.specs.Steps.{Step}
 use Rattle.pm_view.specs.View.{View}
 use Rattle.pm_world.specs.Opening.{Opening}
-use Rattle.pm_exec.specs.Bounds.{IsBounded}
+use Rattle.pm_exec.specs.Bounds.{IsWalked}
 
 -- From the first view, with the pool as it stands there, a call led the lane to the other, with at most so many stores. Wherever the lane began, it begins
 -- again behind the call, over the words as they stand, which have the same header page.
@@ -17,7 +17,7 @@ pub record IsLink (o : Opening) (first view : View) (most : ℕ) : Type 0 where
   pub same : IsSameLane first view
   pub again : (header : Header) (pool : PoolView) → Begins o header pool first → Begins (standing o view) header pool view
   pub page : (header : Header) (pool : PoolView) → Begins o header pool first → (i : ℕ) → i < 512 → slice_index view.words i ≡ slice_index o.words i
-  pub bound : first.changes ≡ [] → IsBounded first view most
+  pub bound : IsWalked first view most
 
 -- the lane works alone since the first view, and makes no object now
 pub record WorksOn (o : Opening) (header : Header) (pool : PoolView) (first view : View) : Type 0 where
@@ -30,5 +30,5 @@ pub record WorksOn (o : Opening) (header : Header) (pool : PoolView) (first view
 pub record HasPassed (o : Opening) (first view : View) (most : ℕ) : Type 0 where
   pub same : IsSameLane first view
   pub page : (header : Header) (pool : PoolView) → Begins o header pool first → (i : ℕ) → i < 512 → slice_index view.words i ≡ slice_index o.words i
-  pub bound : first.changes ≡ [] → IsBounded first view most
+  pub bound : IsWalked first view most
   pub came : (header : Header) (pool : PoolView) → Begins o header pool first → HasEnded o header pool view ⊎ WorksOn o header pool first view

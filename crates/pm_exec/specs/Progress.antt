@@ -1,11 +1,11 @@
 -- How far a call of a run has come: for the crate's own functions.
-use Rattle.std.specs.Prelude.{◌≡◌, ◌⊎◌, ℕ, ◌+◌, ◌*◌, ◌/◌, ◌<◌, ◌≤◌, false, List, [], ◌∷◌, ◌++◌, map, slice_index, take, Option, None, Some, Result, Ok, Err, ⊤}
+use Rattle.std.specs.Prelude.{◌≡◌, ◌⊎◌, ℕ, ◌+◌, ◌*◌, ◌/◌, ◌<◌, ◌≤◌, false, List, [], ◌∷◌, ◌++◌, map, slice_index, take, Option, None, Some, Result, Ok, Err, alloc_error, ⊤}
 use Rattle.std.specs.List.{AllZip}
-use Rattle.pm_crash.specs.Alone.{Begins, raises}
+use Rattle.pm_crash.specs.Alone.{Begins, raises, standing}
 use Rattle.pm_crash.specs.Leading.{Leads}
 use Rattle.pm_crash.specs.OpenCall.{IsUnderBlock}
 use Rattle.pm_crash.specs.Pending.{pending_before, pending_in, told_of as model_told}
-use Rattle.pm_epoch.specs.Epochs.{RestsBehindCall}
+use Rattle.pm_epoch.specs.Reserving.{RestsWithReserved}
 use Rattle.pm_header.specs.declared.header.Header.{Header}
 use Rattle.pm_image.specs.Logs.{generation_word}
 use Rattle.pm_made.specs.Made.{BlockLists}
@@ -26,12 +26,14 @@ use Rattle.pm_objects.specs.declared.refusal.Refusal.{Refusal}
 use Rattle.pm_objects.specs.declared.refusal.Refusal.TheVariants as refusal
 use Rattle.pm_script.specs.declared.script.ScriptLine.{ScriptLine}
 use Rattle.pm_script.specs.declared.script.ScriptOp.{ScriptOp}
-use Rattle.pm_script.specs.declared.script.ScriptOp.TheVariants.{Alloc, Read, Set}
+use Rattle.pm_script.specs.declared.script.ScriptOp.TheVariants.{Alloc, DeferFree, Read, Reserve, Set, WriteReserved}
 use Rattle.pm_blocks.specs.NewRuns.{IsThere}
 use Rattle.pm_lock.specs.Finding.{FindsObjects}
 use Rattle.pm_lock.specs.Leading.{DrawEnded}
 use Rattle.pm_lock.specs.Resting.{IsAtRest, IsFresh}
-use Rattle.pm_transaction.specs.AtWork.{AreForPool, IsAtWorkWith}
+use Rattle.pm_layout.specs.declared.shape.Shape.{Shape}
+use Rattle.pm_transaction.specs.AtWork.{AreForPool, IsAtWorkWith, IsNotMaking}
+use Rattle.pm_transaction.specs.Resting.{StandsAtRest}
 use Rattle.pm_transaction.specs.Published.{HasDrawn}
 use Rattle.pm_tx.specs.Ending.{IsAfterCall}
 use Rattle.pm_tx.specs.Generations.{IsOfOpening}
@@ -46,14 +48,13 @@ use Rattle.pm_view.specs.Log.{Phase}
 use Rattle.pm_view.specs.Log.Phase.{Applying, Clearing, Drawn, Idle, Retiring, Sealing}
 use Rattle.pm_view.specs.Steps.{Step}
 use Rattle.pm_view.specs.View.{Numbered, Told, View}
-use Rattle.pm_view.specs.Views.{after_all, reserves}
-use Rattle.pm_view.specs.declared.occ.Occ.TheVariants.{Zone}
+use Rattle.pm_view.specs.Views.{after_all}
 use Rattle.pm_world.specs.Opening.{Opening}
 use Rattle.pm_world.specs.Records.{generation_of}
 use Rattle.pm_world.specs.Sequences.{Ready}
 use Rattle.pm_world.specs.declared.lane.Lane.{Lane}
 use Rattle.pm_world.specs.declared.lane.Span.{Span}
-use Rattle.pm_exec.specs.Bounds.{IsBounded, log_due, most_stores, recorded_count, stores_of_call, stores_of_lines}
+use Rattle.pm_exec.specs.Bounds.{IsWalked, log_due, most_stores, recorded_count, stores_of_call, stores_of_lines}
 use Rattle.pm_exec.specs.Calls.{id_of, numbers_of, operation_of, stands_alone, starts_alone}
 use Rattle.pm_exec.specs.Course.{AreMade, IsCallMade, IsFree, IsOneLine, IsOutsideMade, IsStoppedInCall, IsUsedUp, LinesMade, spans_of}
 use Rattle.pm_exec.specs.Links.{HasPassed, IsLink}
@@ -67,8 +68,8 @@ use Rattle.pm_exec.specs.declared.lines.NotDone.TheVariants.{GivenUp, Stopped, S
 use Rattle.pm_exec.specs.declared.ending.CallAnswer.{CallAnswer}
 use Rattle.pm_exec.specs.declared.ending.CallAnswer.TheVariants as answer
 use Rattle.pm_model.specs.Actions.{Pending}
-use Rattle.pm_pending.specs.Pending.{pending_of}
-use Rattle.pm_pending.specs.declared.actions.SetAction.{SetAction}
+use Rattle.pm_pending.specs.AllPending.{IsPendingAs}
+use Rattle.pm_pending.specs.declared.pending.PendingActions.{PendingActions}
 use Rattle.std.specs.Prelude.{◌%◌, All, option_map}
 
 -- what lines gave
@@ -82,15 +83,18 @@ done op = record { operation = op; reply = None }
 abbrev pub refused : Operation → Refusal → Told
 refused op r = record { operation = op; reply = Some (Refused r) }
 
--- the list is what is pending, and each of it is of a multiple of eight bytes
-pub record IsPending (actions : List SetAction) (pending : Pending) : Type 0 where
-  pub are : pending_of actions ≡ pending
-  pub aligned : All (λ (a : SetAction). a.off % 8 ≡ 0) actions
+-- the operation was done without a value, or refused, which aborts nothing
+abbrev pub IsToldOrRefused : Operation → Told → Type 0
+IsToldOrRefused op t = (r : Option Refusal) × (t ≡ record { operation = op; reply = option_map Refused r })
 
--- the operation of a line was done: a read gave bytes, an object that was made its offset, a set may give its refusal, which aborts nothing, and another gave nothing
+-- the operation of a line was done: a read gave bytes, an object that was made or reserved its offset, and another gave nothing; what changes what is pending, but a
+-- publish and a cancel, may give its refusal
 abbrev pub IsToldDone : Names → ScriptOp → Told → Type 0
-IsToldDone names (Set id off value) t =
-    (r : Option Refusal) × (t ≡ record { operation = operation.SetValue (id_of names id) off value; reply = option_map Refused r })
+IsToldDone names (Set id off value) t = IsToldOrRefused (operation.SetValue (id_of names id) off value) t
+IsToldDone names (DeferFree id) t = IsToldOrRefused (operation.DeferFree (id_of names id)) t
+IsToldDone names (WriteReserved id off bytes) t = IsToldOrRefused (operation.WriteReserved (id_of names id) off bytes) t
+IsToldDone names (Reserve letter size kind) t =
+    ((off : ℕ) × (t ≡ record { operation = operation.Reserve size kind; reply = Some (Offset off) })) ⊎ ((r : Refusal) × (t ≡ refused (operation.Reserve size kind) r))
 IsToldDone names (Read id off len) t = (bytes : List ℕ) × (t ≡ record { operation = operation.Read (id_of names id) off len; reply = Some (Bytes bytes) })
 IsToldDone names (Alloc letter size kind) t = (off : ℕ) × (t ≡ record { operation = operation.Alloc size kind; reply = Some (Offset off) })
 IsToldDone names op t = t ≡ done (operation_of names op)
@@ -107,29 +111,26 @@ values_told lines told = values_of (numbers_of lines) (map model_told told)
 abbrev pub numbered : ℕ → List Told → Numbered
 numbered n told = record { number = n; call = told }
 
--- no chunk of the pool is reserved
-abbrev pub ReservesNoChunk : View → Type 0
-ReservesNoChunk v = (c : ℕ) → c < 64 * v.zones → reserves v (Zone (c / 64)) (c % 64) ≡ false
+-- The lane, in a pool of this shape, makes no object now, and what it has reserved stands. Wherever it began, it rests with that: as its next call begins it is between
+-- two calls
+pub record KeepsReserved (o : Opening) (shape : Shape) (v : View) : Type 0 where
+  pub quiet : IsNotMaking v
+  pub stands : StandsAtRest v
+  pub rests : (header : Header) (pool : PoolView) → Begins o header pool v → RestsWithReserved o header pool v [] v shape
 
--- the lane has no zone's lock, and reserved no chunk of the pool
-pub record HasNothing (v : View) : Type 0 where
-  pub unlocked : v.zone_locks ≡ []
-  pub no_chunk : ReservesNoChunk v
-
--- the lane rests before a call, with nothing undrained, where it begins, with lists for its pool: o is the pool as it stands
-pub record IsStart (o : Opening) (lane : Lane Solo) (blocks : BlockLists) (actions : List SetAction) (v : View) : Type 0 where
+-- the lane rests before a call, where it begins, with what it has reserved, and with lists for its pool: o is the pool as it stands
+pub record IsStart (o : Opening) (lane : Lane Solo) (blocks : BlockLists) (actions : PendingActions) (v : View) : Type 0 where
   pub rests : IsAtRest Sees lane v
-  pub drained : v.changes ≡ []
   pub header : Header
   pub pool : PoolView
   pub begins : Begins o header pool v
-  pub has_none : HasNothing v
+  pub keeps : KeepsReserved o lane.shape v
   pub pages : AreForPool blocks v
-  pub pending : IsPending actions (pending_before v)
+  pub pending : IsPendingAs actions (pending_before v)
 
 -- from where the lane began the call steps led to a view at which it is at work, with these lists of what it made and freed, and with these lines done, which gave
 -- these values: in the blocks that it found the words are what the lines make of the pool's
-pub record IsAtLine (o : Opening) (first : View) (lane : Lane Solo) (blocks : BlockLists) (actions : List SetAction) (names : Names) (front : List ScriptLine) (values : Values) : Type 0 where
+pub record IsAtLine (o : Opening) (first : View) (lane : Lane Solo) (blocks : BlockLists) (actions : PendingActions) (names : Names) (front : List ScriptLine) (values : Values) : Type 0 where
   pub header : Header
   pub pool : PoolView
   pub begins : Begins o header pool first
@@ -147,19 +148,19 @@ pub record IsAtLine (o : Opening) (first : View) (lane : Lane Solo) (blocks : Bl
   pub generation : generation_of view ≡ generation_word o.words 0
   pub words : (i : ℕ) → IsUnderBlock view i → slice_index view.words i ≡ words_after names front (slice_index o.words) i
   pub unraised : raises steps ≡ 0
-  pub pending : IsPending actions (pending_in view)
+  pub pending : IsPendingAs actions (pending_in view)
   pub made : LinesMade names front first view
   pub few : stores_among steps + recorded_count view + log_due view ≤ stores_of_lines names front
 
 -- so it is wherever it began, with some lines done that gave these values
-abbrev pub IsLaneWith : Lane Solo → BlockLists → List SetAction → Names → Values → Type 0
+abbrev pub IsLaneWith : Lane Solo → BlockLists → PendingActions → Names → Values → Type 0
 IsLaneWith lane blocks actions names values = (o : Opening) × (first : View) × (front : List ScriptLine) × IsAtLine o first lane blocks actions names front values
 
-abbrev pub IsLaneAtLine : Lane Solo → BlockLists → List SetAction → Names → Type 0
+abbrev pub IsLaneAtLine : Lane Solo → BlockLists → PendingActions → Names → Type 0
 IsLaneAtLine lane blocks actions names = (values : Values) × IsLaneWith lane blocks actions names values
 
 -- its call is over, came to these operations with their replies, and has drawn a number; its locks are held still
-pub record IsOver (o : Opening) (first : View) (lane : Lane Solo) (blocks : BlockLists) (actions : List SetAction) (names : Names) (lines : List ScriptLine) (told : List Told) (error : TxErr) : Type 0 where
+pub record IsOver (o : Opening) (first : View) (lane : Lane Solo) (blocks : BlockLists) (actions : PendingActions) (names : Names) (lines : List ScriptLine) (told : List Told) (error : TxErr) : Type 0 where
   pub view : View
   pub header : Header
   pub pool : PoolView
@@ -167,13 +168,15 @@ pub record IsOver (o : Opening) (first : View) (lane : Lane Solo) (blocks : Bloc
   pub passed : HasPassed o first view (stores_of_call names lines)
   pub behind : IsAfterCall Sees lane view
   pub unlocked : view.zone_locks ≡ []
+  -- what is reserved and pending stands in its words, in blocks that the lane reserved
+  pub stands : StandsAtRest view
   pub pages : AreForPool blocks view
   pub number : view.number ≡ Some lane.last
   pub entries : view.entries ≡ first.entries ++ numbered lane.last told ∷ []
   pub level : lane.level ≡ 1
   pub left : is_work lane.stage ≡ false
   pub fails : lane.error ≡ error
-  pub pending : IsPending actions (pending_before view)
+  pub pending : IsPendingAs actions (pending_before view)
   pub made : AreMade names lines error first view
 
 -- the call has drawn no number
@@ -267,21 +270,20 @@ pub record IsCutPublishing (o : Opening) (first : View) (names : Names) (lines :
 pub record IsCut (o : Opening) (first : View) (lane : Lane Solo) (names : Names) (lines : List ScriptLine) (values : Values) : Type 0 where
   pub view : View
   pub same : IsSameLane first view
-  pub bound : first.changes ≡ [] → IsBounded first view (stores_of_call names lines)
+  pub bound : IsWalked first view (stores_of_call names lines)
   pub seen : Sees lane.memory view
   pub drawn : lane.drawn ≡ view.number
   pub way : IsCutAtWork o first names lines values view ⊎ IsCutPublishing o first names lines values view
   pub at_stop : IsAtStop view
   pub stops : IsStoppedInCall names lines first view
 
--- it did not begin its call
-pub record IsUnbegun (first : View) (lane : Lane Solo) : Type 0 where
+-- it did not begin its call. The list is what is pending still
+pub record IsUnbegun (first : View) (lane : Lane Solo) (actions : PendingActions) : Type 0 where
   pub view : View
   pub free : IsFree first view
-  pub seen : Sees lane.memory view
   pub used_up : IsUsedUp first
-  pub fresh : IsFresh view
-  pub drained : view.changes ≡ []
+  pub rests : IsAtRest Sees lane view
+  pub pending : IsPendingAs actions (pending_before first)
 
 -- some of the lines was refused so, and has this number; those before it were done, gave these values, and came to this with it
 pub record IsRefusedAt (names : Names) (lines : List ScriptLine) (line : ℕ) (r : Refusal) (values : Values) (told : List Told) : Type 0 where
@@ -297,7 +299,7 @@ pub record IsRefusedAt (names : Names) (lines : List ScriptLine) (line : ℕ) (r
   pub told_so : told ≡ before ++ refused (operation_of names said.operation) r ∷ []
 
 -- its call was given up at this line
-pub record IsGivenUpAt (o : Opening) (first : View) (lane : Lane Solo) (blocks : BlockLists) (actions : List SetAction) (names : Names) (lines : List ScriptLine) (values : Values) (line : ℕ) (r : Refusal) : Type 0 where
+pub record IsGivenUpAt (o : Opening) (first : View) (lane : Lane Solo) (blocks : BlockLists) (actions : PendingActions) (names : Names) (lines : List ScriptLine) (values : Values) (line : ℕ) (r : Refusal) : Type 0 where
   pub told : List Told
   pub at : IsRefusedAt names lines line r values told
   pub over : IsOver o first lane blocks actions names lines told (error.Refused r)
@@ -308,22 +310,28 @@ not_done line refusal.Stopped = Stopped
 not_done line refusal.Spent = Spent line
 not_done line r = GivenUp line r
 
+-- the reason why a line was refused, which aborts nothing, is added to what the lines gave; the lane's stop alone ends them
+abbrev pub IsRefusalGiven : {T : Type 0} → ℕ → Refusal → Values → Values → Result T NotDone → Type 0
+IsRefusalGiven line refusal.Stopped old new result = (new ≡ old) × (result ≡ Err Stopped)
+IsRefusalGiven line r old new (Ok done) = new ≡ old ++ (line, Refused r) ∷ []
+IsRefusalGiven line r old new (Err why) = why ≡ Memory alloc_error
+
 -- the call was not committed, for this reason
-abbrev pub IsNotDone : Opening → View → Lane Solo → BlockLists → List SetAction → Names → List ScriptLine → Values → NotDone → Type 0
+abbrev pub IsNotDone : Opening → View → Lane Solo → BlockLists → PendingActions → Names → List ScriptLine → Values → NotDone → Type 0
 IsNotDone o first lane blocks actions names lines values (GivenUp line r) = IsGivenUpAt o first lane blocks actions names lines values line r
 IsNotDone o first lane blocks actions names lines values Stopped = IsCut o first lane names lines values
-IsNotDone o first lane blocks actions names lines values (Spent line) = IsUnbegun first lane × (slice_index (numbers_of lines) 0 ≡ line)
+IsNotDone o first lane blocks actions names lines values (Spent line) = IsUnbegun first lane actions × (slice_index (numbers_of lines) 0 ≡ line)
 IsNotDone o first lane blocks actions names lines values (Memory e) = ⊤
 
 -- all of its lines were done
-pub record IsCommitted (o : Opening) (first : View) (lane : Lane Solo) (blocks : BlockLists) (actions : List SetAction) (names : Names) (lines : List ScriptLine) (values : Values) : Type 0 where
+pub record IsCommitted (o : Opening) (first : View) (lane : Lane Solo) (blocks : BlockLists) (actions : PendingActions) (names : Names) (lines : List ScriptLine) (values : Values) : Type 0 where
   pub told : List Told
   pub done : AreToldDone names lines told
   pub gave : values ≡ values_told lines told
   pub over : IsOver o first lane blocks actions names lines told error.None
 
 -- the call was committed, or was not
-abbrev pub CameTo : {T : Type 0} → Opening → View → Lane Solo → BlockLists → List SetAction → Names → List ScriptLine → Values → Result T NotDone → Type 0
+abbrev pub CameTo : {T : Type 0} → Opening → View → Lane Solo → BlockLists → PendingActions → Names → List ScriptLine → Values → Result T NotDone → Type 0
 CameTo o first lane blocks actions names lines values (Ok answer) = IsCommitted o first lane blocks actions names lines values
 CameTo o first lane blocks actions names lines values (Err why) = IsNotDone o first lane blocks actions names lines values why
 
@@ -333,32 +341,45 @@ TransactionEnded names lines e reply told = (starts_alone lines ≡ false) × (
     ((e ≡ error.None) × (reply.at ≡ 0) × AreToldDone names lines told × (reply.values ≡ values_told lines told))
     ⊎ ((r : Refusal) × (e ≡ error.Refused r) × IsRefusedAt names lines reply.at r reply.values told))
 
--- how a call outside of a transaction ended, of one line: it was done, or refused so, and gave nothing
+-- the reply of a call outside of a transaction, of one operation, that was done, or refused so, and what its line gave then: a reservation its offset, another nothing
+abbrev pub IsOutsideReply : Operation → Option Refusal → Option Value → Option ℕ → Type 0
+IsOutsideReply op (Some r) reply gave = (reply ≡ Some (Refused r)) × (gave ≡ None)
+IsOutsideReply (operation.Reserve size kind) None reply gave = (off : ℕ) × ((reply ≡ Some (Offset off)) × (gave ≡ Some off))
+IsOutsideReply op None reply gave = (reply ≡ None) × (gave ≡ None)
+
+-- what the line gave, as a list of values
+abbrev pub values_outside : ℕ → Option ℕ → Values
+values_outside line None = []
+values_outside line (Some off) = (line, Offset off) ∷ []
+
+-- how a call outside of a transaction ended, of one line: it was done, or refused so
 pub record OutsideEnded (names : Names) (lines : List ScriptLine) (r : Option Refusal) (reply : Reply) (told : List Told) : Type 0 where
   pub op : ScriptOp
   pub one : IsOneLine lines op
   pub at : reply.at ≡ 0
-  pub values : reply.values ≡ []
-  pub told_so : told ≡ record { operation = operation_of names op; reply = option_map Refused r } ∷ []
+  pub answer : Option Value
+  pub gave : Option ℕ
+  pub replies : IsOutsideReply (operation_of names op) r answer gave
+  pub values : reply.values ≡ values_outside one.line.line gave
+  pub told_so : told ≡ record { operation = operation_of names op; reply = answer } ∷ []
 
 -- how an answered call of these lines ended
 abbrev pub HasEnded : Names → List ScriptLine → CallAnswer → Reply → List Told → Type 0
 HasEnded names lines (answer.Transaction e) reply told = TransactionEnded names lines e reply told
 HasEnded names lines (answer.Outside r) reply told = OutsideEnded names lines r reply told
 
--- the call was answered, a link of its run, and the lane rests again, with nothing undrained
-pub record IsAnswered (o : Opening) (first : View) (lane : Lane Solo) (blocks : BlockLists) (actions : List SetAction) (names : Names) (lines : List ScriptLine) (number : ℕ) (a : CallAnswer) (reply : Reply) : Type 0 where
+-- the call was answered, a link of its run, and the lane rests again
+pub record IsAnswered (o : Opening) (first : View) (lane : Lane Solo) (blocks : BlockLists) (actions : PendingActions) (names : Names) (lines : List ScriptLine) (number : ℕ) (a : CallAnswer) (reply : Reply) : Type 0 where
   pub view : View
   pub link : IsLink o first view (stores_of_call names lines)
   pub rests : IsAtRest Sees lane view
-  pub drained : view.changes ≡ []
   pub idle : view.log ≡ no_log Idle
-  pub has_none : HasNothing view
+  pub keeps : KeepsReserved (standing o view) lane.shape view
   pub pages : AreForPool blocks view
   pub told : List Told
   pub entries : view.entries ≡ first.entries ++ numbered number told ∷ []
   pub so : HasEnded names lines a reply told
-  pub pending : IsPending actions (pending_before view)
+  pub pending : IsPendingAs actions (pending_before view)
   pub made : IsCallMade names lines a first view
 
 -- the lane stopped in the call
@@ -374,29 +395,28 @@ values_given (call_end.Halted number reply) = reply.values
 values_given (call_end.Unbegun line) = []
 
 -- how a call of these lines ended
-abbrev pub HasCome : Opening → View → Lane Solo → BlockLists → List SetAction → Names → List ScriptLine → CallEnd → Type 0
+abbrev pub HasCome : Opening → View → Lane Solo → BlockLists → PendingActions → Names → List ScriptLine → CallEnd → Type 0
 HasCome o first lane blocks actions names lines (call_end.Answered number a reply) = IsAnswered o first lane blocks actions names lines number a reply
 HasCome o first lane blocks actions names lines (call_end.Halted number reply) = IsHalted o first lane names lines number reply
-HasCome o first lane blocks actions names lines (call_end.Unbegun line) = IsUnbegun first lane × (slice_index (numbers_of lines) 0 ≡ line)
+HasCome o first lane blocks actions names lines (call_end.Unbegun line) = IsUnbegun first lane actions × (slice_index (numbers_of lines) 0 ≡ line)
 
--- a call outside of a transaction was answered: the lane rests again, with nothing undrained, and its entry is the last
-pub record IsActed (first : View) (lane : Lane Solo) (actions : List SetAction) (names : Names) (op : ScriptOp) (r : Option Refusal) : Type 0 where
+-- a call outside of a transaction was answered, and gave this: the lane rests again, and its entry is the last
+pub record IsActed (o : Opening) (first : View) (lane : Lane Solo) (blocks : BlockLists) (actions : PendingActions) (names : Names) (op : ScriptOp) (r : Option Refusal) (gave : Option ℕ) : Type 0 where
   pub view : View
-  pub steps : List Step
-  pub leads : Leads first steps view
+  pub link : IsLink o first view (most_stores names op + 1)
   pub rests : IsAtRest Sees lane view
-  pub drained : view.changes ≡ []
   pub idle : view.log ≡ no_log Idle
-  pub has_none : HasNothing view
-  pub behind : RestsBehindCall view
-  pub entries : view.entries ≡ first.entries ++ numbered lane.last (record { operation = operation_of names op; reply = option_map Refused r } ∷ []) ∷ []
-  pub pending : IsPending actions (pending_before view)
-  pub made : IsOutsideMade op r first view
-  pub few : stores_among steps ≤ most_stores names op + 1
+  pub keeps : KeepsReserved (standing o view) lane.shape view
+  pub pages : AreForPool blocks view
+  pub answer : Option Value
+  pub replies : IsOutsideReply (operation_of names op) r answer gave
+  pub entries : view.entries ≡ first.entries ++ numbered lane.last (record { operation = operation_of names op; reply = answer } ∷ []) ∷ []
+  pub pending : IsPendingAs actions (pending_before view)
+  pub made : IsOutsideMade names op r first view
 
 -- a call outside of a transaction was answered, or refused; or the lane came to its stop in it, or could not begin it
-abbrev pub ActedOutside : {T : Type 0} → Opening → View → Lane Solo → List SetAction → Names → ScriptOp → Result T Refusal → Type 0
-ActedOutside o first lane actions names op (Ok done) = IsActed first lane actions names op None
-ActedOutside o first lane actions names op (Err refusal.Stopped) = (said : ScriptLine) → said.operation ≡ op → IsCut o first lane names (said ∷ []) []
-ActedOutside o first lane actions names op (Err refusal.Spent) = IsUnbegun first lane
-ActedOutside o first lane actions names op (Err r) = IsActed first lane actions names op (Some r)
+abbrev pub ActedOutside : Opening → View → Lane Solo → BlockLists → PendingActions → Names → ScriptOp → Result (Option ℕ) Refusal → Type 0
+ActedOutside o first lane blocks actions names op (Ok gave) = IsActed o first lane blocks actions names op None gave
+ActedOutside o first lane blocks actions names op (Err refusal.Stopped) = (said : ScriptLine) → said.operation ≡ op → IsCut o first lane names (said ∷ []) []
+ActedOutside o first lane blocks actions names op (Err refusal.Spent) = IsUnbegun first lane actions
+ActedOutside o first lane blocks actions names op (Err r) = IsActed o first lane blocks actions names op (Some r) None

@@ -1,38 +1,47 @@
 //! The calls of a script outside of a transaction, by lane 0.
 
 ghost use Rattle.std.specs.Prelude.{◌≡◌, true};
-ghost use Rattle.pm_made.specs.Made.{BlockLists};
 ghost use Rattle.pm_view.specs.View.{View};
 ghost use Rattle.pm_world.specs.Opening.{Opening};
 ghost use Rattle.pm_exec.specs.Calls.{stands_alone};
 ghost use Rattle.pm_exec.specs.Progress.{ActedOutside, IsStart};
 
-use crate::calls::{Names, action_of};
-use arrayvec::ArrayVec;
-use pm_action::{cancel, publish, set_value};
+use crate::calls::{Names, action_of, id_of};
+use pm_action::{cancel, defer_free, publish, reserve, set_value, write_reserved};
+use pm_made::CallBlocks;
 use pm_memory::SoloMem;
 use pm_objects::Refusal;
-use pm_pending::SetAction;
+use pm_pending::PendingActions;
 use pm_script::ScriptOp;
 use pm_world::Lane;
 
-/// Makes the call that this line is.
+/// Makes the call that this line is. The answer is the offset that it gave, if it reserved an object.
 pub(crate) fn act_outside(
     lane: &mut Lane<SoloMem>,
-    actions: &mut ArrayVec<SetAction, 63>,
+    blocks: &mut CallBlocks,
+    pending: &mut PendingActions,
     names: Names,
     operation: &ScriptOp,
-) -> Result<(), Refusal>
+) -> Result<Option<u64>, Refusal>
     requires outside { stands_alone operation.now ≡ true }
-    requires first { (o : Opening) × ((first : View) × ((blocks : BlockLists) × IsStart o lane.old blocks actions.old.items first)) }
-    ensures { (o : Opening) (first : View) (blocks : BlockLists) → IsStart o lane.old blocks actions.old.items first → ActedOutside o first lane.new actions.new.items names operation.now result }
+    requires first { (o : Opening) × ((first : View) × IsStart o lane.old blocks.old pending.old first) }
+    ensures { (o : Opening) (first : View) → IsStart o lane.old blocks.old pending.old first → ActedOutside o first lane.new blocks.new pending.new names operation.now result }
 {
     match operation {
-        ScriptOp::Set { id, off, value } => {
-            set_value(lane, actions, action_of(names, *id, *off, *value))
+        ScriptOp::Reserve { size, kind, .. } => {
+            let id = reserve(lane, pending, *size, *kind)?;
+            return Ok(Some(id.off));
         }
-        ScriptOp::Publish => publish(lane, actions),
-        ScriptOp::Cancel => cancel(lane, actions),
+        ScriptOp::WriteReserved { id, off, bytes } => {
+            write_reserved(lane, pending, id_of(names, *id), *off, bytes.as_slice())?;
+        }
+        ScriptOp::DeferFree { id } => defer_free(lane, pending, id_of(names, *id))?,
+        ScriptOp::Set { id, off, value } => {
+            set_value(lane, pending, action_of(names, *id, *off, *value))?;
+        }
+        ScriptOp::Publish => publish(lane, blocks, pending)?,
+        ScriptOp::Cancel => cancel(lane, pending)?,
         _ => unreachable!(),
     }
+    Ok(None)
 }

@@ -104,6 +104,16 @@ fn operation_of(alloc: Global, names: Names, operation: &ScriptOp) -> Result<Ope
         ScriptOp::Free { id } => Ok(Operation::Free {
             id: id_of(names, *id),
         }),
+        ScriptOp::Reserve { size, kind, .. } => Ok(Operation::Reserve {
+            size: *size,
+            kind: *kind,
+        }),
+        ScriptOp::WriteReserved { id, off, bytes } => {
+            put_of(alloc, id_of(names, *id), *off, bytes.as_slice())
+        }
+        ScriptOp::DeferFree { id } => Ok(Operation::DeferFree {
+            id: id_of(names, *id),
+        }),
         ScriptOp::Set { id, off, value } => Ok(Operation::SetValue {
             id: id_of(names, *id),
             off: *off,
@@ -129,6 +139,14 @@ fn write_of(alloc: Global, id: Oid, off: u64, bytes: &[u8]) -> Result<Operation,
 {
     let bytes = Sequence::from_vec(Vec::from_slice(alloc, bytes)?);
     Ok(Operation::Write { id, off, bytes })
+}
+
+/// A write of these bytes into what is reserved.
+fn put_of(alloc: Global, id: Oid, off: u64, bytes: &[u8]) -> Result<Operation, AllocError>
+    ensures { IfOk result (λ op. op ≡ operation.WriteReserved id off bytes.now) }
+{
+    let bytes = Sequence::from_vec(Vec::from_slice(alloc, bytes)?);
+    Ok(Operation::WriteReserved { id, off, bytes })
 }
 
 /// The operations that the lines say, with these offsets in their letters' places.
@@ -168,8 +186,14 @@ fn has_root(operation: &ScriptOp) -> bool
         ScriptOp::Write { id, .. } => is_root(*id),
         ScriptOp::Read { id, .. } => is_root(*id),
         ScriptOp::Free { id } => is_root(*id),
+        ScriptOp::WriteReserved { id, .. } => is_root(*id),
+        ScriptOp::DeferFree { id } => is_root(*id),
         ScriptOp::Set { id, .. } => is_root(*id),
-        ScriptOp::Alloc { .. } | ScriptOp::Publish | ScriptOp::Cancel | ScriptOp::Commit => false,
+        ScriptOp::Alloc { .. }
+        | ScriptOp::Reserve { .. }
+        | ScriptOp::Publish
+        | ScriptOp::Cancel
+        | ScriptOp::Commit => false,
     }
 }
 
@@ -219,7 +243,12 @@ pub(crate) fn stands_alone(operation: &ScriptOp) -> bool
 {
     matches!(
         operation,
-        ScriptOp::Set { .. } | ScriptOp::Publish | ScriptOp::Cancel
+        ScriptOp::Reserve { .. }
+            | ScriptOp::WriteReserved { .. }
+            | ScriptOp::DeferFree { .. }
+            | ScriptOp::Set { .. }
+            | ScriptOp::Publish
+            | ScriptOp::Cancel
     )
 }
 

@@ -1,28 +1,32 @@
 //! How a call of a run ends, and its entry in the history.
 
-ghost use Rattle.std.specs.Prelude.{◌≡◌, ◌∷◌, ◌++◌, [], true, List, None, IfOk};
+ghost use Rattle.std.specs.Prelude.{◌≡◌, ◌∷◌, ◌++◌, [], true, List, map, IfOk};
+ghost use Rattle.pm_crash.specs.CallBlocks.{block_of, reserved_object};
+ghost use Rattle.pm_crash.specs.Pending.{pending_before};
 ghost use Rattle.pm_made.specs.Made.{BlockLists};
+ghost use Rattle.pm_model.specs.Actions.{Pending};
 ghost use Rattle.pm_objects.specs.declared.history.TxErr.{TxErr};
-ghost use Rattle.pm_objects.specs.declared.history.TxErr.TheVariants as error;
+ghost use Rattle.pm_pending.specs.AllPending.{IsPendingAs};
 ghost use Rattle.pm_script.specs.Scripts.{IsTransaction, operations};
 ghost use Rattle.pm_script.specs.declared.script.ScriptLine.{ScriptLine};
 ghost use Rattle.pm_exec.specs.declared.calls.Names.{Names};
+ghost use Rattle.pm_transaction.specs.Resting.{StandsAtRest};
 ghost use Rattle.pm_view.specs.View.{Told, View};
 ghost use Rattle.pm_world.specs.Opening.{Opening};
 ghost use Rattle.pm_exec.specs.Histories.{open_fate, settled_fate};
 ghost use Rattle.pm_exec.specs.Calls.{IsCall, stands_alone};
 ghost use Rattle.pm_exec.specs.Letters.{AreInOrder, KeepsLetters, offsets_in, resolved};
-ghost use Rattle.pm_exec.specs.Progress.{HasCome, IsOver, IsStart, TransactionEnded, values_given};
+ghost use Rattle.pm_exec.specs.Progress.{HasCome, IsOver, IsStart, TransactionEnded, values_given, values_outside};
 
 use crate::acting::act_outside;
 use crate::calls::{Names, stands_alone};
 use crate::letters::resolved_line;
 use crate::lines::{NotDone, transact};
-use arrayvec::ArrayVec;
+use pm_image::Block;
 use pm_made::CallBlocks;
 use pm_memory::SoloMem;
 use pm_objects::{Fate, Refusal, Reply, Sequence, TxErr, Value};
-use pm_pending::SetAction;
+use pm_pending::PendingActions;
 use pm_script::ScriptLine;
 use pm_transaction::end;
 use pm_world::Lane;
@@ -68,22 +72,40 @@ fn reply_of(values: Vec<(u64, Value)>, at: u64) -> Reply
     }
 }
 
-/// Answers the call, which is over, with this reply.
-fn answer(lane: &mut Lane<SoloMem>, reply: Reply) -> CallEnd
-    requires { (o : Opening) × ((first : View) × ((blocks : BlockLists) × ((names : Names) × ((lines : List ScriptLine) × ((told : List Told) × ((error : TxErr) × ((actions : List SetAction) × IsOver o first lane.old blocks actions names lines told error))))))) }
-    ensures made { (o : Opening) (first : View) (blocks : BlockLists) (actions : List SetAction) (names : Names) (lines : List ScriptLine) (told : List Told) (error : TxErr) → IsOver o first lane.old blocks actions names lines told error
-        → TransactionEnded names lines error reply told → HasCome o first lane.new blocks actions names lines result }
-    ensures gives { values_given result ≡ reply.values }
+/// The blocks of all that is reserved and pending.
+fn blocks_reserved(alloc: Global, pending: &PendingActions) -> Result<Vec<Block>, AllocError>
+    requires { (v : View) × StandsAtRest v × IsPendingAs pending.now (pending_before v) }
+    ensures { IfOk result (λ all. (p : Pending) → IsPendingAs pending.now p → all.items ≡ map block_of (map reserved_object p.reserved)) }
+{
+    let mut all = Vec::new(alloc);
+    for reserved in pending.reserved.as_slice() {
+        all.push(reserved.block())?;
+    }
+    Ok(all)
+}
+
+/// Answers the call, which is over, with this reply. What is reserved and pending the lane keeps.
+fn answer(
+    alloc: Global,
+    lane: &mut Lane<SoloMem>,
+    pending: &PendingActions,
+    reply: Reply,
+) -> Result<CallEnd, AllocError>
+    requires { (o : Opening) × ((first : View) × ((blocks : BlockLists) × ((names : Names) × ((lines : List ScriptLine) × ((told : List Told) × ((error : TxErr) × IsOver o first lane.old blocks pending.now names lines told error)))))) }
+    ensures made { IfOk result (λ ended. (o : Opening) (first : View) (blocks : BlockLists) (names : Names) (lines : List ScriptLine) (told : List Told) (error : TxErr) → IsOver o first lane.old blocks pending.now names lines told error
+        → TransactionEnded names lines error reply told → HasCome o first lane.new blocks pending.now names lines ended) }
+    ensures gives { IfOk result (λ ended. values_given ended ≡ reply.values) }
 {
     let number = lane.last;
-    let Ok(error) = end(lane, &[]) else {
+    let kept = blocks_reserved(alloc, pending)?;
+    let Ok(error) = end(lane, kept.as_slice()) else {
         unreachable!()
     };
-    CallEnd::Answered {
+    Ok(CallEnd::Answered {
         number,
         answer: CallAnswer::Transaction(error),
         reply,
-    }
+    })
 }
 
 /// Makes the transaction of these lines, and answers it, or tells why it was not.
@@ -91,16 +113,16 @@ pub(crate) fn run_transaction(
     alloc: Global,
     lane: &mut Lane<SoloMem>,
     blocks: &mut CallBlocks,
-    actions: &mut ArrayVec<SetAction, 63>,
+    pending: &mut PendingActions,
     names: Names,
     given: &[(u64, u64)],
     lines: &[ScriptLine],
 ) -> Result<CallEnd, AllocError>
     requires transaction { IsTransaction (operations lines.now) }
     requires ordered { AreInOrder lines.now }
-    requires first { (o : Opening) × ((first : View) × IsStart o lane.old blocks.old actions.old.items first) }
-    ensures made { IfOk result (λ ended. (o : Opening) (first : View) → IsStart o lane.old blocks.old actions.old.items first
-        → HasCome o first lane.new blocks.new actions.new.items names (resolved (given.now ++ offsets_in (values_given ended)) lines.now) ended) }
+    requires first { (o : Opening) × ((first : View) × IsStart o lane.old blocks.old pending.old first) }
+    ensures made { IfOk result (λ ended. (o : Opening) (first : View) → IsStart o lane.old blocks.old pending.old first
+        → HasCome o first lane.new blocks.new pending.new names (resolved (given.now ++ offsets_in (values_given ended)) lines.now) ended) }
     ensures letters { IfOk result (λ ended. KeepsLetters lines.now [] (values_given ended)) }
 {
     let mut values = Vec::new(alloc);
@@ -108,14 +130,16 @@ pub(crate) fn run_transaction(
         alloc,
         lane,
         blocks,
-        actions,
+        pending,
         names,
         given,
         lines,
         &mut values,
     ) {
-        Ok(()) => Ok(answer(lane, reply_of(values, 0))),
-        Err(NotDone::GivenUp { line, refusal: _ }) => Ok(answer(lane, reply_of(values, line))),
+        Ok(()) => answer(alloc, lane, pending, reply_of(values, 0)),
+        Err(NotDone::GivenUp { line, refusal: _ }) => {
+            answer(alloc, lane, pending, reply_of(values, line))
+        }
         Err(NotDone::Stopped) => Ok(CallEnd::Halted {
             number: lane.drawn,
             reply: reply_of(values, 0),
@@ -125,36 +149,51 @@ pub(crate) fn run_transaction(
     }
 }
 
+/// What a line outside of a transaction gave, as a list of values.
+fn values_outside(
+    alloc: Global,
+    line: u64,
+    gave: Option<u64>,
+) -> Result<Vec<(u64, Value)>, AllocError>
+    ensures { IfOk result (λ values. values.items ≡ values_outside line gave) }
+{
+    let mut values = Vec::new(alloc);
+    if let Some(off) = gave {
+        values.push((line, Value::Offset(off)))?;
+    }
+    Ok(values)
+}
+
 /// Makes the call that this line is outside of a transaction, and answers it, or tells why it was not.
 pub(crate) fn run_outside(
     alloc: Global,
     lane: &mut Lane<SoloMem>,
-    actions: &mut ArrayVec<SetAction, 63>,
+    blocks: &mut CallBlocks,
+    pending: &mut PendingActions,
     names: Names,
     said: &ScriptLine,
-) -> CallEnd
+) -> Result<CallEnd, AllocError>
     requires outside { stands_alone said.now.operation ≡ true }
-    requires first { (o : Opening) × ((first : View) × ((blocks : BlockLists) × IsStart o lane.old blocks actions.old.items first)) }
-    ensures made { (o : Opening) (first : View) (blocks : BlockLists) → IsStart o lane.old blocks actions.old.items first → HasCome o first lane.new blocks actions.new.items names (said.now ∷ []) result }
-    ensures gives { values_given result ≡ [] }
+    requires first { (o : Opening) × ((first : View) × IsStart o lane.old blocks.old pending.old first) }
+    ensures made { IfOk result (λ ended. (o : Opening) (first : View) → IsStart o lane.old blocks.old pending.old first → HasCome o first lane.new blocks.new pending.new names (said.now ∷ []) ended) }
+    ensures letters { IfOk result (λ ended. KeepsLetters (said.now ∷ []) [] (values_given ended)) }
 {
-    let reply = reply_of(Vec::new(alloc), 0);
-    match act_outside(lane, actions, names, &said.operation) {
-        Ok(()) => CallEnd::Answered {
+    match act_outside(lane, blocks, pending, names, &said.operation) {
+        Ok(gave) => Ok(CallEnd::Answered {
             number: lane.last_number(),
             answer: CallAnswer::Outside(None),
-            reply,
-        },
-        Err(Refusal::Stopped) => CallEnd::Halted {
+            reply: reply_of(values_outside(alloc, said.line, gave)?, 0),
+        }),
+        Err(Refusal::Stopped) => Ok(CallEnd::Halted {
             number: lane.in_flight(),
-            reply,
-        },
-        Err(Refusal::Spent) => CallEnd::Unbegun { line: said.line },
-        Err(why) => CallEnd::Answered {
+            reply: reply_of(Vec::new(alloc), 0),
+        }),
+        Err(Refusal::Spent) => Ok(CallEnd::Unbegun { line: said.line }),
+        Err(why) => Ok(CallEnd::Answered {
             number: lane.last_number(),
             answer: CallAnswer::Outside(Some(why)),
-            reply,
-        },
+            reply: reply_of(Vec::new(alloc), 0),
+        }),
     }
 }
 
@@ -164,24 +203,24 @@ pub(crate) fn run_call(
     alloc: Global,
     lane: &mut Lane<SoloMem>,
     blocks: &mut CallBlocks,
-    actions: &mut ArrayVec<SetAction, 63>,
+    pending: &mut PendingActions,
     names: Names,
     given: &[(u64, u64)],
     lines: &[ScriptLine],
 ) -> Result<CallEnd, AllocError>
     requires call { IsCall (operations lines.now) }
     requires ordered { AreInOrder lines.now }
-    requires first { (o : Opening) × ((first : View) × IsStart o lane.old blocks.old actions.old.items first) }
-    ensures made { IfOk result (λ ended. (o : Opening) (first : View) → IsStart o lane.old blocks.old actions.old.items first
-        → HasCome o first lane.new blocks.new actions.new.items names (resolved (given.now ++ offsets_in (values_given ended)) lines.now) ended) }
+    requires first { (o : Opening) × ((first : View) × IsStart o lane.old blocks.old pending.old first) }
+    ensures made { IfOk result (λ ended. (o : Opening) (first : View) → IsStart o lane.old blocks.old pending.old first
+        → HasCome o first lane.new blocks.new pending.new names (resolved (given.now ++ offsets_in (values_given ended)) lines.now) ended) }
     ensures letters { IfOk result (λ ended. KeepsLetters lines.now [] (values_given ended)) }
 {
     let said = &lines[0];
     if stands_alone(&said.operation) {
         let said = resolved_line(alloc, given, &[], said)?;
-        Ok(run_outside(alloc, lane, actions, names, &said))
+        run_outside(alloc, lane, blocks, pending, names, &said)
     } else {
-        run_transaction(alloc, lane, blocks, actions, names, given, lines)
+        run_transaction(alloc, lane, blocks, pending, names, given, lines)
     }
 }
 

@@ -116,6 +116,19 @@ fn resolved_op(
         ScriptOp::Free { id } => ScriptOp::Free {
             id: resolved_id(given, values, *id),
         },
+        ScriptOp::Reserve { letter, size, kind } => ScriptOp::Reserve {
+            letter: *letter,
+            size: *size,
+            kind: *kind,
+        },
+        ScriptOp::WriteReserved { id, off, bytes } => ScriptOp::WriteReserved {
+            id: resolved_id(given, values, *id),
+            off: *off,
+            bytes: Sequence::from_vec(Vec::from_slice(alloc, bytes.as_slice())?),
+        },
+        ScriptOp::DeferFree { id } => ScriptOp::DeferFree {
+            id: resolved_id(given, values, *id),
+        },
         ScriptOp::Set { id, off, value } => ScriptOp::Set {
             id: resolved_id(given, values, *id),
             off: *off,

@@ -8,6 +8,7 @@
 #![tactic(auto)]
 
 mod acting;
+mod actions;
 mod bounds;
 mod calls;
 mod ending;

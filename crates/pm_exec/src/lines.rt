@@ -4,6 +4,7 @@ ghost use Rattle.std.specs.Prelude.{◌≡◌, ℕ, true, List, [], ◌∷◌, �
 ghost use Rattle.pm_made.specs.Made.{BlockLists};
 ghost use Rattle.pm_script.specs.Scripts.{IsChange, IsTransaction, operations};
 ghost use Rattle.pm_script.specs.declared.script.ScriptLine.{ScriptLine};
+ghost use Rattle.pm_pending.specs.declared.pending.PendingActions.{PendingActions};
 ghost use Rattle.pm_script.specs.declared.script.ScriptOp.{ScriptOp};
 ghost use Rattle.pm_script.specs.declared.script.ScriptOp.TheVariants as op;
 ghost use Rattle.pm_script.specs.declared.script.ScriptWant.{ScriptWant};
@@ -14,16 +15,15 @@ ghost use Rattle.pm_exec.specs.Letters.{AreInOrder, LettersKept, offsets_in, res
 ghost use Rattle.pm_exec.specs.Progress.{CameTo, IsAtLine, IsStart, IsLaneAtLine, IsLaneWith, IsNotDone, Values, not_done};
 ghost use Rattle.pm_exec.specs.declared.lines.NotDone.TheVariants.{Memory};
 
-use crate::calls::{Names, action_of, id_of, wants_of};
+use crate::actions::act_at;
+use crate::calls::{Names, id_of, wants_of};
 use crate::letters::resolved_line;
-use arrayvec::ArrayVec;
 use pm_made::CallBlocks;
 use pm_memory::SoloMem;
 use pm_objects::{Refusal, Sequence, Value, Want};
-use pm_pending::SetAction;
+use pm_pending::PendingActions;
 use pm_script::{ScriptId, ScriptLine, ScriptOp};
-use pm_transaction::{add_range, alloc, begin, commit, free, publish, read, write};
-use pm_tx::{cancel_at_work, set_at_work};
+use pm_transaction::{add_range, alloc, begin, commit, free, read, write};
 use pm_world::Lane;
 use std::alloc::{AllocError, AllocFailed, Global};
 
@@ -63,7 +63,7 @@ impl<T: Drop> From<AllocFailed<T>> for NotDone {
 }
 
 /// Why the line with this number is not done, if it answers so.
-fn not_done(line: u64, why: Refusal) -> NotDone
+pub(crate) fn not_done(line: u64, why: Refusal) -> NotDone
     ensures { result ≡ not_done line why }
 {
     match why {
@@ -84,10 +84,10 @@ fn add_at(
     len: u64,
 ) -> Result<(), NotDone>
     requires is_said { said.now.operation ≡ op.Add id off len }
-    requires at_work { (actions : List SetAction) × IsLaneAtLine lane.old blocks.now actions names }
-    ensures done { OnOk result ((o : Opening) (first : View) (actions : List SetAction) (front : List ScriptLine) (values : Values) → IsAtLine o first lane.old blocks.now actions names front values
+    requires at_work { (actions : PendingActions) × IsLaneAtLine lane.old blocks.now actions names }
+    ensures done { OnOk result ((o : Opening) (first : View) (actions : PendingActions) (front : List ScriptLine) (values : Values) → IsAtLine o first lane.old blocks.now actions names front values
         → IsAtLine o first lane.new blocks.now actions names (front ++ said.now ∷ []) values) }
-    ensures ends { IfErr result (λ why. (o : Opening) (first : View) (actions : List SetAction) (front rest : List ScriptLine) (values : Values) → IsAtLine o first lane.old blocks.now actions names front values
+    ensures ends { IfErr result (λ why. (o : Opening) (first : View) (actions : PendingActions) (front rest : List ScriptLine) (values : Values) → IsAtLine o first lane.old blocks.now actions names front values
         → IsNotDone o first lane.new blocks.now actions names (front ++ said.now ∷ rest) values why) }
 {
     match add_range(lane, blocks, id_of(names, id), off, len) {
@@ -107,10 +107,10 @@ fn write_at(
     bytes: &[u8],
 ) -> Result<(), NotDone>
     requires is_said { said.now.operation ≡ op.Write id off bytes.now }
-    requires at_work { (actions : List SetAction) × IsLaneAtLine lane.old blocks.now actions names }
-    ensures done { OnOk result ((o : Opening) (first : View) (actions : List SetAction) (front : List ScriptLine) (values : Values) → IsAtLine o first lane.old blocks.now actions names front values
+    requires at_work { (actions : PendingActions) × IsLaneAtLine lane.old blocks.now actions names }
+    ensures done { OnOk result ((o : Opening) (first : View) (actions : PendingActions) (front : List ScriptLine) (values : Values) → IsAtLine o first lane.old blocks.now actions names front values
         → IsAtLine o first lane.new blocks.now actions names (front ++ said.now ∷ []) values) }
-    ensures ends { IfErr result (λ why. (o : Opening) (first : View) (actions : List SetAction) (front rest : List ScriptLine) (values : Values) → IsAtLine o first lane.old blocks.now actions names front values
+    ensures ends { IfErr result (λ why. (o : Opening) (first : View) (actions : PendingActions) (front rest : List ScriptLine) (values : Values) → IsAtLine o first lane.old blocks.now actions names front values
         → IsNotDone o first lane.new blocks.now actions names (front ++ said.now ∷ rest) values why) }
 {
     match write(lane, blocks, id_of(names, id), off, bytes) {
@@ -130,10 +130,10 @@ fn read_at(
     values: &mut Vec<(u64, Value)>,
 ) -> Result<(), NotDone>
     requires is_said { said.now.operation ≡ op.Read range.0 range.1 range.2 }
-    requires at_work { (actions : List SetAction) × IsLaneWith lane.old blocks.now actions names values.old.items }
-    ensures done { OnOk result ((o : Opening) (first : View) (actions : List SetAction) (front : List ScriptLine) → IsAtLine o first lane.old blocks.now actions names front values.old.items
+    requires at_work { (actions : PendingActions) × IsLaneWith lane.old blocks.now actions names values.old.items }
+    ensures done { OnOk result ((o : Opening) (first : View) (actions : PendingActions) (front : List ScriptLine) → IsAtLine o first lane.old blocks.now actions names front values.old.items
         → IsAtLine o first lane.new blocks.now actions names (front ++ said.now ∷ []) values.new.items) }
-    ensures ends { IfErr result (λ why. (o : Opening) (first : View) (actions : List SetAction) (front rest : List ScriptLine) → IsAtLine o first lane.old blocks.now actions names front values.old.items
+    ensures ends { IfErr result (λ why. (o : Opening) (first : View) (actions : PendingActions) (front rest : List ScriptLine) → IsAtLine o first lane.old blocks.now actions names front values.old.items
         → IsNotDone o first lane.new blocks.now actions names (front ++ said.now ∷ rest) values.new.items why) }
     ensures letters { LettersKept (said.now ∷ []) values.old.items values.new.items result }
 {
@@ -158,10 +158,10 @@ fn make_at(
     kind: u64,
     values: &mut Vec<(u64, Value)>,
 ) -> Result<(), NotDone>
-    requires at_work { (names : Names) × ((actions : List SetAction) × IsLaneWith lane.old blocks.old actions names values.old.items) }
-    ensures done { OnOk result ((o : Opening) (first : View) (actions : List SetAction) (names : Names) (front : List ScriptLine) (letter : ℕ) → IsAtLine o first lane.old blocks.old actions names front values.old.items
+    requires at_work { (names : Names) × ((actions : PendingActions) × IsLaneWith lane.old blocks.old actions names values.old.items) }
+    ensures done { OnOk result ((o : Opening) (first : View) (actions : PendingActions) (names : Names) (front : List ScriptLine) (letter : ℕ) → IsAtLine o first lane.old blocks.old actions names front values.old.items
         → said.now.operation ≡ op.Alloc letter size kind → IsAtLine o first lane.new blocks.new actions names (front ++ said.now ∷ []) values.new.items) }
-    ensures ends { IfErr result (λ why. (o : Opening) (first : View) (actions : List SetAction) (names : Names) (front rest : List ScriptLine) (letter : ℕ) → IsAtLine o first lane.old blocks.old actions names front values.old.items
+    ensures ends { IfErr result (λ why. (o : Opening) (first : View) (actions : PendingActions) (names : Names) (front rest : List ScriptLine) (letter : ℕ) → IsAtLine o first lane.old blocks.old actions names front values.old.items
         → said.now.operation ≡ op.Alloc letter size kind → IsNotDone o first lane.new blocks.new actions names (front ++ said.now ∷ rest) values.new.items why) }
     ensures letters { LettersKept (said.now ∷ []) values.old.items values.new.items result }
 {
@@ -183,10 +183,10 @@ fn free_at(
     id: ScriptId,
 ) -> Result<(), NotDone>
     requires is_said { said.now.operation ≡ op.Free id }
-    requires at_work { (actions : List SetAction) × IsLaneAtLine lane.old blocks.old actions names }
-    ensures done { OnOk result ((o : Opening) (first : View) (actions : List SetAction) (front : List ScriptLine) (values : Values) → IsAtLine o first lane.old blocks.old actions names front values
+    requires at_work { (actions : PendingActions) × IsLaneAtLine lane.old blocks.old actions names }
+    ensures done { OnOk result ((o : Opening) (first : View) (actions : PendingActions) (front : List ScriptLine) (values : Values) → IsAtLine o first lane.old blocks.old actions names front values
         → IsAtLine o first lane.new blocks.new actions names (front ++ said.now ∷ []) values) }
-    ensures ends { IfErr result (λ why. (o : Opening) (first : View) (actions : List SetAction) (front rest : List ScriptLine) (values : Values) → IsAtLine o first lane.old blocks.old actions names front values
+    ensures ends { IfErr result (λ why. (o : Opening) (first : View) (actions : PendingActions) (front rest : List ScriptLine) (values : Values) → IsAtLine o first lane.old blocks.old actions names front values
         → IsNotDone o first lane.new blocks.new actions names (front ++ said.now ∷ rest) values why) }
 {
     match free(lane, blocks, id_of(names, id)) {
@@ -195,118 +195,22 @@ fn free_at(
     }
 }
 
-/// Makes the word of this line pending, or gives the reason why it is refused as the line's value: that aborts nothing.
-fn set_at(
-    lane: &mut Lane<SoloMem>,
-    actions: &mut ArrayVec<SetAction, 63>,
-    said: &ScriptLine,
-    action: SetAction,
-    values: &mut Vec<(u64, Value)>,
-) -> Result<(), NotDone>
-    requires at_work { (blocks : BlockLists) × ((names : Names) × IsLaneWith lane.old blocks actions.old.items names values.old.items) }
-    ensures done { OnOk result ((o : Opening) (first : View) (blocks : BlockLists) (names : Names) (front : List ScriptLine) (id : ScriptId) → IsAtLine o first lane.old blocks actions.old.items names front values.old.items
-        → said.now.operation ≡ op.Set id action.off action.value → action.id ≡ id_of names id
-        → IsAtLine o first lane.new blocks actions.new.items names (front ++ said.now ∷ []) values.new.items) }
-    ensures ends { IfErr result (λ why. why ≡ Memory alloc_error) }
-    ensures letters { LettersKept (said.now ∷ []) values.old.items values.new.items result }
-{
-    match set_at_work(lane, actions, action) {
-        Ok(()) => Ok(()),
-        Err(why) => {
-            values.push((said.line, Value::Refused(why)))?;
-            Ok(())
-        }
-    }
-}
-
-/// Makes what is pending the transaction's.
-fn publish_at(
-    lane: &mut Lane<SoloMem>,
-    blocks: &CallBlocks,
-    actions: &mut ArrayVec<SetAction, 63>,
-    said: &ScriptLine,
-) -> Result<(), NotDone>
-    requires is_said { said.now.operation ≡ op.Publish }
-    requires at_work { (names : Names) × IsLaneAtLine lane.old blocks.now actions.old.items names }
-    ensures done { OnOk result ((o : Opening) (first : View) (names : Names) (front : List ScriptLine) (values : Values) → IsAtLine o first lane.old blocks.now actions.old.items names front values
-        → IsAtLine o first lane.new blocks.now actions.new.items names (front ++ said.now ∷ []) values) }
-    ensures ends { IfErr result (λ why. (o : Opening) (first : View) (names : Names) (front rest : List ScriptLine) (values : Values) → IsAtLine o first lane.old blocks.now actions.old.items names front values
-        → IsNotDone o first lane.new blocks.now actions.new.items names (front ++ said.now ∷ rest) values why) }
-{
-    match publish(lane, blocks, actions) {
-        Ok(()) => Ok(()),
-        Err(why) => Err(not_done(said.line, why)),
-    }
-}
-
-/// Gives up what is pending.
-fn cancel_at(
-    lane: &mut Lane<SoloMem>,
-    actions: &mut ArrayVec<SetAction, 63>,
-    said: &ScriptLine,
-) -> Result<(), NotDone>
-    requires is_said { said.now.operation ≡ op.Cancel }
-    requires at_work { (blocks : BlockLists) × ((names : Names) × IsLaneAtLine lane.old blocks actions.old.items names) }
-    ensures done { OnOk result ((o : Opening) (first : View) (blocks : BlockLists) (names : Names) (front : List ScriptLine) (values : Values) → IsAtLine o first lane.old blocks actions.old.items names front values
-        → IsAtLine o first lane.new blocks actions.new.items names (front ++ said.now ∷ []) values) }
-    ensures ends { IfErr result (λ why. (o : Opening) (first : View) (blocks : BlockLists) (names : Names) (front rest : List ScriptLine) (values : Values) → IsAtLine o first lane.old blocks actions.old.items names front values
-        → IsNotDone o first lane.new blocks actions.new.items names (front ++ said.now ∷ rest) values why) }
-{
-    match cancel_at_work(lane, actions) {
-        Ok(()) => Ok(()),
-        Err(why) => Err(not_done(said.line, why)),
-    }
-}
-
-/// Makes the change of this line to what is pending.
-fn act_at(
-    lane: &mut Lane<SoloMem>,
-    blocks: &CallBlocks,
-    actions: &mut ArrayVec<SetAction, 63>,
-    names: Names,
-    said: &ScriptLine,
-    values: &mut Vec<(u64, Value)>,
-) -> Result<(), NotDone>
-    requires is_action { stands_alone said.now.operation ≡ true }
-    requires at_work { IsLaneWith lane.old blocks.now actions.old.items names values.old.items }
-    ensures done { OnOk result ((o : Opening) (first : View) (front : List ScriptLine) → IsAtLine o first lane.old blocks.now actions.old.items names front values.old.items
-        → IsAtLine o first lane.new blocks.now actions.new.items names (front ++ said.now ∷ []) values.new.items) }
-    ensures ends { IfErr result (λ why. (o : Opening) (first : View) (front rest : List ScriptLine) → IsAtLine o first lane.old blocks.now actions.old.items names front values.old.items
-        → IsNotDone o first lane.new blocks.now actions.new.items names (front ++ said.now ∷ rest) values.new.items why) }
-    ensures letters { LettersKept (said.now ∷ []) values.old.items values.new.items result }
-{
-    match &said.operation {
-        ScriptOp::Set { id, off, value } => {
-            set_at(
-                lane,
-                actions,
-                said,
-                action_of(names, *id, *off, *value),
-                values,
-            )
-        }
-        ScriptOp::Publish => publish_at(lane, blocks, actions, said),
-        ScriptOp::Cancel => cancel_at(lane, actions, said),
-        _ => unreachable!(),
-    }
-}
-
 /// Makes the change of this line: records a range, writes bytes or reads some, makes an object or frees one, or changes what is pending.
 fn change_at(
     alloc: Global,
     lane: &mut Lane<SoloMem>,
     blocks: &mut CallBlocks,
-    actions: &mut ArrayVec<SetAction, 63>,
+    pending: &mut PendingActions,
     names: Names,
     said: &ScriptLine,
     values: &mut Vec<(u64, Value)>,
 ) -> Result<(), NotDone>
     requires is_change { IsChange said.now.operation }
-    requires at_work { IsLaneWith lane.old blocks.old actions.old.items names values.old.items }
-    ensures done { OnOk result ((o : Opening) (first : View) (front : List ScriptLine) → IsAtLine o first lane.old blocks.old actions.old.items names front values.old.items
-        → IsAtLine o first lane.new blocks.new actions.new.items names (front ++ said.now ∷ []) values.new.items) }
-    ensures ends { IfErr result (λ why. (o : Opening) (first : View) (front rest : List ScriptLine) → IsAtLine o first lane.old blocks.old actions.old.items names front values.old.items
-        → IsNotDone o first lane.new blocks.new actions.new.items names (front ++ said.now ∷ rest) values.new.items why) }
+    requires at_work { IsLaneWith lane.old blocks.old pending.old names values.old.items }
+    ensures done { OnOk result ((o : Opening) (first : View) (front : List ScriptLine) → IsAtLine o first lane.old blocks.old pending.old names front values.old.items
+        → IsAtLine o first lane.new blocks.new pending.new names (front ++ said.now ∷ []) values.new.items) }
+    ensures ends { IfErr result (λ why. (o : Opening) (first : View) (front rest : List ScriptLine) → IsAtLine o first lane.old blocks.old pending.old names front values.old.items
+        → IsNotDone o first lane.new blocks.new pending.new names (front ++ said.now ∷ rest) values.new.items why) }
     ensures letters { LettersKept (said.now ∷ []) values.old.items values.new.items result }
 {
     match &said.operation {
@@ -323,9 +227,12 @@ fn change_at(
             kind,
         } => make_at(lane, blocks, said, *size, *kind, values),
         ScriptOp::Free { id } => free_at(lane, blocks, names, said, *id),
-        ScriptOp::Set { .. } | ScriptOp::Publish | ScriptOp::Cancel => {
-            act_at(lane, blocks, actions, names, said, values)
-        }
+        ScriptOp::Reserve { .. }
+        | ScriptOp::WriteReserved { .. }
+        | ScriptOp::DeferFree { .. }
+        | ScriptOp::Set { .. }
+        | ScriptOp::Publish
+        | ScriptOp::Cancel => act_at(lane, blocks, pending, names, said, values),
         ScriptOp::Begin { .. } | ScriptOp::Commit => unreachable!(),
     }
 }
@@ -336,7 +243,7 @@ fn change_all(
     alloc: Global,
     lane: &mut Lane<SoloMem>,
     blocks: &mut CallBlocks,
-    actions: &mut ArrayVec<SetAction, 63>,
+    pending: &mut PendingActions,
     names: Names,
     given: &[(u64, u64)],
     lines: &[ScriptLine],
@@ -344,17 +251,17 @@ fn change_all(
 ) -> Result<(), NotDone>
     requires are_changes { All IsChange (operations lines.now) }
     requires ordered { AreInOrder lines.now }
-    requires at_work { IsLaneWith lane.old blocks.old actions.old.items names values.old.items }
-    ensures at_work { OnOk result (IsLaneWith lane.new blocks.new actions.new.items names values.new.items) }
-    ensures done { OnOk result ((o : Opening) (first : View) (front : List ScriptLine) → IsAtLine o first lane.old blocks.old actions.old.items names front values.old.items
-        → IsAtLine o first lane.new blocks.new actions.new.items names (front ++ resolved (given.now ++ offsets_in values.new.items) lines.now) values.new.items) }
-    ensures ends { IfErr result (λ why. (o : Opening) (first : View) (front rest : List ScriptLine) → IsAtLine o first lane.old blocks.old actions.old.items names front values.old.items
-        → IsNotDone o first lane.new blocks.new actions.new.items names (front ++ resolved (given.now ++ offsets_in values.new.items) lines.now ++ rest) values.new.items why) }
+    requires at_work { IsLaneWith lane.old blocks.old pending.old names values.old.items }
+    ensures at_work { OnOk result (IsLaneWith lane.new blocks.new pending.new names values.new.items) }
+    ensures done { OnOk result ((o : Opening) (first : View) (front : List ScriptLine) → IsAtLine o first lane.old blocks.old pending.old names front values.old.items
+        → IsAtLine o first lane.new blocks.new pending.new names (front ++ resolved (given.now ++ offsets_in values.new.items) lines.now) values.new.items) }
+    ensures ends { IfErr result (λ why. (o : Opening) (first : View) (front rest : List ScriptLine) → IsAtLine o first lane.old blocks.old pending.old names front values.old.items
+        → IsNotDone o first lane.new blocks.new pending.new names (front ++ resolved (given.now ++ offsets_in values.new.items) lines.now ++ rest) values.new.items why) }
     ensures letters { LettersKept lines.now values.old.items values.new.items result }
 {
     for said in lines {
         let said = resolved_line(alloc, given, values.as_slice(), said)?;
-        change_at(alloc, lane, blocks, actions, names, &said, values)?;
+        change_at(alloc, lane, blocks, pending, names, &said, values)?;
     }
     Ok(())
 }
@@ -368,10 +275,10 @@ fn begin_with(
     wants: &[Want],
 ) -> Result<(), NotDone>
     requires begins { (asked : List ScriptWant) × ((said.now.operation ≡ op.Begin asked) × (wants.now ≡ map (want_of names) asked)) }
-    requires first { (o : Opening) × ((first : View) × ((actions : List SetAction) × IsStart o lane.old blocks.old actions first)) }
-    ensures at_work { OnOk result ((o : Opening) (first : View) (actions : List SetAction) → IsStart o lane.old blocks.old actions first → IsLaneWith lane.new blocks.new actions names []) }
-    ensures done { OnOk result ((o : Opening) (first : View) (actions : List SetAction) → IsStart o lane.old blocks.old actions first → IsAtLine o first lane.new blocks.new actions names (said.now ∷ []) []) }
-    ensures ends { IfErr result (λ why. (o : Opening) (first : View) (actions : List SetAction) (rest : List ScriptLine) → IsStart o lane.old blocks.old actions first → IsNotDone o first lane.new blocks.new actions names (said.now ∷ rest) [] why) }
+    requires first { (o : Opening) × ((first : View) × ((actions : PendingActions) × IsStart o lane.old blocks.old actions first)) }
+    ensures at_work { OnOk result ((o : Opening) (first : View) (actions : PendingActions) → IsStart o lane.old blocks.old actions first → IsLaneWith lane.new blocks.new actions names []) }
+    ensures done { OnOk result ((o : Opening) (first : View) (actions : PendingActions) → IsStart o lane.old blocks.old actions first → IsAtLine o first lane.new blocks.new actions names (said.now ∷ []) []) }
+    ensures ends { IfErr result (λ why. (o : Opening) (first : View) (actions : PendingActions) (rest : List ScriptLine) → IsStart o lane.old blocks.old actions first → IsNotDone o first lane.new blocks.new actions names (said.now ∷ rest) [] why) }
 {
     match begin(lane, blocks, wants) {
         Ok(()) => Ok(()),
@@ -388,10 +295,10 @@ fn begin_at(
     said: &ScriptLine,
 ) -> Result<(), NotDone>
     requires begins { (asked : List ScriptWant) × (said.now.operation ≡ op.Begin asked) }
-    requires first { (o : Opening) × ((first : View) × ((actions : List SetAction) × IsStart o lane.old blocks.old actions first)) }
-    ensures at_work { OnOk result ((o : Opening) (first : View) (actions : List SetAction) → IsStart o lane.old blocks.old actions first → IsLaneWith lane.new blocks.new actions names []) }
-    ensures done { OnOk result ((o : Opening) (first : View) (actions : List SetAction) → IsStart o lane.old blocks.old actions first → IsAtLine o first lane.new blocks.new actions names (said.now ∷ []) []) }
-    ensures ends { IfErr result (λ why. (o : Opening) (first : View) (actions : List SetAction) (rest : List ScriptLine) → IsStart o lane.old blocks.old actions first → IsNotDone o first lane.new blocks.new actions names (said.now ∷ rest) [] why) }
+    requires first { (o : Opening) × ((first : View) × ((actions : PendingActions) × IsStart o lane.old blocks.old actions first)) }
+    ensures at_work { OnOk result ((o : Opening) (first : View) (actions : PendingActions) → IsStart o lane.old blocks.old actions first → IsLaneWith lane.new blocks.new actions names []) }
+    ensures done { OnOk result ((o : Opening) (first : View) (actions : PendingActions) → IsStart o lane.old blocks.old actions first → IsAtLine o first lane.new blocks.new actions names (said.now ∷ []) []) }
+    ensures ends { IfErr result (λ why. (o : Opening) (first : View) (actions : PendingActions) (rest : List ScriptLine) → IsStart o lane.old blocks.old actions first → IsNotDone o first lane.new blocks.new actions names (said.now ∷ rest) [] why) }
 {
     let ScriptOp::Begin { wants } = &said.operation else {
         unreachable!()
@@ -402,8 +309,8 @@ fn begin_at(
 
 /// Commits the transaction.
 fn commit_all(lane: &mut Lane<SoloMem>, blocks: &CallBlocks, names: Names) -> Result<(), NotDone>
-    requires at_work { (actions : List SetAction) × IsLaneAtLine lane.old blocks.now actions names }
-    ensures { (o : Opening) (first : View) (actions : List SetAction) (front : List ScriptLine) (values : Values) (said : ScriptLine) → IsAtLine o first lane.old blocks.now actions names front values → said.operation ≡ op.Commit
+    requires at_work { (actions : PendingActions) × IsLaneAtLine lane.old blocks.now actions names }
+    ensures { (o : Opening) (first : View) (actions : PendingActions) (front : List ScriptLine) (values : Values) (said : ScriptLine) → IsAtLine o first lane.old blocks.now actions names front values → said.operation ≡ op.Commit
         → CameTo o first lane.new blocks.now actions names (front ++ said ∷ []) values result }
 {
     match commit(lane, blocks) {
@@ -418,7 +325,7 @@ pub(crate) fn transact(
     alloc: Global,
     lane: &mut Lane<SoloMem>,
     blocks: &mut CallBlocks,
-    actions: &mut ArrayVec<SetAction, 63>,
+    pending: &mut PendingActions,
     names: Names,
     given: &[(u64, u64)],
     lines: &[ScriptLine],
@@ -426,10 +333,10 @@ pub(crate) fn transact(
 ) -> Result<(), NotDone>
     requires transaction { IsTransaction (operations lines.now) }
     requires ordered { AreInOrder lines.now }
-    requires first { (o : Opening) × ((first : View) × IsStart o lane.old blocks.old actions.old.items first) }
+    requires first { (o : Opening) × ((first : View) × IsStart o lane.old blocks.old pending.old first) }
     requires none { values.old.items ≡ [] }
-    ensures made { (o : Opening) (first : View) → IsStart o lane.old blocks.old actions.old.items first
-        → CameTo o first lane.new blocks.new actions.new.items names (resolved (given.now ++ offsets_in values.new.items) lines.now) values.new.items result }
+    ensures made { (o : Opening) (first : View) → IsStart o lane.old blocks.old pending.old first
+        → CameTo o first lane.new blocks.new pending.new names (resolved (given.now ++ offsets_in values.new.items) lines.now) values.new.items result }
     ensures letters { LettersKept lines.now [] values.new.items result }
 {
     let begin = resolved_line(alloc, given, values.as_slice(), &lines[0])?;
@@ -438,7 +345,7 @@ pub(crate) fn transact(
         alloc,
         lane,
         blocks,
-        actions,
+        pending,
         names,
         given,
         &lines[1..lines.len() - 1],

@@ -4,26 +4,28 @@ ghost use Rattle.std.specs.Prelude.{◌≡◌, ◌++◌, ◌∷◌, [], List, If
 ghost use Rattle.pm_crash.specs.Alone.{BeginsAlone};
 ghost use Rattle.pm_header.specs.declared.header.Header.{Header};
 ghost use Rattle.pm_layout.specs.Layout.{IsShape};
+ghost use Rattle.pm_model.specs.Actions.{none_pending};
+ghost use Rattle.pm_pending.specs.AllPending.{IsPendingAs};
 ghost use Rattle.pm_script.specs.Scripts.{AreCalls, operations};
 ghost use Rattle.pm_script.specs.declared.script.ScriptLine.{ScriptLine};
 ghost use Rattle.pm_view.specs.View.{View};
 ghost use Rattle.pm_world.specs.Opening.{Opening};
 ghost use Rattle.pm_exec.specs.Calls.{IsCall, call_lines, call_of};
-ghost use Rattle.pm_exec.specs.Letters.{AreGivenBy, AreGivenTo, AreInOrder, AreTold, KeepsGiven, offsets_of, resolved};
+ghost use Rattle.pm_exec.specs.Letters.{AreGivenBy, AreGivenTo, AreInOrder, AreTold, KeepsGiven, Offsets, offsets_of, resolved};
 ghost use Rattle.pm_exec.specs.declared.calls.Names.{Names};
 ghost use Rattle.pm_exec.specs.Openings.{first_view, opening_of};
-ghost use Rattle.pm_exec.specs.Running.{HasComeTo, HasHalted, HasRun, MayRun, MayStart, open_entry};
+ghost use Rattle.pm_exec.specs.Running.{HasClosed, HasComeTo, HasHalted, HasRun, MayRun, MayStart, open_entry};
 
 use crate::calls::{Names, call_of, first_call};
 use crate::ending::{CallEnd, run_call, settled_fate};
 use crate::letters::give;
-use arrayvec::ArrayVec;
+use pm_action::finish;
 use pm_layout::Shape;
 use pm_made::CallBlocks;
 use pm_memory::SoloMem;
 use pm_objects::{Call, Entry, Fate, PoolView, Reply};
 use pm_occupancy::occupancy_of;
-use pm_pending::SetAction;
+use pm_pending::PendingActions;
 use pm_raw::RawImage;
 use pm_script::ScriptLine;
 use pm_text::LaneEnd;
@@ -63,7 +65,7 @@ fn run_next(
     alloc: Global,
     lane: &mut Lane<SoloMem>,
     blocks: &mut CallBlocks,
-    actions: &mut ArrayVec<SetAction, 63>,
+    pending: &mut PendingActions,
     names: Names,
     given: &mut Vec<(u64, u64)>,
     lines: &[ScriptLine],
@@ -71,17 +73,17 @@ fn run_next(
 ) -> Result<Option<Halt>, AllocError>
     requires call { IsCall (operations lines.now) }
     requires ordered { AreInOrder lines.now }
-    requires start { (o : Opening) × ((first : View) × ((calls : List (List ScriptLine)) × HasComeTo o first lane.old blocks.old actions.old.items names calls history.old.items)) }
-    ensures answered { IfOk result (λ halted. IfNone halted ((o : Opening) (first : View) (calls : List (List ScriptLine)) → HasComeTo o first lane.old blocks.old actions.old.items names calls history.old.items
-        → HasComeTo o first lane.new blocks.new actions.new.items names (calls ++ resolved given.new.items lines.now ∷ []) history.new.items)) }
-    ensures halted { IfOk result (λ halted. IfSome halted (λ halt. (o : Opening) (first : View) (calls : List (List ScriptLine)) → HasComeTo o first lane.old blocks.old actions.old.items names calls history.old.items
-        → HasHalted o first lane.new names calls (resolved given.new.items lines.now) history.new.items halt)) }
+    requires start { (o : Opening) × ((first : View) × ((calls : List (List ScriptLine)) × HasComeTo o first lane.old blocks.old pending.old names calls history.old.items)) }
+    ensures answered { IfOk result (λ halted. IfNone halted ((o : Opening) (first : View) (calls : List (List ScriptLine)) → HasComeTo o first lane.old blocks.old pending.old names calls history.old.items
+        → HasComeTo o first lane.new blocks.new pending.new names (calls ++ resolved given.new.items lines.now ∷ []) history.new.items)) }
+    ensures halted { IfOk result (λ halted. IfSome halted (λ halt. (o : Opening) (first : View) (calls : List (List ScriptLine)) → HasComeTo o first lane.old blocks.old pending.old names calls history.old.items
+        → HasHalted o first lane.new pending.new names calls (resolved given.new.items lines.now) history.new.items halt)) }
     ensures kept { IfOk result (λ halted. IfSome halted (λ halt. history.new.items ≡ history.old.items)) }
     ensures letters { OnOk result (KeepsGiven lines.now given.old.items given.new.items) }
     ensures gave { IfOk result (λ halted. given.old.items ≡ offsets_of history.old.items → AreGivenBy history.new.items halted given.new.items) }
 {
     let generation = lane.memory.word(GENERATION_WORD);
-    match run_call(alloc, lane, blocks, actions, names, given.as_slice(), lines)? {
+    match run_call(alloc, lane, blocks, pending, names, given.as_slice(), lines)? {
         CallEnd::Answered {
             number,
             answer,
@@ -117,9 +119,10 @@ fn run_next(
 
 /// Makes the calls of these lines, one after another, up to the one in which the lane comes to its end; those that were answered are added to
 /// the history, and the offsets that lines gave to those that were given.
-pub(crate) fn run_all(
+fn run_calls(
     alloc: Global,
     lane: &mut Lane<SoloMem>,
+    pending: &mut PendingActions,
     names: Names,
     given: &mut Vec<(u64, u64)>,
     lines: &[ScriptLine],
@@ -128,14 +131,14 @@ pub(crate) fn run_all(
     requires calls { AreCalls (operations lines.now) }
     requires ordered { AreInOrder lines.now }
     requires none { given.old.items ≡ [] }
+    requires nothing { IsPendingAs pending.old none_pending }
     requires start { (o : Opening) × ((first : View) × MayRun o first lane.old names history.old.items) }
     ensures made { IfOk result (λ halt. (o : Opening) (first : View) → MayRun o first lane.old names history.old.items
-        → HasRun o first lane.new names (call_lines (resolved given.new.items lines.now)) history.new.items halt) }
+        → HasRun o first lane.new pending.new names (call_lines (resolved given.new.items lines.now)) history.new.items halt) }
     ensures gave { IfOk result (λ halt. AreGivenTo history.new.items halt given.new.items) }
     ensures told { OnOk result (AreTold history.new.items given.new.items) }
 {
     let mut blocks = CallBlocks::new(alloc, lane.shape)?;
-    let mut actions = ArrayVec::new();
     let mut rest = lines;
     while !rest.is_empty() {
         let (call, behind) = rest.split_at(first_call(rest));
@@ -143,7 +146,7 @@ pub(crate) fn run_all(
             alloc,
             lane,
             &mut blocks,
-            &mut actions,
+            pending,
             names,
             given,
             call,
@@ -158,6 +161,49 @@ pub(crate) fn run_all(
         is_open: None,
         generation: 0,
     })
+}
+
+/// Gives up what is pending still, where the lane did not stop before: it may come to its stop there.
+fn close_run(lane: &mut Lane<SoloMem>, pending: &mut PendingActions, halt: Halt) -> Halt
+    requires run { (o : Opening) × ((first : View) × ((names : Names) × ((calls : List (List ScriptLine)) × ((history : List Entry) × HasRun o first lane.old pending.old names calls history halt)))) }
+    ensures closed { (o : Opening) (first : View) (names : Names) (calls : List (List ScriptLine)) (history : List Entry) → HasRun o first lane.old pending.old names calls history halt
+        → HasClosed o first lane.new names calls history result }
+    ensures gave { (history : List Entry) (given : Offsets) → AreGivenTo history halt given → AreGivenTo history result given }
+{
+    if let LaneEnd::Stopped(_) = halt.end {
+        return halt;
+    }
+    match finish(lane, pending) {
+        Ok(()) => halt,
+        Err(_) => Halt {
+            end: LaneEnd::Stopped(lane.calls()),
+            is_open: halt.is_open,
+            generation: halt.generation,
+        },
+    }
+}
+
+/// Makes the calls of these lines, as `run_calls` does, and gives up what is pending behind them.
+pub(crate) fn run_all(
+    alloc: Global,
+    lane: &mut Lane<SoloMem>,
+    names: Names,
+    given: &mut Vec<(u64, u64)>,
+    lines: &[ScriptLine],
+    history: &mut Vec<Entry>,
+) -> Result<Halt, AllocError>
+    requires calls { AreCalls (operations lines.now) }
+    requires ordered { AreInOrder lines.now }
+    requires none { given.old.items ≡ [] }
+    requires start { (o : Opening) × ((first : View) × MayRun o first lane.old names history.old.items) }
+    ensures made { IfOk result (λ halt. (o : Opening) (first : View) → MayRun o first lane.old names history.old.items
+        → HasClosed o first lane.new names (call_lines (resolved given.new.items lines.now)) history.new.items halt) }
+    ensures gave { IfOk result (λ halt. AreGivenTo history.new.items halt given.new.items) }
+    ensures told { OnOk result (AreTold history.new.items given.new.items) }
+{
+    let mut pending = PendingActions::new();
+    let halt = run_calls(alloc, lane, &mut pending, names, given, lines, history)?;
+    Ok(close_run(lane, &mut pending, halt))
 }
 
 /// Lane 0 of the pool, alone over the words of its recovered image.

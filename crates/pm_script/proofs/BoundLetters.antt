@@ -8,7 +8,7 @@ use Rattle.std.proofs.lemmas.List.Elements.{All-nil, All-cons, All-head, All-tai
 use Rattle.pm_script.specs.Contexts.{Context, binds, bound_line, start}
 use Rattle.pm_script.specs.Numbers.{number_of}
 use Rattle.pm_script.specs.Operands.{id_of, letter_of}
-use Rattle.pm_script.specs.Scripts.{HasBindingLine, IsBoundBefore, IsScript, NamesBindingLines, NamesEarlierLines, bound_behind, context_behind, ids_of, line_of, line_said, lines_from, said}
+use Rattle.pm_script.specs.Scripts.{Binds, HasBindingLine, IsBoundBefore, IsScript, NamesBindingLines, NamesEarlierLines, bound_behind, context_behind, ids_of, line_of, line_said, lines_from, rebound, said}
 use Rattle.pm_script.specs.Words.{words}
 use Rattle.pm_script.specs.declared.context.Binding.{Binding}
 use Rattle.pm_script.specs.declared.script.Script.{Script}
@@ -44,16 +44,24 @@ line_after : (lines : List ScriptLine) (n : ℕ) (bound : List Binding) → All 
 line_after lines n bound all = All-weaker (HasLine lines n) (HasLine lines (n + 1)) (λ binding has. (let low = has.0 in omega (arith, low), has.1)) bound all
 
 module _ (lines : List ScriptLine) (n : ℕ) where
+  -- a binding on line n, which is one of the lines
+  bound_new : (lane letter : ℕ) (x : ScriptOp) (bound : List Binding) → Binds x → Contains lines (record { line = n; lane = lane; operation = x }) → All (HasLine lines n) bound
+      → All (HasLine lines (n + 1)) (rebound (record { lane = lane; letter = letter; line = n }) bound)
+  bound_new lane letter x bound binds_one there all =
+      let new : Binding = record { lane = lane; letter = letter; line = n } in
+      All-push (HasLine lines (n + 1)) _ new (All-filter _ (HasLine lines (n + 1)) bound (line_after lines n bound all)) (omega arith, (record { line = n; lane = lane; operation = x }, there, refl, refl, binds_one))
+
   -- an operation on line n, which is one of the lines
   bound_after : (lane : ℕ) (x : ScriptOp) (bound : List Binding) → Contains lines (record { line = n; lane = lane; operation = x }) → All (HasLine lines n) bound → All (HasLine lines (n + 1)) (bound_behind lane n x bound)
-  bound_after lane (op.Alloc letter size kind) bound there all =
-      let new : Binding = record { lane = lane; letter = letter; line = n } in
-      All-push (HasLine lines (n + 1)) _ new (All-filter _ (HasLine lines (n + 1)) bound (line_after lines n bound all)) (omega arith, (record { line = n; lane = lane; operation = op.Alloc letter size kind }, there, refl, refl, tt))
+  bound_after lane (op.Alloc letter size kind) bound there all = bound_new lane letter (op.Alloc letter size kind) bound tt there all
+  bound_after lane (op.Reserve letter size kind) bound there all = bound_new lane letter (op.Reserve letter size kind) bound tt there all
   bound_after lane (op.Begin wants) bound there all = line_after lines n bound all
   bound_after lane (op.Add id off len) bound there all = line_after lines n bound all
   bound_after lane (op.Write id off bytes) bound there all = line_after lines n bound all
   bound_after lane (op.Read id off len) bound there all = line_after lines n bound all
   bound_after lane (op.Free id) bound there all = line_after lines n bound all
+  bound_after lane (op.WriteReserved id off bytes) bound there all = line_after lines n bound all
+  bound_after lane (op.DeferFree id) bound there all = line_after lines n bound all
   bound_after lane (op.Set id off value) bound there all = line_after lines n bound all
   bound_after lane op.Publish bound there all = line_after lines n bound all
   bound_after lane op.Cancel bound there all = line_after lines n bound all

@@ -15,7 +15,7 @@ use Rattle.pm_script.specs.declared.fault.Why.TheVariants.{Inside, Outside}
 use Rattle.pm_script.specs.declared.script.Script.{Script}
 use Rattle.pm_script.specs.declared.script.ScriptLine.{ScriptLine}
 use Rattle.pm_script.specs.declared.script.ScriptOp.{ScriptOp}
-use Rattle.pm_script.specs.declared.script.ScriptOp.TheVariants.{Begin, Add, Write, Read, Alloc, Free, Set, Publish, Cancel, Commit}
+use Rattle.pm_script.specs.declared.script.ScriptOp.TheVariants.{Begin, Add, Write, Read, Alloc, Free, Reserve, WriteReserved, DeferFree, Set, Publish, Cancel, Commit}
 use Rattle.pm_script.specs.declared.script.ScriptWant.{ScriptWant}
 use Rattle.pm_script.specs.declared.statement.Statement.{Statement}
 use Rattle.pm_script.specs.declared.statement.Statement.TheVariants as says
@@ -74,6 +74,9 @@ module _ (context : Context) (lane n : ℕ) (present : context.lane ≡ Some lan
     behind (Read id off len) fine rest = change (Read id off len) ops (transaction_of lane context.begun) tt fine rest
     behind (Alloc letter size kind) fine rest = change (Alloc letter size kind) ops (transaction_of lane context.begun) tt fine rest
     behind (Free id) fine rest = change (Free id) ops (transaction_of lane context.begun) tt fine rest
+    behind (Reserve letter size kind) fine rest = call (Reserve letter size kind) ops (transaction_of lane context.begun) tt tt rest
+    behind (WriteReserved id off bytes) fine rest = call (WriteReserved id off bytes) ops (transaction_of lane context.begun) tt tt rest
+    behind (DeferFree id) fine rest = call (DeferFree id) ops (transaction_of lane context.begun) tt tt rest
     behind (Set id off value) fine rest = call (Set id off value) ops (transaction_of lane context.begun) tt tt rest
     behind Publish fine rest = call Publish ops (transaction_of lane context.begun) tt tt rest
     behind Cancel fine rest = call Cancel ops (transaction_of lane context.begun) tt tt rest

@@ -7,7 +7,7 @@ use Rattle.std.proofs.lemmas.List.Folds.{find-append}
 use Rattle.pm_script.specs.Scripts.{begun_behind, is_of_lane, opened}
 use Rattle.pm_script.specs.declared.context.OpenTransaction.{OpenTransaction}
 use Rattle.pm_script.specs.declared.script.ScriptOp.{ScriptOp}
-use Rattle.pm_script.specs.declared.script.ScriptOp.TheVariants.{Begin, Add, Write, Read, Alloc, Free, Set, Publish, Cancel, Commit}
+use Rattle.pm_script.specs.declared.script.ScriptOp.TheVariants.{Begin, Add, Write, Read, Alloc, Free, Reserve, WriteReserved, DeferFree, Set, Publish, Cancel, Commit}
 
 -- a lane's transaction
 abbrev pub transaction_of : ℕ → List OpenTransaction → Option OpenTransaction
@@ -41,6 +41,9 @@ own_behind lane n (Write id off bytes) begun = refl
 own_behind lane n (Read id off len) begun = refl
 own_behind lane n (Alloc letter size kind) begun = refl
 own_behind lane n (Free id) begun = refl
+own_behind lane n (Reserve letter size kind) begun = refl
+own_behind lane n (WriteReserved id off bytes) begun = refl
+own_behind lane n (DeferFree id) begun = refl
 own_behind lane n (Set id off value) begun = refl
 own_behind lane n Publish begun = refl
 own_behind lane n Cancel begun = refl
@@ -74,6 +77,9 @@ other_behind one other n (Write id off bytes) begun differ = refl
 other_behind one other n (Read id off len) begun differ = refl
 other_behind one other n (Alloc letter size kind) begun differ = refl
 other_behind one other n (Free id) begun differ = refl
+other_behind one other n (Reserve letter size kind) begun differ = refl
+other_behind one other n (WriteReserved id off bytes) begun differ = refl
+other_behind one other n (DeferFree id) begun differ = refl
 other_behind one other n (Set id off value) begun differ = refl
 other_behind one other n Publish begun differ = refl
 other_behind one other n Cancel begun differ = refl

@@ -15,7 +15,7 @@ use Rattle.pm_script.specs.declared.script.ScriptId.{ScriptId}
 use Rattle.pm_script.specs.declared.script.ScriptOp.TheVariants as op
 use Rattle.pm_script.specs.declared.script.ScriptWant.{ScriptWant}
 use Rattle.pm_script.specs.declared.statement.Keyword.{Keyword}
-use Rattle.pm_script.specs.declared.statement.Keyword.TheVariants.{Lane, Begin, Add, Write, Read, Alloc, Free, Set, Publish, Cancel, Commit}
+use Rattle.pm_script.specs.declared.statement.Keyword.TheVariants.{Lane, Begin, Add, Write, Read, Alloc, Free, Reserve, Put, Defer, Set, Publish, Cancel, Commit}
 use Rattle.pm_script.specs.declared.statement.Statement.{Statement}
 use Rattle.pm_script.specs.declared.statement.Statement.TheVariants as says
 
@@ -76,6 +76,27 @@ keyword_is context Alloc (letter ∷ size ∷ kind ∷ x ∷ more) statement is 
 keyword_is context Free [] statement is = cc
 keyword_is context Free (id ∷ []) statement is = sym (ap keyword_said (same_some (found (id_of context id) _ statement is).1))
 keyword_is context Free (id ∷ x ∷ more) statement is = cc
+keyword_is context Reserve [] statement is = cc
+keyword_is context Reserve (letter ∷ []) statement is = cc
+keyword_is context Reserve (letter ∷ size ∷ []) statement is = cc
+keyword_is context Reserve (letter ∷ size ∷ kind ∷ []) statement is =
+    let a = found (letter_of letter) _ statement is in
+    let b = found (number_of size) _ statement a.1 in
+    let c = found (number_of kind) _ statement b.1 in
+    sym (ap keyword_said (same_some c.1))
+keyword_is context Reserve (letter ∷ size ∷ kind ∷ x ∷ more) statement is = cc
+keyword_is context Put [] statement is = cc
+keyword_is context Put (id ∷ []) statement is = cc
+keyword_is context Put (id ∷ off ∷ []) statement is = cc
+keyword_is context Put (id ∷ off ∷ hex ∷ []) statement is =
+    let a = found (id_of context id) _ statement is in
+    let b = found (number_of off) _ statement a.1 in
+    let c = found (bytes_of hex) _ statement b.1 in
+    sym (ap keyword_said (same_some c.1))
+keyword_is context Put (id ∷ off ∷ hex ∷ x ∷ more) statement is = cc
+keyword_is context Defer [] statement is = cc
+keyword_is context Defer (id ∷ []) statement is = sym (ap keyword_said (same_some (found (id_of context id) _ statement is).1))
+keyword_is context Defer (id ∷ x ∷ more) statement is = cc
 keyword_is context Set [] statement is = cc
 keyword_is context Set (id ∷ []) statement is = cc
 keyword_is context Set (id ∷ off ∷ []) statement is = cc
@@ -113,6 +134,9 @@ has_lane context Write operands (says.Lane lane) is fine = let e = keyword_is co
 has_lane context Read operands (says.Lane lane) is fine = let e = keyword_is context Read operands (says.Lane lane) is in cc
 has_lane context Alloc operands (says.Lane lane) is fine = let e = keyword_is context Alloc operands (says.Lane lane) is in cc
 has_lane context Free operands (says.Lane lane) is fine = let e = keyword_is context Free operands (says.Lane lane) is in cc
+has_lane context Reserve operands (says.Lane lane) is fine = let e = keyword_is context Reserve operands (says.Lane lane) is in cc
+has_lane context Put operands (says.Lane lane) is fine = let e = keyword_is context Put operands (says.Lane lane) is in cc
+has_lane context Defer operands (says.Lane lane) is fine = let e = keyword_is context Defer operands (says.Lane lane) is in cc
 has_lane context Set operands (says.Lane lane) is fine = let e = keyword_is context Set operands (says.Lane lane) is in cc
 has_lane context Publish operands (says.Lane lane) is fine = let e = keyword_is context Publish operands (says.Lane lane) is in cc
 has_lane context Cancel operands (says.Lane lane) is fine = let e = keyword_is context Cancel operands (says.Lane lane) is in cc
@@ -198,6 +222,29 @@ module _ (context : Context) (P : ScriptId → Type 0) (named : (word : List ℕ
       let a = found (id_of context id) _ statement is in
       said_ids (says.Operation (op.Free a.0)) statement a.1 (one_id a.0 (named id a.0 a.2))
   statement_ids Free (id ∷ x ∷ more) statement is = cc
+  statement_ids Reserve [] statement is = cc
+  statement_ids Reserve (letter ∷ []) statement is = cc
+  statement_ids Reserve (letter ∷ size ∷ []) statement is = cc
+  statement_ids Reserve (letter ∷ size ∷ kind ∷ []) statement is =
+      let a = found (letter_of letter) _ statement is in
+      let b = found (number_of size) _ statement a.1 in
+      let c = found (number_of kind) _ statement b.1 in
+      said_ids (says.Operation (op.Reserve a.0 b.0 c.0)) statement c.1 (All-nil P)
+  statement_ids Reserve (letter ∷ size ∷ kind ∷ x ∷ more) statement is = cc
+  statement_ids Put [] statement is = cc
+  statement_ids Put (id ∷ []) statement is = cc
+  statement_ids Put (id ∷ off ∷ []) statement is = cc
+  statement_ids Put (id ∷ off ∷ hex ∷ []) statement is =
+      let a = found (id_of context id) _ statement is in
+      let b = found (number_of off) _ statement a.1 in
+      let c = found (bytes_of hex) _ statement b.1 in
+      said_ids (says.Operation (op.WriteReserved a.0 b.0 c.0)) statement c.1 (one_id a.0 (named id a.0 a.2))
+  statement_ids Put (id ∷ off ∷ hex ∷ x ∷ more) statement is = cc
+  statement_ids Defer [] statement is = cc
+  statement_ids Defer (id ∷ []) statement is =
+      let a = found (id_of context id) _ statement is in
+      said_ids (says.Operation (op.DeferFree a.0)) statement a.1 (one_id a.0 (named id a.0 a.2))
+  statement_ids Defer (id ∷ x ∷ more) statement is = cc
   statement_ids Set [] statement is = cc
   statement_ids Set (id ∷ []) statement is = cc
   statement_ids Set (id ∷ off ∷ []) statement is = cc

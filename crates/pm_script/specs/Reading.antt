@@ -13,7 +13,7 @@ use Rattle.pm_script.specs.declared.fault.Why.TheVariants.{Word}
 use Rattle.pm_script.specs.declared.reader.Reader.{Reader}
 use Rattle.pm_script.specs.declared.script.ScriptOp.TheVariants as op
 use Rattle.pm_script.specs.declared.statement.Keyword.{Keyword}
-use Rattle.pm_script.specs.declared.statement.Keyword.TheVariants.{Lane, Begin, Add, Write, Read, Alloc, Free, Set, Publish, Cancel, Commit}
+use Rattle.pm_script.specs.declared.statement.Keyword.TheVariants.{Lane, Begin, Add, Write, Read, Alloc, Free, Reserve, Put, Defer, Set, Publish, Cancel, Commit}
 use Rattle.pm_script.specs.declared.statement.Statement.{Statement}
 use Rattle.pm_script.specs.declared.statement.Statement.TheVariants as says
 
@@ -50,6 +50,9 @@ keyword_said (says.Operation (op.Write id off bytes)) = Write
 keyword_said (says.Operation (op.Read id off len)) = Read
 keyword_said (says.Operation (op.Alloc letter size kind)) = Alloc
 keyword_said (says.Operation (op.Free id)) = Free
+keyword_said (says.Operation (op.Reserve letter size kind)) = Reserve
+keyword_said (says.Operation (op.WriteReserved id off bytes)) = Put
+keyword_said (says.Operation (op.DeferFree id)) = Defer
 keyword_said (says.Operation (op.Set id off value)) = Set
 keyword_said (says.Operation op.Publish) = Publish
 keyword_said (says.Operation op.Cancel) = Cancel

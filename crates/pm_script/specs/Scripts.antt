@@ -22,7 +22,7 @@ use Rattle.pm_script.specs.declared.script.ScriptOp.{ScriptOp}
 use Rattle.pm_script.specs.declared.script.ScriptWant.{ScriptWant}
 use Rattle.pm_script.specs.declared.script.ScriptOp.TheVariants as op
 use Rattle.pm_script.specs.declared.statement.Keyword.{Keyword}
-use Rattle.pm_script.specs.declared.statement.Keyword.TheVariants.{Lane, Begin, Add, Write, Read, Alloc, Free, Set, Publish, Cancel, Commit}
+use Rattle.pm_script.specs.declared.statement.Keyword.TheVariants.{Lane, Begin, Add, Write, Read, Alloc, Free, Reserve, Put, Defer, Set, Publish, Cancel, Commit}
 use Rattle.pm_script.specs.declared.statement.Statement.{Statement}
 use Rattle.pm_script.specs.declared.statement.Statement.TheVariants as says
 
@@ -43,6 +43,9 @@ keywords =
     ∷ (codes "read", Read)
     ∷ (codes "alloc", Alloc)
     ∷ (codes "free", Free)
+    ∷ (codes "reserve", Reserve)
+    ∷ (codes "put", Put)
+    ∷ (codes "defer", Defer)
     ∷ (codes "set", Set)
     ∷ (codes "publish", Publish)
     ∷ (codes "cancel", Cancel)
@@ -54,7 +57,7 @@ abbrev pub keyword_of : List ℕ → Option Keyword
 keyword_of word = option_map (λ known. known.1) (find (λ (known : List ℕ × Keyword). bytes_eq word known.0) keywords)
 
 -- what the operands behind a first word say in their place: `lane K`, `begin [ID or r:ID]..`, `add ID OFF LEN`, `write ID OFF HEX`, `read ID OFF LEN`, `alloc x SIZE TYPE`,
--- `free ID`, `set ID OFF VALUE`, `publish`, `cancel`, `commit`
+-- `free ID`, `reserve x SIZE TYPE`, `put ID OFF HEX`, `defer ID`, `set ID OFF VALUE`, `publish`, `cancel`, `commit`
 abbrev pub statement_of : Context → Keyword → List (List ℕ) → Option Statement
 statement_of context Lane (lane ∷ []) = option_map says.Lane (number_of lane)
 statement_of context Begin wants = Some (says.Operation (op.Begin (filter_map (want_of context) wants)))
@@ -81,6 +84,19 @@ statement_of context Alloc (letter ∷ size ∷ kind ∷ []) = do
 statement_of context Free (id ∷ []) = do
   id ← id_of context id
   Some (says.Operation (op.Free id))
+statement_of context Reserve (letter ∷ size ∷ kind ∷ []) = do
+  letter ← letter_of letter
+  size ← number_of size
+  kind ← number_of kind
+  Some (says.Operation (op.Reserve letter size kind))
+statement_of context Put (id ∷ off ∷ hex ∷ []) = do
+  id ← id_of context id
+  off ← number_of off
+  bytes ← bytes_of hex
+  Some (says.Operation (op.WriteReserved id off bytes))
+statement_of context Defer (id ∷ []) = do
+  id ← id_of context id
+  Some (says.Operation (op.DeferFree id))
 statement_of context Set (id ∷ off ∷ value ∷ []) = do
   id ← id_of context id
   off ← number_of off
@@ -123,9 +139,10 @@ begun_behind lane n operation begun = begun
 abbrev pub rebound : Binding → List Binding → List Binding
 rebound new bound = filter (λ old. not (binds new.lane new.letter old)) bound ++ new ∷ []
 
--- the bindings behind an operation of the lane on line n: an alloc has one
+-- the bindings behind an operation of the lane on line n: an alloc has one, and a reserve
 abbrev pub bound_behind : ℕ → ℕ → ScriptOp → List Binding → List Binding
 bound_behind lane n (op.Alloc letter size kind) bound = rebound (record { lane = lane; letter = letter; line = n }) bound
+bound_behind lane n (op.Reserve letter size kind) bound = rebound (record { lane = lane; letter = letter; line = n }) bound
 bound_behind lane n operation bound = bound
 
 -- what a line n leaves that says this
@@ -148,6 +165,9 @@ has_count Write n = n == 3
 has_count Read n = n == 3
 has_count Alloc n = n == 3
 has_count Free n = n == 1
+has_count Reserve n = n == 3
+has_count Put n = n == 3
+has_count Defer n = n == 1
 has_count Set n = n == 3
 has_count Publish n = n == 0
 has_count Cancel n = n == 0
@@ -160,12 +180,15 @@ has_numbers Add (id ∷ off ∷ len ∷ []) = is_number off && is_number len
 has_numbers Write (id ∷ off ∷ hex ∷ []) = is_number off
 has_numbers Read (id ∷ off ∷ len ∷ []) = is_number off && is_size len
 has_numbers Alloc (letter ∷ size ∷ kind ∷ []) = is_number size && is_number kind
+has_numbers Reserve (letter ∷ size ∷ kind ∷ []) = is_number size && is_number kind
+has_numbers Put (id ∷ off ∷ hex ∷ []) = is_number off
 has_numbers Set (id ∷ off ∷ value ∷ []) = is_number off && is_number value
 has_numbers keyword operands = true
 
 -- what is to be bytes is
 abbrev pub has_hex : Keyword → List (List ℕ) → Bool
 has_hex Write (id ∷ off ∷ hex ∷ []) = is_hex hex
+has_hex Put (id ∷ off ∷ hex ∷ []) = is_hex hex
 has_hex keyword operands = true
 
 -- each operand that is to name an object does, and one that is to be a letter is one
@@ -176,6 +199,9 @@ has_ids context Write (id ∷ operands) = is_id context id
 has_ids context Read (id ∷ operands) = is_id context id
 has_ids context Alloc (letter ∷ operands) = is_letter letter
 has_ids context Free (id ∷ operands) = is_id context id
+has_ids context Reserve (letter ∷ operands) = is_letter letter
+has_ids context Put (id ∷ operands) = is_id context id
+has_ids context Defer (id ∷ operands) = is_id context id
 has_ids context Set (id ∷ operands) = is_id context id
 has_ids context keyword operands = true
 
@@ -201,6 +227,9 @@ may_begin context keyword = true
 abbrev pub may_act : Context → Keyword → Bool
 may_act context Lane = true
 may_act context Begin = true
+may_act context Reserve = true
+may_act context Put = true
+may_act context Defer = true
 may_act context Set = true
 may_act context Publish = true
 may_act context Cancel = true
@@ -321,6 +350,9 @@ IsChange (op.Write id off bytes) = ⊤
 IsChange (op.Read id off len) = ⊤
 IsChange (op.Alloc letter size kind) = ⊤
 IsChange (op.Free id) = ⊤
+IsChange (op.Reserve letter size kind) = ⊤
+IsChange (op.WriteReserved id off bytes) = ⊤
+IsChange (op.DeferFree id) = ⊤
 IsChange (op.Set id off value) = ⊤
 IsChange op.Publish = ⊤
 IsChange op.Cancel = ⊤
@@ -333,6 +365,9 @@ IsTransaction ops = (wants : List ScriptWant) × (changes : List ScriptOp) × (o
 
 -- what may stand outside of a transaction
 abbrev pub IsOutside : ScriptOp → Type 0
+IsOutside (op.Reserve letter size kind) = ⊤
+IsOutside (op.WriteReserved id off bytes) = ⊤
+IsOutside (op.DeferFree id) = ⊤
 IsOutside (op.Set id off value) = ⊤
 IsOutside op.Publish = ⊤
 IsOutside op.Cancel = ⊤
@@ -361,6 +396,9 @@ ids_of (op.Write id off bytes) = id ∷ []
 ids_of (op.Read id off len) = id ∷ []
 ids_of (op.Alloc letter size kind) = []
 ids_of (op.Free id) = id ∷ []
+ids_of (op.Reserve letter size kind) = []
+ids_of (op.WriteReserved id off bytes) = id ∷ []
+ids_of (op.DeferFree id) = id ∷ []
 ids_of (op.Set id off value) = id ∷ []
 ids_of op.Publish = []
 ids_of op.Cancel = []
@@ -378,6 +416,7 @@ NamesEarlierLines line = All (IsBoundBefore line.line) (ids_of line.operation)
 -- the operation binds a letter
 abbrev pub Binds : ScriptOp → Type 0
 Binds (op.Alloc letter size kind) = ⊤
+Binds (op.Reserve letter size kind) = ⊤
 Binds operation = ⊥
 
 -- a letter stands for what one of these lines gave, which is of the lane and binds a letter

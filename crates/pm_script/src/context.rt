@@ -104,7 +104,12 @@ impl Context {
             },
             None => match operation {
                 ScriptOp::Begin { .. } => Ok(lane),
-                ScriptOp::Set { .. } | ScriptOp::Publish | ScriptOp::Cancel => Ok(lane),
+                ScriptOp::Reserve { .. }
+                | ScriptOp::WriteReserved { .. }
+                | ScriptOp::DeferFree { .. }
+                | ScriptOp::Set { .. }
+                | ScriptOp::Publish
+                | ScriptOp::Cancel => Ok(lane),
                 _ => Err(Why::Outside),
             },
         }
@@ -136,11 +141,13 @@ impl Context {
     {
         match operation {
             ScriptOp::Begin { .. } => self.begun.push(OpenTransaction { lane, line })?,
-            ScriptOp::Alloc { letter, .. } => self.bind(Binding {
-                lane,
-                letter: *letter,
-                line,
-            })?,
+            ScriptOp::Alloc { letter, .. } | ScriptOp::Reserve { letter, .. } => {
+                self.bind(Binding {
+                    lane,
+                    letter: *letter,
+                    line,
+                })?
+            }
             ScriptOp::Commit => self.begun.retain(|transaction| transaction.lane != lane),
             _ => {}
         }

@@ -55,6 +55,23 @@ pub enum ScriptOp {
     Free {
         id: ScriptId,
     },
+    /// Reserves an object of so many bytes and of this type number, and makes an action pending on the lane: the object is to be made. The letter
+    /// is to stand for it: 0 for `a` to 25 for `z`. Nothing is known of the size. pmemobj_reserve(3).
+    Reserve {
+        letter: u8,
+        size: u64,
+        kind: u64,
+    },
+    /// Writes 1 to 4,096 bytes of an object that the lane has reserved: stores into what pmemobj_reserve(3) gave.
+    WriteReserved {
+        id: ScriptId,
+        off: u64,
+        bytes: Sequence<u8>,
+    },
+    /// Makes an action pending on the lane: the object is to be freed. pmemobj_defer_free(3).
+    DeferFree {
+        id: ScriptId,
+    },
     /// Makes an action pending on the lane: eight bytes are to become this number. pmemobj_set_value(3).
     Set {
         id: ScriptId,

@@ -26,6 +26,9 @@ pub enum Keyword {
     Read,
     Alloc,
     Free,
+    Reserve,
+    Put,
+    Defer,
     Set,
     Publish,
     Cancel,
@@ -59,6 +62,9 @@ pub fn statement_of(
         Keyword::Read => read_of(context, operands),
         Keyword::Alloc => alloc_of(operands),
         Keyword::Free => free_of(context, operands),
+        Keyword::Reserve => reserve_of(operands),
+        Keyword::Put => put_of(alloc, context, operands),
+        Keyword::Defer => defer_of(context, operands),
         Keyword::Set => set_of(context, operands),
         Keyword::Publish => publish_of(operands),
         Keyword::Cancel => cancel_of(operands),
@@ -77,6 +83,9 @@ fn keyword_of(word: &str) -> Option<Keyword>
         "read" => Some(Keyword::Read),
         "alloc" => Some(Keyword::Alloc),
         "free" => Some(Keyword::Free),
+        "reserve" => Some(Keyword::Reserve),
+        "put" => Some(Keyword::Put),
+        "defer" => Some(Keyword::Defer),
         "set" => Some(Keyword::Set),
         "publish" => Some(Keyword::Publish),
         "cancel" => Some(Keyword::Cancel),
@@ -173,6 +182,43 @@ fn free_of(context: &Context, operands: &[&str]) -> Result<Statement, LineFault>
     };
     let id = id_of(context, id).ok_or(Why::Letter)?;
     Ok(Statement::Operation(ScriptOp::Free { id }))
+}
+
+/// Reads `reserve x SIZE TYPE`.
+fn reserve_of(operands: &[&str]) -> Result<Statement, LineFault>
+    ensures { (context : contexts.Context) → IsReadAs context word.Reserve (texts operands.now) result }
+{
+    let [letter, size, kind] = operands else {
+        return Err(LineFault::Bad(Why::Count));
+    };
+    let size = number(size).ok_or(Why::Number)?;
+    let kind = number(kind).ok_or(Why::Number)?;
+    let letter = letter_of(letter).ok_or(Why::Letter)?;
+    Ok(Statement::Operation(ScriptOp::Reserve { letter, size, kind }))
+}
+
+/// Reads `put ID OFF HEX`.
+fn put_of(alloc: Global, context: &Context, operands: &[&str]) -> Result<Statement, LineFault>
+    ensures { IsReadAs context.now word.Put (texts operands.now) result }
+{
+    let [id, off, hex] = operands else {
+        return Err(LineFault::Bad(Why::Count));
+    };
+    let off = number(off).ok_or(Why::Number)?;
+    let bytes = bytes_of(alloc, hex)?.ok_or(Why::Hex)?;
+    let id = id_of(context, id).ok_or(Why::Letter)?;
+    Ok(Statement::Operation(ScriptOp::WriteReserved { id, off, bytes }))
+}
+
+/// Reads `defer ID`.
+fn defer_of(context: &Context, operands: &[&str]) -> Result<Statement, LineFault>
+    ensures { IsReadAs context.now word.Defer (texts operands.now) result }
+{
+    let [id] = operands else {
+        return Err(LineFault::Bad(Why::Count));
+    };
+    let id = id_of(context, id).ok_or(Why::Letter)?;
+    Ok(Statement::Operation(ScriptOp::DeferFree { id }))
 }
 
 /// Reads `set ID OFF VALUE`.

@@ -38,43 +38,63 @@ fn object(alloc: Global, id: &ScriptId) -> Result<String, Fail> {
     }
 }
 
+/// A begin with its locks, as scripts write it.
+fn begin(alloc: Global, wants: &[ScriptWant]) -> Result<String, Fail> {
+    let mut told = format!(in alloc; "begin")?;
+    for want in wants {
+        let object = object(alloc, &want.id)?;
+        told.push_str(if want.write { " " } else { " r:" })?;
+        told.push_str(&object)?;
+    }
+    Ok(told)
+}
+
+/// A word, an object, a place in it and a number behind that.
+fn placed(alloc: Global, word: &str, id: &ScriptId, off: u64, number: u64) -> Result<String, Fail> {
+    let object = object(alloc, id)?;
+    Ok(format!(in alloc; "{word} {object} {off} {number}")?)
+}
+
+/// A word, an object, a place in it and the bytes from there on.
+fn written(
+    alloc: Global,
+    word: &str,
+    id: &ScriptId,
+    off: u64,
+    bytes: &[u8],
+) -> Result<String, Fail> {
+    let object = object(alloc, id)?;
+    let digits = hex::encode(alloc, bytes)?;
+    Ok(format!(in alloc; "{word} {object} {off} {digits}")?)
+}
+
+/// A word, the letter of a new object, its size and its type number.
+fn made(alloc: Global, word: &str, letter: u8, size: u64, kind: u64) -> Result<String, Fail> {
+    let letter = char::from(b'a'.wrapping_add(letter));
+    Ok(format!(in alloc; "{word} {letter} {size} {kind}")?)
+}
+
+/// A word and an object.
+fn freed(alloc: Global, word: &str, id: &ScriptId) -> Result<String, Fail> {
+    let object = object(alloc, id)?;
+    Ok(format!(in alloc; "{word} {object}")?)
+}
+
 /// An operation as scripts write it.
 fn operation(alloc: Global, operation: &ScriptOp) -> Result<String, Fail> {
     match operation {
-        ScriptOp::Begin { wants } => {
-            let mut told = format!(in alloc; "begin")?;
-            for want in wants.as_slice() {
-                let object = object(alloc, &want.id)?;
-                told.push_str(if want.write { " " } else { " r:" })?;
-                told.push_str(&object)?;
-            }
-            Ok(told)
+        ScriptOp::Begin { wants } => begin(alloc, wants.as_slice()),
+        ScriptOp::Add { id, off, len } => placed(alloc, "add", id, *off, *len),
+        ScriptOp::Write { id, off, bytes } => written(alloc, "write", id, *off, bytes.as_slice()),
+        ScriptOp::Read { id, off, len } => placed(alloc, "read", id, *off, *len),
+        ScriptOp::Alloc { letter, size, kind } => made(alloc, "alloc", *letter, *size, *kind),
+        ScriptOp::Free { id } => freed(alloc, "free", id),
+        ScriptOp::Reserve { letter, size, kind } => made(alloc, "reserve", *letter, *size, *kind),
+        ScriptOp::WriteReserved { id, off, bytes } => {
+            written(alloc, "put", id, *off, bytes.as_slice())
         }
-        ScriptOp::Add { id, off, len } => {
-            let object = object(alloc, id)?;
-            Ok(format!(in alloc; "add {object} {off} {len}")?)
-        }
-        ScriptOp::Write { id, off, bytes } => {
-            let object = object(alloc, id)?;
-            let digits = hex::encode(alloc, bytes.as_slice())?;
-            Ok(format!(in alloc; "write {object} {off} {digits}")?)
-        }
-        ScriptOp::Read { id, off, len } => {
-            let object = object(alloc, id)?;
-            Ok(format!(in alloc; "read {object} {off} {len}")?)
-        }
-        ScriptOp::Alloc { letter, size, kind } => {
-            let letter = char::from(b'a'.wrapping_add(*letter));
-            Ok(format!(in alloc; "alloc {letter} {size} {kind}")?)
-        }
-        ScriptOp::Free { id } => {
-            let object = object(alloc, id)?;
-            Ok(format!(in alloc; "free {object}")?)
-        }
-        ScriptOp::Set { id, off, value } => {
-            let object = object(alloc, id)?;
-            Ok(format!(in alloc; "set {object} {off} {value}")?)
-        }
+        ScriptOp::DeferFree { id } => freed(alloc, "defer", id),
+        ScriptOp::Set { id, off, value } => placed(alloc, "set", id, *off, *value),
         ScriptOp::Publish => Ok(format!(in alloc; "publish")?),
         ScriptOp::Cancel => Ok(format!(in alloc; "cancel")?),
         ScriptOp::Commit => Ok(format!(in alloc; "commit")?),
@@ -218,9 +238,52 @@ const SCRIPTS: [(&str, &str); 28] = [
     ),
 ];
 
+/// Lines that reserve objects, write them and free objects later, in transactions and outside, and what they say.
+const RESERVED: [(&str, &str); 8] = [
+    (
+        "lane 0\nreserve a 64 7\nput 16512 8 0102fF\ndefer root\npublish\n",
+        "1 lanes; 2 0 reserve a 64 7; 3 0 put 16512 8 0102ff; 4 0 defer root; 5 0 publish;",
+    ),
+    (
+        "lane 0\nbegin\nreserve z 0 18446744073709551615\nput root 007 00\ndefer 0016512\npublish\ncommit\n",
+        "1 lanes; 2 0 begin; 3 0 reserve z 0 18446744073709551615; 4 0 put root 7 00; 5 0 defer 16512; 6 0 publish; 7 0 commit;",
+    ),
+    // a letter that a reserve binds is an ID of the lane's later lines, in a transaction and outside
+    (
+        "lane 0\nreserve x 64 7\nput $x 0 ff\nset $x 8 1\ndefer $x\nbegin r:$x\nput $x 1 ff\nread $x 0 8\ncommit\ncancel\n",
+        "1 lanes; 2 0 reserve x 64 7; 3 0 put $2 0 ff; 4 0 set $2 8 1; 5 0 defer $2; 6 0 begin r:$2; 7 0 put $2 1 ff; 8 0 read $2 0 8; 9 0 commit; 10 0 cancel;",
+    ),
+    (
+        "lane 0\nbegin\nreserve x 64 7\nput $x 0 ff\ncommit\nput $x 0 fe\ndefer $x\n",
+        "1 lanes; 2 0 begin; 3 0 reserve x 64 7; 4 0 put $3 0 ff; 5 0 commit; 6 0 put $3 0 fe; 7 0 defer $3;",
+    ),
+    // an alloc and a reserve bind the same letters, and the last one counts
+    (
+        "lane 0\nbegin\nalloc x 64 0\nreserve x 128 0\nfree $x\nalloc x 8 0\ndefer $x\ncommit\n",
+        "1 lanes; 2 0 begin; 3 0 alloc x 64 0; 4 0 reserve x 128 0; 5 0 free $4; 6 0 alloc x 8 0; 7 0 defer $6; 8 0 commit;",
+    ),
+    (
+        "lane 0\nreserve a 64 0\nreserve b 64 0\nreserve a 64 0\ndefer $a\ndefer $b",
+        "1 lanes; 2 0 reserve a 64 0; 3 0 reserve b 64 0; 4 0 reserve a 64 0; 5 0 defer $4; 6 0 defer $3;",
+    ),
+    // each lane has its own
+    (
+        "lane 0\nreserve a 64 0\nlane 1\nbegin\nreserve a 8 0\nlane 0\nput $a 0 00\nlane 1\nput $a 0 01\ncommit",
+        "2 lanes; 2 0 reserve a 64 0; 4 1 begin; 5 1 reserve a 8 0; 7 0 put $2 0 00; 9 1 put $5 0 01; 10 1 commit;",
+    ),
+    // an object may come again
+    (
+        "lane 0\ndefer root\ndefer root\ncancel",
+        "1 lanes; 2 0 defer root; 3 0 defer root; 4 0 cancel;",
+    ),
+];
+
 #[test]
 fn scripts(rt: HostRuntime) -> Result<(), Fail> {
     for (text, wanted) in SCRIPTS {
+        tells(&rt, rt.alloc(), text, wanted)?;
+    }
+    for (text, wanted) in RESERVED {
         tells(&rt, rt.alloc(), text, wanted)?;
     }
     Ok(())
@@ -340,6 +403,41 @@ const BAD_OBJECTS_MADE: [(&str, &str); 17] = [
     ("lane 0\nbegin\nalloc a 64 0\nfree root", "2 Open"),
 ];
 
+/// Bad lines that reserve an object, write it, or free one later.
+const BAD_RESERVED: [(&str, &str); 28] = [
+    ("lane 0\nreserve a 64", "2 Count"),
+    ("lane 0\nreserve a 64 0 0", "2 Count"),
+    ("lane 0\nput root 0", "2 Count"),
+    ("lane 0\nput root 0 00 00", "2 Count"),
+    ("lane 0\ndefer", "2 Count"),
+    ("lane 0\ndefer root 0", "2 Count"),
+    ("lane 0\nreserve ab x 0", "2 Number"),
+    ("lane 0\nreserve ab 64 18446744073709551616", "2 Number"),
+    ("lane 0\nput $a x 0g", "2 Number"),
+    ("lane 0\nput root 00 x", "2 Hex"),
+    ("lane 0\nput $a 0 0g", "2 Hex"),
+    ("lane 0\nput root 0 123", "2 Hex"),
+    ("lane 0\nreserve ab 64 0", "2 Letter"),
+    ("lane 0\nreserve A 64 0", "2 Letter"),
+    ("lane 0\nreserve root 64 0", "2 Letter"),
+    ("lane 0\nreserve a 64 0\nreserve $a 64 0", "3 Letter"),
+    ("lane 0\nput $a 0 00\nreserve a 64 0", "2 Letter"),
+    ("lane 0\nreserve a 64 0\nput a 0 00", "3 Letter"),
+    ("lane 0\nreserve a 64 0\nput $b 0 00", "3 Letter"),
+    ("lane 0\nreserve a 64 0\nlane 1\nput $a 0 00", "4 Letter"),
+    ("lane 0\nput r:root 0 00", "2 Letter"),
+    ("lane 0\ndefer $a", "2 Letter"),
+    ("lane 0\ndefer Root", "2 Letter"),
+    ("reserve a 64 0\nlane 0", "1 NoLane"),
+    ("put root 0 00", "1 NoLane"),
+    ("defer root", "1 NoLane"),
+    ("lane 0\nreserve a 64 0\nwrite $a 0 00", "3 Outside"),
+    (
+        "lane 0\nbegin\nreserve a 64 0\nput $a 0 00\ndefer $a",
+        "2 Open",
+    ),
+];
+
 /// Letters that no line of the lane has bound, and what is no letter.
 const UNBOUND: [(&str, &str); 13] = [
     ("lane 0\nbegin\nfree $a\nalloc a 64 0", "3 Letter"),
@@ -428,7 +526,7 @@ fn all_tell(rt: &impl Abort, alloc: Global, table: &[(&str, &str)]) -> Result<()
 
 #[test]
 fn bad_lines(rt: HostRuntime) -> Result<(), Fail> {
-    let tables: [&[(&str, &str)]; 15] = [
+    let tables: [&[(&str, &str)]; 16] = [
         &REASONS,
         &BAD_BYTES,
         &BAD_WORDS,
@@ -438,6 +536,7 @@ fn bad_lines(rt: HostRuntime) -> Result<(), Fail> {
         &BAD_OBJECTS,
         &BAD_ACTIONS,
         &BAD_OBJECTS_MADE,
+        &BAD_RESERVED,
         &UNBOUND,
         &MIXED,
         &TWO_REASONS,

@@ -1,6 +1,6 @@
 -- Behind an operation that tells nothing of the heap, and makes no memory call or only settles, a lane has its lists still.
 use Rattle.std.proofs.Common.{◌≡◌, ℕ, List, [], ◌∷◌, Contains, slice_index, Option, None, Some, option_map, refl, sym, ◌∙◌, ap, subst}
-use Rattle.pm_image.specs.Blocks.{descriptor_word}
+use Rattle.pm_image.specs.Blocks.{chunk_word, descriptor_word}
 use Rattle.pm_made.specs.Made.{BlockLists}
 use Rattle.pm_objects.specs.declared.calls.Operation.{Operation}
 use Rattle.pm_objects.specs.declared.calls.Operation.TheVariants.{Cancel, SetValue}
@@ -32,7 +32,7 @@ keeps_behind_tell : (locks : List HeldLock) (blocks : BlockLists) (v : View) →
     → ((root : Option ℕ) → TellsOfRoot root op reply (pending_in v)) → Keeps locks blocks (after v (Tell op reply))
 keeps_behind_tell locks blocks v keeps op reply same none no_root =
     let told : View = after v (Tell op reply) in
-    let heads : HasSameHeads v told = record { lanes = refl; zones = refl; reserved = refl; described = λ c in_pool. refl; root = refl } in
+    let heads : HasSameHeads v told = record { lanes = refl; zones = refl; reserved = refl; described = λ c in_pool. refl; bitmaps = λ c in_pool run. refl; root = refl } in
     let tells : Tells v told op reply = record { keeps = record { lanes = refl; zones = refl; pool = refl; lane = refl; entries = refl; known = λ i there. there }; locks = refl; call = refl } in
     let known : KeepsKnown v told = record { known = λ i outside there. refl; recorded = λ i outside is. refl } in
     keeps_told v told heads locks blocks keeps refl refl same op reply refl refl none no_root
@@ -80,6 +80,7 @@ module _ {M : Type 0} (o : Opening) (at : M → View → Type 0) (lane next : La
         zones = ap (λ (u : View). u.zones) settled;
         reserved = ap (λ (u : View). u.reserved) settled;
         described = λ c in_pool. words (descriptor_word v.lanes c);
+        bitmaps = λ c in_pool run. words (chunk_word v.lanes c);
         root = words 64;
       } in
       keeps_quiet v m heads next.locks.items blocks keeps_as (ap (λ (u : View). u.table) settled) (ap (λ (u : View). u.zone_locks) settled) (same_blocks v m entries call) entries call (quietly_stays v m keeps_as.has_reserved quietly known)

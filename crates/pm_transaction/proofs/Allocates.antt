@@ -30,6 +30,8 @@ use Rattle.pm_transaction.proofs.GainedAtWork.{call_alone, has_gained, lies_new,
 use Rattle.pm_transaction.specs.Allocating.{MayAllocate, made_in_block}
 use Rattle.pm_transaction.proofs.NotMaking.{not_making_able}
 use Rattle.pm_transaction.specs.AtWork.{IsAtWorkWith, IsHeldFreed, LiesInReserved}
+use Rattle.pm_crash.specs.Reserved.{LiesFree, IsReservedFor}
+use Rattle.pm_crash.proofs.LyingStill.{reserved_lies_free}
 
 -- ---- the object is made and told
 
@@ -91,6 +93,8 @@ module _ {M : Type 0} (o : Opening) (at : M → View → Type 0) (lane : Lane M)
       within = λ m there. lies_within m (Contains-push_cases (blocks_in v).made n m (subst (λ (b : CallBlocks). Contains b.made m) lists_are there));
       has_reserved = alloc_stays v w n is.has_reserved is_allocated;
       reserved_within = reserved_still;
+      reserved_free =
+          All-weaker (IsReservedFor w) (LiesFree w) (reserved_lies_free o header pool start w (steps ++ still.more) still.alone.works) (reserved_in w) still.alone.borne_out.pending;
     };
     can = subst (CanMakeObject w) (sym fields.shape) still.alone.can;
   }

@@ -46,7 +46,7 @@ tells_none lanes words line = ⊎_elim
     ap (λ (b : Bool). is_word (cond (not b) None (Some (cond (is_run (slice_index words (descriptor_word lanes (line / 64)))) (bitmap_word (line / 64)) (descriptor_word lanes (line / 64))))) 64) none)
     (cases_Bool (is_chunk lanes (line / 64)))
 
-root_is_plain : (v : View) → IsPlain v 64
+pub root_is_plain : (v : View) → IsPlain v 64
 root_is_plain v = record {
   quiet = λ l held. tells_none v.lanes v.words l.line;
   plain = λ page chunk same. let some = leb-true 1 (chunk_of v.lanes page) (and_parts _ _ chunk).1 in omega (arith, some, same);
@@ -96,6 +96,7 @@ module _ {M : Type 0} (o : Opening) (at : M → View → Type 0) (lane next : La
           within = keeps.within;
           has_reserved = keeps.has_reserved;
           reserved_within = keeps.reserved_within;
+          reserved_free = keeps.reserved_free;
         };
         holds = ap (λ (ws : List ℕ). slice_index ws 64) (load_words v 64 x (finds.1 is.alone)) ∙ sym (finds.1 is.alone);
       }

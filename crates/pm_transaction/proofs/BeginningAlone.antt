@@ -16,6 +16,10 @@ use Rattle.pm_transaction.proofs.NotMaking.{not_making_led}
 use Rattle.pm_transaction.specs.AtWork.{AreForPool, IsAtWorkWith, IsNotMaking, LiesInReserved}
 use Rattle.pm_transaction.specs.Beginning.{HasBegunWith}
 use Rattle.pm_transaction.specs.Published.{HasOwnCounts}
+use Rattle.pm_crash.specs.Reserved.{LiesFree, IsReservedFor}
+use Rattle.pm_crash.proofs.LyingStill.{reserved_lies_free}
+use Rattle.pm_transaction.proofs.Begun.{reserved_for}
+use Rattle.std.proofs.lemmas.List.Elements.{All-weaker}
 
 module _ {M : Type 0} (o : Opening) (header : Header) (pool : PoolView) (at : M → View → Type 0) (v : View) (lane : Lane M) (blocks : BlockLists) (wants : List Want) (begins : Begins o header pool v) (has : HasBegunWith at lane blocks v wants)
     (counts : HasOwnCounts has.begun.view) where
@@ -36,3 +40,4 @@ module _ {M : Type 0} (o : Opening) (header : Header) (pool : PoolView) (at : M 
     begun_at_work =
         has.opens o stands.goes.world.sound (begins_holds o header pool v begins).1.has_header.has_shape.shape.zones_to (finds_opening o header pool w stands)
         (let lanes = has.begun.same.lanes in let zones = has.begun.same.zones in omega (arith, pages, lanes, zones)) quiet reserved within
+        (All-weaker (IsReservedFor w) (LiesFree w) (reserved_lies_free o header pool v w has.begun.led.steps begun_works) (reserved_in w) (All-weaker (LiesInReserved w) (IsReservedFor w) (reserved_for w) (reserved_in w) within))

@@ -24,7 +24,7 @@ use Rattle.pm_world.specs.Opening.{Opening}
 use Rattle.pm_alloc.proofs.Fitting.{class_fits}
 use Rattle.pm_crash.proofs.AloneCourse.{StandsAlone}
 use Rattle.pm_crash.proofs.AloneMemory.{memory_of}
-use Rattle.pm_crash.proofs.BlockPlaces.{Lies, InARun, OfChunks}
+use Rattle.pm_crash.specs.Lying.{InARun, Lies, OfChunks}
 use Rattle.pm_crash.proofs.Continued.{two_same}
 use Rattle.pm_crash.specs.CallChanges.{bytes_published}
 use Rattle.pm_crash.specs.HeapChanges.{HeapChange, entry_of}

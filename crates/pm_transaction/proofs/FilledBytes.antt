@@ -2,7 +2,7 @@
 use Rattle.std.proofs.Common.{◌≡◌, ◌≢◌, ℕ, ◌+◌, ◌-◌, ◌/◌, ◌<◌, ◌≤◌, ⊎_elim, true, false, All, Contains, List, length, slice_index, refl, sym, ap, ◌∙◌, subst, arith}
 use Rattle.std.proofs.Math.Nat.{eq-or-lt_of_le}
 use Rattle.std.proofs.lemmas.List.Elements.{All-weaker}
-use Rattle.pm_image.specs.Blocks.{descriptor_word}
+use Rattle.pm_image.specs.Blocks.{descriptor_word, chunk_word}
 use Rattle.pm_crash.proofs.Covered.{only_words}
 use Rattle.pm_crash.proofs.FoundBlocks.{IsPageOf, page_of_chunk}
 use Rattle.pm_crash.proofs.NewRuns.{page_at}
@@ -10,7 +10,7 @@ use Rattle.pm_crash.specs.Writes.{words_written, written_word}
 use Rattle.pm_model.specs.Bytes.{covered_words}
 use Rattle.pm_objects.specs.declared.ids.Oid.{Oid}
 use Rattle.pm_view.specs.Area.{is_in_area}
-use Rattle.pm_view.specs.Blocks.{tells_nothing}
+use Rattle.pm_view.specs.Blocks.{tells_nothing, is_run}
 use Rattle.pm_view.specs.Held.{is_known}
 use Rattle.pm_view.specs.View.{Taken, View}
 use Rattle.pm_view.specs.Views.{after_all}
@@ -28,7 +28,7 @@ use Rattle.pm_tx.proofs.WrittenBytes.{counted_covered, covered_counted}
 use Rattle.pm_tx.specs.Sequences.{word_count, writes, writes_word}
 use Rattle.pm_transaction.proofs.FilledWord.{IsFilledWord, ReservesOfPool, fill_lawful}
 use Rattle.pm_transaction.proofs.GoingWith.{lies_still}
-use Rattle.pm_transaction.proofs.NewRangeWords.{no_descriptor, not_the_roots, quiet_word}
+use Rattle.pm_transaction.proofs.NewRangeWords.{no_bitmap, no_descriptor, not_the_roots, quiet_word}
 use Rattle.pm_transaction.proofs.OwnRangeWords.{HasOwnRange, WorksInPool, covered_fill, covered_in, covered_in_pool, covered_is_known, covered_outside}
 use Rattle.pm_transaction.proofs.NewWords.{may_fill}
 use Rattle.pm_transaction.specs.AtWork.{LiesInReserved}
@@ -54,7 +54,7 @@ module _ (v : View) (base : WorksInPool v) (id : Oid) (off : ℕ) (bytes : List 
     tells : (i : ℕ) → i < k → tells_nothing v.lanes v.words ((id.off + off) / 8 + i) ≡ true
     tells i low = (covered_fill v base id off (length bytes) range ((id.off + off) / 8 + i) (covered i low)).plain
 
-    -- none of them describes a chunk, nor is the root's
+    -- none of them describes a chunk, is a run's bitmap or the root's
     pub filled_heads : HasSameHeads v u
     filled_heads = record {
       lanes = has.call.lane.lanes;
@@ -64,6 +64,11 @@ module _ (v : View) (base : WorksInPool v) (id : Oid) (off : ℕ) (bytes : List 
           let page : ℕ = page_at v.lanes c in
           let of : IsPageOf v.lanes page c = page_of_chunk v.lanes page c refl in
           has.others (descriptor_word v.lanes c) (λ i low same. no_descriptor v ((id.off + off) / 8 + i) (tells i low) page of.in_chunk (sym same ∙ sym of.descriptor));
+      bitmaps = λ c in_pool run.
+          let page : ℕ = page_at v.lanes c in
+          let of : IsPageOf v.lanes page c = page_of_chunk v.lanes page c refl in
+          has.others (chunk_word v.lanes c)
+          (λ i low same. no_bitmap v ((id.off + off) / 8 + i) (tells i low) page (ap (λ k. is_run (slice_index v.words k)) of.descriptor ∙ run) (of.bitmap ∙ same));
       root = has.others 64 (λ i low same. not_the_roots v ((id.off + off) / 8 + i) (tells i low) (sym same));
     }
 

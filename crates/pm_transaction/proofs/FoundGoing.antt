@@ -1,8 +1,8 @@
 -- Behind an operation on an object that the call found, the lane has still what it has with its lists.
 use Rattle.std.proofs.Common.{◌≡◌, ◌≢◌, ℕ, ◌+◌, ◌<◌, ◌&&◌, true, false, List, length, slice_index, Contains, is_some, None, refl, sym, ap, ◌∙◌, subst, arith}
-use Rattle.std.proofs.lemmas.Bool.{and_parts, false_from_ne_true, leb-true}
+use Rattle.std.proofs.lemmas.Bool.{and_parts, false_from_ne_true, leb-true, false≢true}
 use Rattle.std.proofs.lemmas.List.Folds.{Any-from_list_any}
-use Rattle.pm_image.specs.Blocks.{descriptor_word}
+use Rattle.pm_image.specs.Blocks.{descriptor_word, chunk_word}
 use Rattle.pm_made.specs.Made.{BlockLists}
 use Rattle.pm_model.specs.Bytes.{covered_words}
 use Rattle.pm_objects.specs.declared.calls.Operation.TheVariants.{AddRange, Read, Write}
@@ -30,12 +30,13 @@ use Rattle.pm_crash.proofs.ReservedStays.{told_stays, write_stays}
 use Rattle.pm_crash.specs.OpenCall.{IsUnderBlock, RecordsUnder}
 use Rattle.pm_crash.specs.Operations.{AddsRange, ReadsBytes, WritesBytes}
 use Rattle.pm_crash.proofs.StillReserved.{HasSameHeads}
-use Rattle.pm_tx.proofs.BorneOut.{same_heads_outside}
+use Rattle.pm_tx.proofs.BorneOut.{same_heads_outside, bitmap_unrecorded}
 use Rattle.pm_tx.specs.AtWork.{IsAtWork}
 use Rattle.pm_tx.specs.Ranges.{HasAddedRange, HasReadRange, HasWrittenRange, adds_range, reads_range, writes_range}
 use Rattle.pm_transaction.proofs.GoingWith.{Keeps, keeps_told, with_lists}
 use Rattle.pm_transaction.proofs.SameHeap.{adds_leave, reads_leave, writes_leave}
 use Rattle.pm_transaction.specs.AtWork.{IsAtWorkWith}
+use Rattle.pm_view.specs.Blocks.{is_run}
 
 module _ {M : Type 0} (o : Opening) (at : M → View → Type 0) (next : Lane M) (blocks : BlockLists) (v : View) (keeps : Keeps next.locks.items blocks v) (inside : v.lane < v.lanes) (id : Oid) (off : ℕ) where
   pub read_with_lists : (len : ℕ) (bytes : List ℕ) → HasReadRange o at next v id off len bytes → IsAtWorkWith o at next blocks (after_all v (reads_range id off len bytes v))
@@ -91,12 +92,22 @@ module _ {M : Type 0} (o : Opening) (at : M → View → Type 0) (next : Lane M)
     same_beside : (i : ℕ) → is_in_area v.lane i ≡ false → (Contains (covered_words (id.off + off) (length bytes)) i → ⊥) → slice_index w.words i ≡ slice_index v.words i
     same_beside i outside never = written.written i outside ∙ (written_words (slice_index v.words) (id.off + off) bytes).others i never
 
+    -- nor is one of them a run's bitmap
+    no_bitmap : (c : ℕ) → is_run (slice_index v.words (descriptor_word v.lanes c)) ≡ true → Contains (covered_words (id.off + off) (length bytes)) (chunk_word v.lanes c) → ⊥
+    no_bitmap c run there =
+        let described : slice_index w.words (descriptor_word v.lanes c) ≡ slice_index v.words (descriptor_word v.lanes c) =
+        same_beside (descriptor_word v.lanes c) (behind_is_outside v.lane v.lanes (descriptor_word v.lanes c) inside (omega arith)) (λ is. no_descriptor (descriptor_word v.lanes c) is c refl) in
+        let run_now : is_run (slice_index w.words (descriptor_word w.lanes c)) ≡ true = ap (λ m. is_run (slice_index w.words (descriptor_word m c))) written.tells.keeps.lanes ∙ (ap is_run described ∙ run) in
+        let recorded : is_recorded w.log.records (chunk_word v.lanes c) ≡ true = ap (λ rs. is_recorded rs (chunk_word v.lanes c)) written.logs.records ∙ written.added (chunk_word v.lanes c) there in
+        false≢true (sym (bitmap_unrecorded o at next w works c run_now) ∙ (ap (λ m. is_recorded w.log.records (chunk_word m c)) written.tells.keeps.lanes ∙ recorded))
+
     heads : HasSameHeads v w
     heads = record {
       lanes = written.tells.keeps.lanes;
       zones = written.tells.keeps.zones;
       reserved = (writes_leave id off bytes v).reserved;
       described = λ c in_pool. same_beside (descriptor_word v.lanes c) (behind_is_outside v.lane v.lanes (descriptor_word v.lanes c) inside (omega arith)) (λ there. no_descriptor (descriptor_word v.lanes c) there c refl);
+      bitmaps = λ c in_pool run. same_beside (chunk_word v.lanes c) (behind_is_outside v.lane v.lanes (chunk_word v.lanes c) inside (omega arith)) (no_bitmap c run);
       root = same_beside 64 (root_outside v.lane) (λ there. not_the_roots 64 there refl);
     } where
       root_outside : (lane : ℕ) → is_in_area lane 64 ≡ false

@@ -13,7 +13,7 @@ use Rattle.pm_crash.specs.CallBlocks.{CallBlocks, NewObject, blocks_in, is_at, i
 use Rattle.pm_crash.specs.OpenCall.{IsUnderWay}
 use Rattle.pm_crash.specs.Operations.{FreesFound, FreesMade, KeepsKnown, KeepsLog, Tells, entries_so_far}
 use Rattle.pm_crash.specs.Pending.{published_in}
-use Rattle.pm_crash.specs.Reserved.{root_in}
+use Rattle.pm_crash.specs.Reserved.{root_in, LiesFree}
 use Rattle.pm_lock.specs.Leading.{DrawEnded}
 use Rattle.pm_made.specs.Made.{BlockLists, ListsBlocks, begins_at}
 use Rattle.pm_model.specs.declared.stage.Stage.TheVariants as model_stage
@@ -37,7 +37,7 @@ use Rattle.pm_world.specs.Sequences.{Ready, one}
 use Rattle.pm_world.specs.declared.lane.Lane.{Lane}
 use Rattle.pm_crash.proofs.PendingOn.{pending_once_more, published_once_more}
 use Rattle.pm_crash.proofs.ReservedStays.{found_free_stays, made_free_stays}
-use Rattle.pm_crash.proofs.StillReserved.{HasSameHeads}
+use Rattle.pm_crash.proofs.StillReserved.{HasSameHeads, free_still}
 use Rattle.pm_crash.specs.Reserving.{HasReserved}
 use Rattle.pm_lock.specs.Finding.{FindsObject}
 use Rattle.pm_tx.proofs.BorneOut.{heads_taken_back}
@@ -133,7 +133,7 @@ module _ {M : Type 0} (o : Opening) (at : M → View → Type 0) (lane : Lane M)
       (frees_so x can)
 
   heads_told : HasSameHeads v told
-  heads_told = record { lanes = refl; zones = refl; reserved = refl; described = λ c in_pool. refl; root = refl }
+  heads_told = record { lanes = refl; zones = refl; reserved = refl; described = λ c in_pool. refl; bitmaps = λ c in_pool run. refl; root = refl }
 
   reserved_still : All (LiesInReserved told) (reserved_in told)
   reserved_still =
@@ -179,6 +179,9 @@ module _ {M : Type 0} (o : Opening) (at : M → View → Type 0) (lane : Lane M)
         within = λ n there. lies_still v told heads_told n (is.within n (made_before n (subst (λ (b : CallBlocks). Contains b.made n) (blocks_once_more v told (Free id) None refl refl) there)));
         has_reserved = still_reserved x can;
         reserved_within = reserved_still;
+        reserved_free =
+            subst (λ (p : Pending). All (LiesFree told) (map reserved_object p.reserved)) (sym (pending_once_more v told (Free id) None refl refl))
+            (All-weaker (LiesFree v) (LiesFree told) (free_still v told heads_told) (reserved_in v) is.reserved_free);
       };
       frees = frees_so x can;
     }

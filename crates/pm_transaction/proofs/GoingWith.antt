@@ -2,7 +2,7 @@
 use Rattle.std.proofs.Common.{◌≡◌, inl, inr, ℕ, zero, suc, ◌+◌, ◌*◌, ◌<◌, ◌||◌, List, [], ◌∷◌, ◌++◌, Contains, map, slice_index, Option, refl, sym, ap, ◌∙◌, subst, arith}
 use Rattle.std.specs.List.{All, list_any}
 use Rattle.std.proofs.lemmas.List.Elements.{All-contains, All-contains_itself, All-weaker}
-use Rattle.pm_image.specs.Blocks.{descriptor_word}
+use Rattle.pm_image.specs.Blocks.{chunk_word, descriptor_word}
 use Rattle.pm_layout.specs.Sizes.{blocks_of}
 use Rattle.pm_made.specs.Made.{BlockLists, ListsBlocks}
 use Rattle.pm_model.specs.Actions.{Pending}
@@ -25,11 +25,11 @@ use Rattle.pm_crash.specs.CallBlocks.{CallBlocks, IsOldIn, LeavesReserved, NewOb
 use Rattle.pm_crash.specs.HeapChanges.{run_at}
 use Rattle.pm_crash.specs.NewObjects.{block_of_chunks, block_of_run}
 use Rattle.pm_crash.specs.Operations.{KeepsKnown, TellsNothing}
-use Rattle.pm_crash.specs.Reserved.{IsBorneOut, IsReservedInChunks, IsReservedInRun}
+use Rattle.pm_crash.specs.Reserved.{IsBorneOut, IsReservedInChunks, IsReservedInRun, LiesFree}
 use Rattle.pm_crash.specs.Reserving.{HasReserved}
 use Rattle.pm_crash.proofs.PendingOn.{pending_once_more, pending_same}
 use Rattle.pm_crash.proofs.ReservedStays.{quietly_stays}
-use Rattle.pm_crash.proofs.StillReserved.{HasSameHeads, borne_on, borne_still, reserved_behind}
+use Rattle.pm_crash.proofs.StillReserved.{HasSameHeads, borne_on, borne_still, reserved_behind, free_still}
 use Rattle.pm_tx.specs.AtWork.{IsAtWork}
 use Rattle.pm_tx.proofs.LookedOn.{looked_once}
 use Rattle.pm_tx.specs.Learning.{Looks}
@@ -47,17 +47,25 @@ pub record Keeps (locks : List HeldLock) (blocks : BlockLists) (v : View) : Type
   pub within : (n : NewObject) → Contains (blocks_in v).made n → LiesInReserved v n
   pub has_reserved : HasReserved v
   pub reserved_within : All (LiesInReserved v) (reserved_in v)
+  pub reserved_free : All (LiesFree v) (reserved_in v)
 
 pub kept_of : {M : Type 0} (o : Opening) (at : M → View → Type 0) (lane : Lane M) (blocks : BlockLists) (v : View) → IsAtWorkWith o at lane blocks v → Keeps lane.locks.items blocks v
-kept_of o at lane blocks v all = record { lists = all.lists; pages = all.pages; alone = all.alone; not_making = all.not_making; borne_out = all.borne_out; freed_held = all.freed_held; within = all.within; has_reserved = all.has_reserved; reserved_within = all.reserved_within }
+kept_of o at lane blocks v all = record { lists = all.lists; pages = all.pages; alone = all.alone; not_making = all.not_making; borne_out = all.borne_out; freed_held = all.freed_held; within = all.within; has_reserved = all.has_reserved; reserved_within = all.reserved_within; reserved_free = all.reserved_free }
 
 pub with_lists : {M : Type 0} (o : Opening) (at : M → View → Type 0) (lane : Lane M) (blocks : BlockLists) (v : View) → IsAtWork o at lane v → Keeps lane.locks.items blocks v → IsAtWorkWith o at lane blocks v
 with_lists o at lane blocks v work keeps =
-    record { work = work; lists = keeps.lists; pages = keeps.pages; alone = keeps.alone; not_making = keeps.not_making; borne_out = keeps.borne_out; freed_held = keeps.freed_held; within = keeps.within; has_reserved = keeps.has_reserved; reserved_within = keeps.reserved_within }
+    record { work = work; lists = keeps.lists; pages = keeps.pages; alone = keeps.alone; not_making = keeps.not_making; borne_out = keeps.borne_out; freed_held = keeps.freed_held; within = keeps.within; has_reserved = keeps.has_reserved; reserved_within = keeps.reserved_within; reserved_free = keeps.reserved_free }
 
 -- ---- what the lane reserved
 
-module _ (v w : View) (same : HasSameHeads v w) where
+-- the lane has reserved the same, and no word changed that describes a chunk
+pub record ReservesSame (v w : View) : Type 0 where
+  pub lanes : w.lanes ≡ v.lanes
+  pub zones : w.zones ≡ v.zones
+  pub reserved : w.reserved ≡ v.reserved
+  pub described : (c : ℕ) → c < 64 * v.zones → slice_index w.words (descriptor_word v.lanes c) ≡ slice_index v.words (descriptor_word v.lanes c)
+
+module _ (v w : View) (same : ReservesSame v w) where
   reserves_still : (at : Occ) (bit : ℕ) → reserves w at bit ≡ reserves v at bit
   reserves_still at bit = ap (list_any (has_bit at bit)) same.reserved
 
@@ -98,9 +106,13 @@ module _ (v w : View) (same : HasSameHeads v w) where
         is_block = has.is_block ∙ ap (λ (m : ℕ). block_of_chunks m (64 * has.zone + has.first) has.count) (sym same.lanes);
       }
 
+  pub lies_by : (n : NewObject) → LiesInReserved v n → LiesInReserved w n
+  lies_by n (inl run) = in_run_still n run.0 run.1
+  lies_by n (inr has) = inr (in_chunks_still n has)
+
+module _ (v w : View) (same : HasSameHeads v w) where
   pub lies_still : (n : NewObject) → LiesInReserved v n → LiesInReserved w n
-  lies_still n (inl run) = in_run_still n run.0 run.1
-  lies_still n (inr has) = inr (in_chunks_still n has)
+  lies_still = lies_by v w (record { lanes = same.lanes; zones = same.zones; reserved = same.reserved; described = same.described })
 
   module _ (locks : List HeldLock) (blocks : BlockLists) (keeps : Keeps locks blocks v) (table : w.table ≡ v.table) (zones : w.zone_locks ≡ v.zone_locks) (same_lists : blocks_in w ≡ blocks_in v) where
     lists_still : ListsBlocks blocks (blocks_in w)
@@ -126,9 +138,22 @@ module _ (v w : View) (same : HasSameHeads v w) where
         subst (λ (p : Pending). All (LiesInReserved w) (map reserved_object p.reserved)) (sym (pending_same v w entries call))
         (All-weaker (LiesInReserved v) (LiesInReserved w) lies_still (reserved_in v) keeps.reserved_within)
 
+    free_told : (op : Operation) (reply : Option Value) → w.entries ≡ v.entries → w.call ≡ v.call ++ record { operation = op; reply = reply } ∷ [] → LeavesReserved op reply (pending_in v) → All (LiesFree w) (reserved_in w)
+    free_told op reply entries call leaves =
+        All-weaker (Contains (reserved_in w)) (LiesFree w)
+        (λ n there. free_still v w same n
+        (All-contains (LiesFree v) (reserved_in v) n keeps.reserved_free
+        (reserved_behind op reply (pending_in v) leaves n (subst (λ (p : Pending). Contains (map reserved_object p.reserved) n) (pending_once_more v w op reply entries call) there))))
+        (reserved_in w) (All-contains_itself (reserved_in w))
+
+    free_quiet : w.entries ≡ v.entries → w.call ≡ v.call → All (LiesFree w) (reserved_in w)
+    free_quiet entries call =
+        subst (λ (p : Pending). All (LiesFree w) (map reserved_object p.reserved)) (sym (pending_same v w entries call))
+        (All-weaker (LiesFree v) (LiesFree w) (free_still v w same) (reserved_in v) keeps.reserved_free)
+
     -- where what it has bears out the call still, and what is reserved stands in it
-    pub keeps_so : IsBorneOut w → HasReserved w → All (LiesInReserved w) (reserved_in w) → Keeps locks blocks w
-    keeps_so borne has reserved = record {
+    pub keeps_so : IsBorneOut w → HasReserved w → All (LiesInReserved w) (reserved_in w) → All (LiesFree w) (reserved_in w) → Keeps locks blocks w
+    keeps_so borne has reserved free = record {
       lists = lists_still;
       pages = pages_still;
       alone = table ∙ keeps.alone;
@@ -138,16 +163,17 @@ module _ (v w : View) (same : HasSameHeads v w) where
       within = within_still;
       has_reserved = has;
       reserved_within = reserved;
+      reserved_free = free;
     }
 
     -- behind an operation that tells nothing of the heap
     pub keeps_told : (op : Operation) (reply : Option Value) → w.entries ≡ v.entries → w.call ≡ v.call ++ record { operation = op; reply = reply } ∷ [] → LeavesReserved op reply (pending_in v) → ((root : Option ℕ) → TellsOfRoot root op reply (pending_in v))
         → HasReserved w → Keeps locks blocks w
-    keeps_told op reply entries call none no_root has = keeps_so (borne_on v w same op reply entries call none no_root keeps.borne_out) has (reserved_told op reply entries call none)
+    keeps_told op reply entries call none no_root has = keeps_so (borne_on v w same op reply entries call none no_root keeps.borne_out) has (reserved_told op reply entries call none) (free_told op reply entries call none)
 
     -- and where nothing is told
     pub keeps_quiet : w.entries ≡ v.entries → w.call ≡ v.call → HasReserved w → Keeps locks blocks w
-    keeps_quiet entries call has = keeps_so (borne_still v w same entries call keeps.borne_out) has (reserved_quiet entries call)
+    keeps_quiet entries call has = keeps_so (borne_still v w same entries call keeps.borne_out) has (reserved_quiet entries call) (free_quiet entries call)
 
 -- what the call found it found still, where nothing is told
 pub old_still : (v w : View) → w.entries ≡ v.entries → w.call ≡ v.call → (off : ℕ) → IsOldIn v off → IsOldIn w off
@@ -163,7 +189,7 @@ old_still v w entries call off old =
 look_heads : (m : View) (word x : ℕ) → x ≡ slice_index m.words word → HasSameHeads m (after m (Load word x))
 look_heads m word x found =
     let words : (i : ℕ) → slice_index (after m (Load word x)).words i ≡ slice_index m.words i = λ i. ap (λ (ws : List ℕ). slice_index ws i) (load_words m word x found) in
-    record { lanes = refl; zones = refl; reserved = refl; described = λ c in_pool. words (descriptor_word m.lanes c); root = words 64 }
+    record { lanes = refl; zones = refl; reserved = refl; described = λ c in_pool. words (descriptor_word m.lanes c); bitmaps = λ c in_pool run. words (chunk_word m.lanes c); root = words 64 }
 
 looked_quietly : (m : View) (word x : ℕ) → FindsKnown m word x → (after m (Load word x)).locks ≡ m.locks → TellsNothing m (after m (Load word x))
 looked_quietly m word x finds locks =

@@ -73,3 +73,6 @@ pub mod KeptBehindEnd
 pub mod RestsBehindEnd
 pub mod StandsBehindBegin
 pub mod StandsRefused
+pub mod GivenInTurn
+pub mod LyingReserved
+pub mod CanceledAtWork

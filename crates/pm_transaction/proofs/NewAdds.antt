@@ -58,7 +58,7 @@ module _ {M : Type 0} (o : Opening) (at : M → View → Type 0) (lane : Lane M)
   }
 
   heads : HasSameHeads v w
-  heads = record { lanes = refl; zones = refl; reserved = refl; described = λ c in_pool. refl; root = refl }
+  heads = record { lanes = refl; zones = refl; reserved = refl; described = λ c in_pool. refl; bitmaps = λ c in_pool run. refl; root = refl }
 
   pub new_add_is_made : (next : Lane M) → HasSameFields lane next → next.records ≡ lane.records → at next.memory w → HasAddedNew o at next blocks v id off len
   new_add_is_made next fields records seen =

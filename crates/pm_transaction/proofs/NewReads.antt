@@ -107,7 +107,7 @@ module _ {M : Type 0} (o : Opening) (at : M → View → Type 0) (lane : Lane M)
     heads : HasSameHeads v w
     heads =
         let words : (i : ℕ) → slice_index w.words i ≡ slice_index v.words i = λ i. ap (λ ws. slice_index ws i) made.1.words in
-        record { lanes = made.1.call.lane.lanes; zones = made.1.call.lane.zones; reserved = made.1.call.reserved; described = λ c in_pool. words _; root = words 64 }
+        record { lanes = made.1.call.lane.lanes; zones = made.1.call.lane.zones; reserved = made.1.call.reserved; described = λ c in_pool. words _; bitmaps = λ c in_pool run. words _; root = words 64 }
 
     pub new_read_is_made : bytes ≡ bytes_seen v id off len → (next : Lane M) → HasSameFields lane next → next.records ≡ lane.records → at next.memory w → HasReadNew o at next blocks v id off len bytes
     new_read_is_made is next fields records seen =

@@ -2,7 +2,7 @@
 use Rattle.std.proofs.Common.{◌≡◌, ℕ, ◌+◌, ◌-◌, ◌*◌, ◌/◌, ◌%◌, ◌<◌, true, List, [], slice_index, refl, sym, ap, ◌∙◌, arith}
 use Rattle.std.specs.List.{list_any}
 use Rattle.std.proofs.lemmas.Bool.{and_from, and_parts, false_from_ne_true, false≢true}
-use Rattle.pm_image.specs.Blocks.{descriptor_word}
+use Rattle.pm_image.specs.Blocks.{chunk_word, descriptor_word}
 use Rattle.pm_layout.specs.declared.shape.Shape.{Shape}
 use Rattle.pm_view.specs.declared.occ.Occ.TheVariants.{Zone}
 use Rattle.pm_view.specs.Blocks.{chunk_of, is_run, zone_of}
@@ -39,7 +39,7 @@ not_making_still v w same zone_locks quiet = record {
 pub not_making_led : (v w : View) → IsSameLane v w → IsLed v w → IsAlone v → IsNotMaking v → IsNotMaking w
 not_making_led v w same led alone =
     let words : (i : ℕ) → slice_index w.words i ≡ slice_index v.words i = λ i. ap (λ (ws : List ℕ). slice_index ws i) (led_words v w led alone) in
-    not_making_still v w (record { lanes = same.lanes; zones = same.zones; reserved = led.heap.reserved; described = λ c in_pool. words (descriptor_word v.lanes c); root = words 64 }) led.heap.zone_locks
+    not_making_still v w (record { lanes = same.lanes; zones = same.zones; reserved = led.heap.reserved; described = λ c in_pool. words (descriptor_word v.lanes c); bitmaps = λ c in_pool run. words (chunk_word v.lanes c); root = words 64 }) led.heap.zone_locks
 
 -- nor where it knows what is taken: a chunk that it reserved is not, and so no run
 pub not_making_knowing : (v : View) → v.zone_locks ≡ [] → KnowsTaken v → IsNotMaking v

@@ -129,7 +129,7 @@ module _ (v : View) (base : WorksInPool v) (id : Oid) (off : ℕ) (bytes : List 
   pub heads_so : HasSameHeads v w
   heads_so =
       let t = filled_heads v base id off bytes range (word_count (id.off + off) (length bytes)) (omega arith) u made.1 in
-      record { lanes = t.lanes; zones = t.zones; reserved = t.reserved; described = t.described; root = t.root }
+      record { lanes = t.lanes; zones = t.zones; reserved = t.reserved; described = t.described; bitmaps = t.bitmaps; root = t.root }
 
   pub table_so : w.table ≡ v.table
   table_so = made.1.call.lane.table

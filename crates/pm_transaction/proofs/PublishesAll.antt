@@ -19,12 +19,12 @@ use Rattle.pm_crash.proofs.PendingOn.{pending_same}
 use Rattle.pm_crash.proofs.PublishFound.{refused_publish_aborts}
 use Rattle.pm_crash.proofs.PublishOn.{publish_goes_on}
 use Rattle.pm_crash.proofs.ReservedStays.{publish_leaves_none}
-use Rattle.pm_crash.proofs.StillReserved.{HasSameHeads, borne_told, reserved_still, same_root}
+use Rattle.pm_crash.proofs.StillReserved.{HasSameHeads, borne_told, reserved_still, same_root, free_still}
 use Rattle.pm_crash.specs.CallBlocks.{AgreesOnRoot, CallBlocks, NewObject, allocated_in, blocks_in, is_at, reserved_in, reserved_object, with_all_freed, with_all_made}
 use Rattle.pm_crash.specs.OnActions.{CanFreeIn, CanSetIn, PublishesIn}
 use Rattle.pm_crash.specs.OpenCall.{lock_of}
 use Rattle.pm_crash.specs.Pending.{pending_in, sets_in}
-use Rattle.pm_crash.specs.Reserved.{IsBorneOut, IsReservedFor, root_in}
+use Rattle.pm_crash.specs.Reserved.{IsBorneOut, IsReservedFor, root_in, LiesFree}
 use Rattle.pm_crash.specs.Reserving.{StandsReserved}
 use Rattle.pm_made.specs.Made.{BlockLists, FitsPages, IsOffsetIn, ListsBlocks, new_of}
 use Rattle.pm_model.specs.Actions.{Action, Pending, Reservation, none_pending}
@@ -69,6 +69,7 @@ use Rattle.pm_transaction.proofs.PublishEntries.{enters_action, locked_action}
 use Rattle.pm_transaction.specs.AtWork.{HasLookedWith, IsAtWorkWith, IsHeldFreed, LiesInReserved}
 use Rattle.pm_transaction.specs.PublishedLists.{CanListFreed, IsUnderLockOf, made_of}
 use Rattle.pm_transaction.specs.Publishing.{CanPublish, HasPublishedWith, IsPublishGivenUp, IsPublishRefused, IsPublishStopped}
+use Rattle.pm_crash.proofs.NewStay.{news_in, before_one}
 
 -- where an object can stand, it fits the pages of the pool
 pub offset_held : (lanes zones : ℕ) (class : Class) (off : ℕ) → IsClass class → CanHold lanes zones class off → IsOffsetIn (1 + 2 * lanes + 65 * zones) off
@@ -166,7 +167,7 @@ module _ {M : Type 0} (o : Opening) (at : M → View → Type 0) (lane : Lane M)
   -- ---- told
 
   heads : HasSameHeads v told
-  heads = record { lanes = refl; zones = refl; reserved = refl; described = λ c in_pool. refl; root = refl }
+  heads = record { lanes = refl; zones = refl; reserved = refl; described = λ c in_pool. refl; bitmaps = λ c in_pool run. refl; root = refl }
 
   none : pending_in told ≡ none_pending
   none = pending_told v v (as_before v all.work.working) Publish None
@@ -174,14 +175,24 @@ module _ {M : Type 0} (o : Opening) (at : M → View → Type 0) (lane : Lane M)
   same_blocks : blocks_in told ≡ now_blocks
   same_blocks = blocks_once_more v told Publish None refl refl
 
+  -- what is new in the call was so, or it was reserved
+  made_before : (n : NewObject) → Contains (news_in (blocks_in told)) n → IsReservedFor told n
+  made_before n there =
+      reserved_still v told heads n
+      (⊎_elim
+      (λ (was : Contains (news_in (blocks_in v)) n). All-contains (IsReservedFor v) (news_in (blocks_in v)) n all.borne_out.made was)
+      (λ (now : Contains (map reserved_object p.reserved) n). All-contains (IsReservedFor v) (reserved_in v) n all.borne_out.pending now)
+      (before_one Publish None p (blocks_in v) n (subst (λ (b : CallBlocks). Contains (news_in b) n) same_blocks there)))
+
   borne : IsBorneOut told
   borne =
       let before : IsBorneOut v = all.borne_out in
       record {
-        reserved =
-            subst (All (IsReservedFor told)) (sym (allocated_once_more v told Publish None refl refl))
-            (All-append (IsReservedFor told) (allocated_in v) (map reserved_object p.reserved) (All-weaker (IsReservedFor v) (IsReservedFor told) (reserved_still v told heads) (allocated_in v) before.reserved)
-            (All-weaker (IsReservedFor v) (IsReservedFor told) (reserved_still v told heads) (reserved_in v) before.pending));
+        made = All-weaker (Contains (news_in (blocks_in told))) (IsReservedFor told) made_before (news_in (blocks_in told)) (All-contains_itself (news_in (blocks_in told)));
+        free =
+            subst (All (LiesFree told)) (sym (allocated_once_more v told Publish None refl refl))
+            (All-append (LiesFree told) (allocated_in v) (map reserved_object p.reserved) (All-weaker (LiesFree v) (LiesFree told) (free_still v told heads) (allocated_in v) before.free)
+            (All-weaker (LiesFree v) (LiesFree told) (free_still v told heads) (reserved_in v) all.reserved_free));
         pending = subst (λ (q : Pending). All (IsReservedFor told) (map reserved_object q.reserved)) (sym none) (All-nil (IsReservedFor told));
         root = subst (AgreesOnRoot told) (sym (same_root v told heads)) (agrees_once_more v told Publish None refl refl (root_in (slice_index v.words)) before.root can.not_root);
       }
@@ -228,6 +239,7 @@ module _ {M : Type 0} (o : Opening) (at : M → View → Type 0) (lane : Lane M)
         within = lies_within;
         has_reserved = publish_leaves_none v told publishes.tells;
         reserved_within = subst (λ (q : Pending). All (LiesInReserved told) (map reserved_object q.reserved)) (sym none) (All-nil (LiesInReserved told));
+        reserved_free = subst (λ (q : Pending). All (LiesFree told) (map reserved_object q.reserved)) (sym none) (All-nil (LiesFree told));
       };
       publishes = publishes;
       none = none;

@@ -23,7 +23,7 @@ use Rattle.pm_crash.proofs.Includes.{made_member}
 use Rattle.pm_crash.proofs.PendingOn.{pending_once_more}
 use Rattle.pm_crash.proofs.PutOn.{reserved_write_goes_on}
 use Rattle.pm_crash.proofs.ReservedWritten.{reserved_write_keeps, same_object, was}
-use Rattle.pm_crash.proofs.StillReserved.{HasSameHeads}
+use Rattle.pm_crash.proofs.StillReserved.{HasSameHeads, free_still}
 use Rattle.pm_crash.specs.CallBlocks.{NewObject, reserved_in, reserved_object}
 use Rattle.pm_crash.specs.Pending.{pending_in}
 use Rattle.pm_crash.specs.Reserving.{IsReservedOne, WritesReserved}
@@ -35,6 +35,7 @@ use Rattle.pm_transaction.proofs.OwnRangeWords.{HasOwnRange, range_is_low, works
 use Rattle.pm_transaction.proofs.OwnWrites as any
 use Rattle.pm_transaction.specs.AtWork.{IsAtWorkWith, LiesInReserved}
 use Rattle.pm_transaction.specs.Filling.{HasPut, HasReservedRange, puts_range}
+use Rattle.pm_crash.specs.Reserved.{LiesFree}
 
 module _ {M : Type 0} (o : Opening) (at : M → View → Type 0) (lane : Lane M) (blocks : BlockLists) (v : View) (all : IsAtWorkWith o at lane blocks v) (id : Oid) (off : ℕ) (bytes : List ℕ) (range : HasReservedRange v id off (length bytes)) where
   abbrev one : Reservation
@@ -92,12 +93,20 @@ module _ {M : Type 0} (o : Opening) (at : M → View → Type 0) (lane : Lane M)
       let lay : LiesInReserved v (reserved_object s.0) = All-contains (LiesInReserved v) (reserved_in v) (reserved_object s.0) all.reserved_within (made_member reserved_object (pending_in v).reserved s.0 s.1.0) in
       subst (LiesInReserved w) (sym (same_object v w id off bytes all.has_reserved told s.0 s.1.0) ∙ ap reserved_object s.1.1 ∙ t.1.1) (lies_still v w heads (reserved_object s.0) lay)
 
+  free_now : WritesReserved v w id off bytes → (n : NewObject) → Contains (reserved_in w) n → LiesFree w n
+  free_now told n there =
+      let t = member_made reserved_object (pending_in w).reserved n there in
+      let s = was v w id off bytes all.has_reserved told t.0 t.1.0 in
+      let lay : LiesFree v (reserved_object s.0) = All-contains (LiesFree v) (reserved_in v) (reserved_object s.0) all.reserved_free (made_member reserved_object (pending_in v).reserved s.0 s.1.0) in
+      subst (LiesFree w) (sym (same_object v w id off bytes all.has_reserved told s.0 s.1.0) ∙ ap reserved_object s.1.1 ∙ t.1.1) (free_still v w heads (reserved_object s.0) lay)
+
   keeps : (locks : List HeldLock) → Keeps locks blocks v → WritesReserved v w id off bytes → Keeps locks blocks w
   keeps locks before told =
       keeps_so v w heads locks blocks before (any.table_so v (works_in_pool o at lane blocks v all) id off bytes own op) (any.zone_locks_so v (works_in_pool o at lane blocks v all) id off bytes own op)
       (blocks_once_more v w op None told.tells.keeps.entries told.tells.call)
       (borne_put v w id off bytes heads all.has_reserved told all.borne_out) (reserved_write_keeps v w id off bytes all.has_reserved told)
       (All-weaker (Contains (reserved_in w)) (LiesInReserved w) (lies_now told) (reserved_in w) (All-contains_itself (reserved_in w)))
+      (All-weaker (Contains (reserved_in w)) (LiesFree w) (free_now told) (reserved_in w) (All-contains_itself (reserved_in w)))
 
   pub put_is_made : AreBytes bytes → (next : Lane M) → HasSameFields lane next → next.records ≡ lane.records → at next.memory w → HasPut o at next blocks v id off bytes
   unfolding puts_range

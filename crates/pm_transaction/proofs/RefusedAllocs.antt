@@ -3,7 +3,7 @@ use Rattle.std.proofs.Common.{◌≡◌, ◌≢◌, ◌⊎◌, ⊎_elim, inr, �
 use Rattle.std.specs.List.{All}
 use Rattle.std.specs.Option.{IfSome}
 use Rattle.std.proofs.lemmas.List.{append-nil}
-use Rattle.pm_image.specs.Blocks.{descriptor_word}
+use Rattle.pm_image.specs.Blocks.{chunk_word, descriptor_word}
 use Rattle.pm_layout.specs.declared.class.Class.{Class}
 use Rattle.pm_layout.specs.declared.class.Class.TheVariants.{Chunks, Lines}
 use Rattle.pm_model.specs.declared.stage.Stage.TheVariants as model_stage
@@ -136,7 +136,7 @@ module _ {M : Type 0} (o : Opening) (at : M → View → Type 0) (lane : Lane M)
       (published_same v x still.entries still.call) (made_none_same v x still.entries still.call) under_way_still
 
   pub heads : HasSameHeads v x
-  heads = record { lanes = still.lanes; zones = still.zones; reserved = searched.reserved ∙ append-nil v.reserved; described = λ c in_pool. same_word (descriptor_word v.lanes c); root = same_word 64 }
+  heads = record { lanes = still.lanes; zones = still.zones; reserved = searched.reserved ∙ append-nil v.reserved; described = λ c in_pool. same_word (descriptor_word v.lanes c); bitmaps = λ c in_pool run. same_word (chunk_word v.lanes c); root = same_word 64 }
 
   pub borne_behind : IsBorneOut x
   borne_behind = borne_still v x heads still.entries still.call is.borne_out

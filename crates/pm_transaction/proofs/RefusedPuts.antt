@@ -1,5 +1,5 @@
 -- Bytes are not written into what is reserved: that is told, and the lane is at work with its lists still.
-use Rattle.std.proofs.Common.{◌≡◌, ℕ, List, length, map, slice_index, Some, refl, sym, ap, ◌∙◌, subst}
+use Rattle.std.proofs.Common.{◌≡◌, ℕ, List, length, map, slice_index, Some, refl, sym, ap, ◌∙◌, subst, ◌++◌}
 use Rattle.std.specs.List.{All}
 use Rattle.std.proofs.lemmas.List.{append-nil}
 use Rattle.std.proofs.lemmas.List.Elements.{All-weaker}
@@ -24,10 +24,10 @@ use Rattle.pm_world.specs.declared.lane.Lane.{Lane}
 use Rattle.pm_crash.proofs.CallBlocks.{agrees_once_more, allocated_once_more, blocks_once_more}
 use Rattle.pm_crash.proofs.PendingOn.{pending_once_more, published_once_more}
 use Rattle.pm_crash.proofs.PutOn.{refused_put_goes_on, refused_put_keeps}
-use Rattle.pm_crash.proofs.StillReserved.{HasSameHeads, reserved_still}
-use Rattle.pm_crash.specs.CallBlocks.{allocated_in, reserved_in, reserved_object}
+use Rattle.pm_crash.proofs.StillReserved.{HasSameHeads, reserved_still, free_still}
+use Rattle.pm_crash.specs.CallBlocks.{allocated_in, reserved_in, reserved_object, CallBlocks, blocks_in}
 use Rattle.pm_crash.specs.Pending.{pending_in, published_in}
-use Rattle.pm_crash.specs.Reserved.{IsBorneOut, IsReservedFor, root_in}
+use Rattle.pm_crash.specs.Reserved.{IsBorneOut, IsReservedFor, root_in, LiesFree}
 use Rattle.pm_crash.specs.Reserving.{RefusesPut, put_refusal}
 use Rattle.pm_tx.proofs.GoingOn.{HasSameFields, goes_on}
 use Rattle.pm_tx.proofs.NoneMade.{made_none_before}
@@ -63,16 +63,19 @@ module _ {M : Type 0} (o : Opening) (at : M → View → Type 0) (lane next : La
       (made_none_before v told op (Some (Refused r)) refl refl refl) (refused_put_goes_on v told id off lane.level bytes r is.work.level is.work.under_way refuses)
 
   heads : HasSameHeads v told
-  heads = record { lanes = refl; zones = refl; reserved = refl; described = λ c in_pool. refl; root = refl }
+  heads = record { lanes = refl; zones = refl; reserved = refl; described = λ c in_pool. refl; bitmaps = λ c in_pool run. refl; root = refl }
 
   same_pending : pending_in told ≡ pending_in v
   same_pending = pending_once_more v told op (Some (Refused r)) refl refl
 
   borne : IsBorneOut told
   borne = record {
-    reserved =
-        subst (All (IsReservedFor told)) (sym (allocated_once_more v told op (Some (Refused r)) refl refl ∙ append-nil (allocated_in v)))
-        (All-weaker (IsReservedFor v) (IsReservedFor told) (reserved_still v told heads) (allocated_in v) is.borne_out.reserved);
+    made =
+        subst (λ (b : CallBlocks). All (IsReservedFor told) (b.made ++ b.dropped)) (sym (blocks_once_more v told op (Some (Refused r)) refl refl))
+        (All-weaker (IsReservedFor v) (IsReservedFor told) (reserved_still v told heads) ((blocks_in v).made ++ (blocks_in v).dropped) is.borne_out.made);
+    free =
+        subst (All (LiesFree told)) (sym (allocated_once_more v told op (Some (Refused r)) refl refl ∙ append-nil (allocated_in v)))
+        (All-weaker (LiesFree v) (LiesFree told) (free_still v told heads) (allocated_in v) is.borne_out.free);
     pending =
         subst (λ (p : Pending). All (IsReservedFor told) (map reserved_object p.reserved)) (sym same_pending)
         (All-weaker (IsReservedFor v) (IsReservedFor told) (reserved_still v told heads) (reserved_in v) is.borne_out.pending);
@@ -84,6 +87,8 @@ module _ {M : Type 0} (o : Opening) (at : M → View → Type 0) (lane next : La
       keeps_so v told heads next.locks.items blocks before refl refl (blocks_once_more v told op (Some (Refused r)) refl refl) borne (refused_put_keeps v told id off bytes r is.has_reserved refuses)
       (subst (λ (p : Pending). All (LiesInReserved told) (map reserved_object p.reserved)) (sym same_pending)
       (All-weaker (LiesInReserved v) (LiesInReserved told) (lies_still v told heads) (reserved_in v) is.reserved_within))
+      (subst (λ (p : Pending). All (LiesFree told) (map reserved_object p.reserved)) (sym same_pending)
+      (All-weaker (LiesFree v) (LiesFree told) (free_still v told heads) (reserved_in v) is.reserved_free))
 
   pub put_is_refused : at next.memory told → (pending : PendingActions) → IsPendingAs pending (pending_in v) → HasRefusedPut o at next blocks pending v id off bytes r
   put_is_refused seen pending are = record {

@@ -32,6 +32,8 @@ use Rattle.pm_transaction.proofs.GainedAtWork.{call_alone, has_gained, lies_new,
 use Rattle.pm_transaction.proofs.NotMaking.{not_making_able}
 use Rattle.pm_transaction.specs.Allocating.{MayAllocate}
 use Rattle.pm_transaction.specs.AtWork.{IsAtWorkWith, IsHeldFreed, LiesInReserved}
+use Rattle.pm_crash.specs.Reserved.{LiesFree, IsReservedFor}
+use Rattle.pm_crash.proofs.LyingStill.{reserved_lies_free}
 
 -- the one that is reserved last, and those before it
 each_more : (P : NewObject → Type 0) (rs : List Reservation) (r : Reservation) → All P (map reserved_object rs) → P (reserved_object r) → All P (map reserved_object (rs ++ r ∷ []))
@@ -101,6 +103,8 @@ module _ {M : Type 0} (o : Opening) (at : M → View → Type 0) (lane : Lane M)
       within = λ m there. lies_before m (is.within m (subst (λ (b : CallBlocks). Contains b.made m) same_lists there));
       has_reserved = has;
       reserved_within = each_within;
+      reserved_free =
+          All-weaker (IsReservedFor w) (LiesFree w) (reserved_lies_free o header pool start w (steps ++ still.more) still.alone.works) (reserved_in w) still.alone.borne_out.pending;
     };
     can = subst (CanMakeObject w) (sym fields.shape) still.alone.can;
   }

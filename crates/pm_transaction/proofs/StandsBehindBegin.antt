@@ -2,7 +2,7 @@
 use Rattle.std.proofs.Common.{◌≡◌, inl, ⊎_elim, ℕ, ◌<◌, All, Contains, List, map, None, slice_index, refl, sym, ap, ◌∙◌, subst, arith}
 use Rattle.std.proofs.lemmas.List.Elements.{All-contains}
 use Rattle.pm_header.specs.declared.header.Header.{Header}
-use Rattle.pm_image.specs.Blocks.{descriptor_word}
+use Rattle.pm_image.specs.Blocks.{chunk_word, descriptor_word}
 use Rattle.pm_image.specs.Reads.{ReadsBlock}
 use Rattle.pm_model.specs.Actions.{Pending, Reservation}
 use Rattle.pm_objects.specs.declared.calls.Operation.TheVariants.{Begin}
@@ -59,7 +59,7 @@ module _ (v : View) (next : NextOf v (with_next_call v)) (alone : IsAlone v) (re
   pub led_heads : HasSameHeads v w
   led_heads =
       let words : (i : ℕ) → slice_index w.words i ≡ slice_index v.words i = λ i. ap (λ (ws : List ℕ). slice_index ws i) (led_words v w led alone) in
-      record { lanes = same_lane.lanes; zones = same_lane.zones; reserved = led.heap.reserved; described = λ c in_pool. words (descriptor_word v.lanes c); root = words 64 }
+      record { lanes = same_lane.lanes; zones = same_lane.zones; reserved = led.heap.reserved; described = λ c in_pool. words (descriptor_word v.lanes c); bitmaps = λ c in_pool run. words (chunk_word v.lanes c); root = words 64 }
 
   lay : (r : Reservation) → Contains pending r → LiesInReserved v (reserved_object r)
   lay r there = All-contains (LiesInReserved v) (map reserved_object pending) (reserved_object r) rests.within (made_member reserved_object pending r there)

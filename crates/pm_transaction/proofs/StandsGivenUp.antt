@@ -41,7 +41,7 @@ use Rattle.pm_undo.specs.Working.{IsWorking}
 use Rattle.pm_image.specs.Blocks.{descriptor_word}
 use Rattle.pm_world.specs.Records.{is_recorded}
 use Rattle.pm_tx.specs.Sequences.{ends_call, gives_up, takes_back}
-use Rattle.pm_transaction.proofs.GoingWith.{Keeps, kept_of, lies_still, looks_keep}
+use Rattle.pm_transaction.proofs.GoingWith.{Keeps, kept_of, lies_still, looks_keep, lies_by, ReservesSame}
 use Rattle.pm_transaction.proofs.RestingViews.{LeavesStanding, left_rests}
 use Rattle.pm_layout.specs.Sizes.{class_of}
 use Rattle.pm_objects.specs.declared.refusal.Refusal.TheVariants as refusal
@@ -64,7 +64,7 @@ module _ (u : View) (n : ℕ) (none : u.log.entries ≡ []) where
   plain_knows i there = subst (λ (known : List ℕ). Contains known i) (sym (cond-false (changes_heap u) (filter (is_held (record u { reserved = unallocated u })) u.known) u.known plain)) there
 
   pub plain_heads : HasSameHeads u y
-  plain_heads = record { lanes = refl; zones = refl; reserved = cond-false (changes_heap u) (unallocated u) u.reserved plain; described = λ c in_pool. refl; root = refl }
+  plain_heads = record { lanes = refl; zones = refl; reserved = cond-false (changes_heap u) (unallocated u) u.reserved plain; described = λ c in_pool. refl; bitmaps = λ c in_pool run. refl; root = refl }
 
   -- leaves what is reserved standing, where the log is empty then
   pub plain_leaves : y.log ≡ no_log Idle → HasReserved u → ((r : Reservation) → Contains (pending_in u).reserved r → LiesInReserved u (reserved_object r)) → LeavesStanding u y
@@ -83,14 +83,13 @@ module _ (u : View) (n : ℕ) (none : u.log.entries ≡ []) where
 
 -- ---- a call that is given up
 
--- The call is open, entered nothing, and recorded words of blocks that it found alone, none that describes a chunk or is the root's; what is reserved stands, in
+-- The call is open, entered nothing, and recorded words of blocks that it found alone, none that describes a chunk; what is reserved stands, in
 -- blocks that the lane reserved.
 pub record MayLeaveStanding (v : View) : Type 0 where
   pub working : IsWorking v
   pub no_entries : v.log.entries ≡ []
   pub under : RecordsUnder v
   pub undescribed : (c : ℕ) → is_recorded v.log.records (descriptor_word v.lanes c) ≡ false
-  pub unrooted : is_recorded v.log.records 64 ≡ false
   pub has_reserved : HasReserved v
   pub within : All (LiesInReserved v) (reserved_in v)
 
@@ -100,7 +99,6 @@ at_work_may o at lane blocks v is = record {
   no_entries = is.work.no_entries;
   under = is.work.under_way.under;
   undescribed = descriptor_unrecorded o at lane v is.work;
-  unrooted = root_unrecorded o at lane v is.work;
   has_reserved = is.has_reserved;
   within = is.reserved_within;
 }
@@ -114,7 +112,6 @@ still_may v u may log lanes locks working has within =
       no_entries = ap (λ (l : Log). l.entries) log ∙ may.no_entries;
       under = λ i recorded. let t = may.under i (sym (same i) ∙ recorded) in record { lock = t.lock; lines = t.lines; held = subst (λ (ls : List Lock). Contains ls t.lock) (sym locks) t.held; found = t.found; from = t.from; to = t.to };
       undescribed = λ c. same (descriptor_word u.lanes c) ∙ (ap (λ k. is_recorded v.log.records (descriptor_word k c)) lanes ∙ may.undescribed c);
-      unrooted = same 64 ∙ may.unrooted;
       has_reserved = has;
       within = within;
     }
@@ -156,13 +153,12 @@ module _ (v : View) (is : MayLeaveStanding v) (spans : List Span) (spans_are : s
   taken_back : TakesBack v told
   taken_back = let t = back.takes_back in record { restored = t.restored; known = t.known; others = t.others; records = t.records }
 
-  heads : HasSameHeads v told
-  heads = record {
+  reserves_same : ReservesSame v told
+  reserves_same = record {
     lanes = tells.keeps.lanes;
     zones = tells.keeps.zones;
     reserved = back.call.reserved;
     described = λ c in_pool. taken_back.others (descriptor_word v.lanes c) (chunk_words_outside v.lane v.lanes c is.working.area.lane) (is.undescribed c);
-    root = taken_back.others 64 (root_outside v.lane) is.unrooted;
   }
 
   -- the steps, from the call told on
@@ -178,7 +174,7 @@ module _ (v : View) (is : MayLeaveStanding v) (spans : List Span) (spans_are : s
   given_up_rests has before = subst StandsAtRest (sym ends)
       (left_rests told (after told (Draw n)) (let s = back.call.lane in let low = is.working.area.lane in let l = s.lane in let ls = s.lanes in omega (arith, low, l, ls)) has
       (plain_leaves told n (ap (λ (log : Log). log.entries) back.log) (ap (λ (log : Log). log_drawn log.phase log) back.log) has
-      (λ r there. lies_still v told heads (reserved_object r)
+      (λ r there. lies_by v told reserves_same (reserved_object r)
       (All-contains (LiesInReserved v) (reserved_in v) (reserved_object r) is.within (made_member reserved_object (pending_in v).reserved r (before r there))))))
 
   pub leaves_standing : LeavesReserved op reply (pending_in v) → blocks_behind op reply (pending_in v) (blocks_in v) ≡ no_blocks → StandsAtRest (after_all v (gives_up spans op reply n v))

@@ -3,7 +3,7 @@ use Rattle.std.proofs.Common.{◌≡◌, inl, ℕ, ◌<◌, false, All, Contains
 use Rattle.std.specs.List.{filter}
 use Rattle.std.proofs.lemmas.Bool.{cond-false}
 use Rattle.pm_header.specs.declared.header.Header.{Header}
-use Rattle.pm_image.specs.Blocks.{descriptor_word}
+use Rattle.pm_image.specs.Blocks.{chunk_word, descriptor_word}
 use Rattle.pm_layout.specs.declared.shape.Shape.{Shape}
 use Rattle.pm_model.specs.Actions.{Pending, Reservation, none_pending}
 use Rattle.pm_objects.specs.declared.calls.Operation.{Operation}
@@ -97,7 +97,7 @@ module _ (v : View) (op : Operation) (reply : Option Value) (n : ℕ) (drawn : D
   refused_heads : IsSameLane v end → HasSameHeads v end
   refused_heads same =
       let words : (i : ℕ) → slice_index end.words i ≡ slice_index v.words i = λ i. ap (λ (ws : List ℕ). slice_index ws i) (refusing_words v op reply n) in
-      record { lanes = same.lanes; zones = same.zones; reserved = refused_reserved; described = λ c in_pool. words (descriptor_word v.lanes c); root = words 64 }
+      record { lanes = same.lanes; zones = same.zones; reserved = refused_reserved; described = λ c in_pool. words (descriptor_word v.lanes c); bitmaps = λ c in_pool run. words (chunk_word v.lanes c); root = words 64 }
 
 -- ---- a begin that was refused
 

@@ -29,7 +29,7 @@ use Rattle.pm_undo.specs.Sequences.{retires}
 use Rattle.pm_undo.specs.Working.{HasArea, IsRetired, IsSameCall, IsSettled, IsWorking}
 use Rattle.pm_tx.proofs.BorneOut.{chunk_words_outside, root_outside, same_heads_outside}
 use Rattle.pm_tx.specs.Sequences.{commits, decides, decides_all, ends_call, retires_any}
-use Rattle.pm_transaction.proofs.GoingWith.{lies_still}
+use Rattle.pm_transaction.proofs.GoingWith.{lies_still, lies_by, ReservesSame}
 use Rattle.pm_transaction.proofs.RestingViews.{LeavesStanding}
 use Rattle.pm_transaction.proofs.StandsGivenUp.{plain_heads, plain_knows, plain_leaves}
 use Rattle.pm_transaction.specs.AtWork.{LiesInReserved}
@@ -104,15 +104,14 @@ module _ (v : View) (working : IsWorking v) (no_entries : v.log.entries ≡ []) 
       locks = retired.call.locks;
       known = λ r i there reads. retired.call.remembers i (plain_knows told_plainly n none i ((has.each r there).made.known i reads));
       words = λ r i there reads. retired.others i (other i ((has.each r there).made.outside i reads));
-      within = λ r there. lies_still d w heads_w (reserved_object r) (lies_still told_plainly d (plain_heads told_plainly n none) (reserved_object r) (within r there));
+      within = λ r there. lies_by d w same_w (reserved_object r) (lies_still told_plainly d (plain_heads told_plainly n none) (reserved_object r) (within r there));
     } where
-      heads_w : HasSameHeads d w
-      heads_w = record {
+      same_w : ReservesSame d w
+      same_w = record {
         lanes = retired.call.lane.lanes;
         zones = retired.call.lane.zones;
         reserved = retired.call.reserved;
         described = λ c in_pool. retired.others (descriptor_word d.lanes c) (other (descriptor_word d.lanes c) (chunk_words_outside d.lane d.lanes c area.lane));
-        root = retired.others 64 (other 64 (root_outside d.lane));
       }
 
     abbrev drawn_log : List Recorded → Log

@@ -3,7 +3,7 @@ use Rattle.std.specs.Prelude.{◌≡◌, ◌⊎◌, ℕ, ◌+◌, ◌*◌, ◌/�
 use Rattle.pm_image.specs.Blocks.{descriptor_word}
 use Rattle.pm_layout.specs.Sizes.{blocks_of}
 use Rattle.pm_crash.specs.CallBlocks.{NewObject, blocks_in, reserved_in}
-use Rattle.pm_crash.specs.Reserved.{IsBorneOut, IsReservedInChunks, IsReservedInRun}
+use Rattle.pm_crash.specs.Reserved.{IsBorneOut, LiesFree, IsReservedInChunks, IsReservedInRun}
 use Rattle.pm_crash.specs.Reserving.{HasReserved}
 use Rattle.pm_made.specs.Made.{BlockLists, ListsBlocks}
 use Rattle.pm_made.specs.declared.objects.Freed.{Freed}
@@ -67,6 +67,8 @@ pub record IsAtWorkWith {M : Type 0} (o : Opening) (at : M → View → Type 0) 
   -- and so does what is reserved and pending, which stands in its words
   pub has_reserved : HasReserved v
   pub reserved_within : All (LiesInReserved v) (reserved_in v)
+  -- its block overlaps none of those that the lane's words have
+  pub reserved_free : All (LiesFree v) (reserved_in v)
 
 -- the lane is, whatever it was opened with, as some view
 abbrev pub IsLaneAtWorkWith : {M : Type 0} → (M → View → Type 0) → Lane M → BlockLists → Type 0

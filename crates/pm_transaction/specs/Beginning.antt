@@ -10,10 +10,11 @@ use Rattle.pm_view.specs.View.{View}
 use Rattle.pm_world.specs.Opening.{IsSound, Opening}
 use Rattle.pm_world.specs.declared.lane.Lane.{Lane}
 use Rattle.pm_transaction.specs.AtWork.{AreForPool, IsAtWorkWith, IsNotMaking, LiesInReserved}
+use Rattle.pm_crash.specs.Reserved.{LiesFree}
 
 -- the transaction is open as `pm_tx` has it; and whatever the pool was opened with, the lane is at work with these lists, which are of nothing made or freed, if they are for this pool
 -- it makes no object now, and what is reserved and pending stands in its words, in blocks that it reserved
 pub record HasBegunWith {M : Type 0} (at : M → View → Type 0) (lane : Lane M) (blocks : BlockLists) (v : View) (wants : List Want) : Type 0 where
   pub begun : HasBegun at lane v wants
   pub opens : (o : Opening) → IsSound o → o.zones ≤ 32 → FindsOpening o begun.view → AreForPool blocks begun.view → IsNotMaking begun.view → HasReserved begun.view → All (LiesInReserved begun.view) (reserved_in begun.view)
-      → IsAtWorkWith o at lane blocks begun.view
+      → All (LiesFree begun.view) (reserved_in begun.view) → IsAtWorkWith o at lane blocks begun.view

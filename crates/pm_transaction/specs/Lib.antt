@@ -16,3 +16,4 @@ pub mod PublishedLists
 pub mod Resting
 pub mod SoloCounts
 pub mod Canceling
+pub mod GivingInTurn

@@ -21,6 +21,7 @@ mod deferring;
 mod ending;
 mod filling;
 mod freeing;
+mod giving_back;
 mod laws;
 mod new_ranges;
 mod origins;
@@ -40,6 +41,7 @@ pub use deferring::{defer_free, set_value};
 pub use ending::end;
 pub use filling::{ReservedMem, write_reserved};
 pub use freeing::free;
+pub use giving_back::give_up_pending;
 pub use laws::{
     a_call_told_by_its_log_is_published, a_commit_cut_short_is_lost_by_its_words,
     a_commit_cut_short_leaves_its_whole_calls, a_commit_of_a_lane_alone_publishes_its_call,

@@ -47,6 +47,9 @@ pub refused_further : {M : Type 0} (at : M → View → Type 0) (lane : Lane M) 
 refused_further at lane u v wants r led entries was = record {
   found = was.found;
   led = led_then u v was.found led was.led;
+  undrawn = was.undrawn ∙ entries;
+  working = was.working;
+  log = was.log;
   ended = was.ended;
   view = was.view;
   is = was.is;
@@ -58,8 +61,17 @@ refused_further at lane u v wants r led entries was = record {
 }
 
 -- and where the lane stopped as it was
-stopped_further : {M : Type 0} (at : M → View → Type 0) (lane : Lane M) (u v : View) (wants : List Want) → IsLed u v → HasStoppedRefused at lane v wants → HasStoppedRefused at lane u wants
-stopped_further at lane u v wants led was = record { why = was.why; found = was.found; led = led_then u v was.found led was.led; reason = was.reason; stopped = was.stopped }
+stopped_further : {M : Type 0} (at : M → View → Type 0) (lane : Lane M) (u v : View) (wants : List Want) → IsLed u v → v.entries ≡ u.entries → HasStoppedRefused at lane v wants → HasStoppedRefused at lane u wants
+stopped_further at lane u v wants led entries was = record {
+  why = was.why;
+  found = was.found;
+  led = led_then u v was.found led was.led;
+  undrawn = was.undrawn ∙ entries;
+  working = was.working;
+  log = was.log;
+  reason = was.reason;
+  stopped = was.stopped;
+}
 
 -- with what it lacked
 pub none_further : {M : Type 0} (at : M → View → Type 0) (lane : Lane M) (u v : View) (wants : List Want) → IsLed u v → v.entries ≡ u.entries → HasFoundNone at lane v wants → HasFoundNone at lane u wants
@@ -94,7 +106,7 @@ busy_further at lane u v led entries was = record {
 
 -- what fails from a view further on fails from the one before
 pub fails_further : {M : Type 0} (at : M → View → Type 0) (lane : Lane M) (u v : View) (wants : List Want) (r : Refusal) → IsLed u v → v.entries ≡ u.entries → IsStartedCause r → FailsToBegin at lane v wants r → FailsToBegin at lane u wants r
-fails_further at lane u v wants refusal.Stopped way same cause was = stopped_further at lane u v wants way was
+fails_further at lane u v wants refusal.Stopped way same cause was = stopped_further at lane u v wants way same was
 fails_further at lane u v wants refusal.Busy way same cause was = busy_further at lane u v way same was
 fails_further at lane u v wants refusal.LocksFull way same cause was = refused_further at lane u v wants refusal.LocksFull way same was
 fails_further at lane u v wants refusal.NoObject way same cause was = refused_further at lane u v wants refusal.NoObject way same was

@@ -1,24 +1,26 @@
 -- What a lane has bears out what its call told of the heap, behind steps that tell nothing of it, and where the call is given up.
-use Rattle.std.proofs.Common.{◌≡◌, ⊎_elim, inl, inr, ℕ, zero, suc, ◌+◌, ◌-◌, ◌*◌, ◌/◌, ◌<◌, ◌&&◌, true, false, leb, ltb, List, Contains, slice_index, Option, Some, None, refl, sym, ◌∙◌, ap, subst, arith}
+use Rattle.std.proofs.Common.{◌≡◌, ⊎_elim, inl, inr, ℕ, zero, suc, ◌+◌, ◌-◌, ◌*◌, ◌/◌, ◌<◌, ◌&&◌, true, false, not, leb, ltb, List, Contains, slice_index, Option, Some, None, refl, sym, ◌∙◌, ap, subst, arith}
 use Rattle.std.specs.Option.{is_some}
-use Rattle.std.proofs.lemmas.Bool.{and_parts, false_from_ne_true, leb-true}
+use Rattle.std.proofs.lemmas.Bool.{and_from, and_parts, false_from_ne_true, leb-true}
 use Rattle.std.proofs.lemmas.List.Folds.{Any-from_list_any}
-use Rattle.pm_image.specs.Blocks.{descriptor_word}
+use Rattle.pm_image.specs.Blocks.{chunk_word, descriptor_word}
 use Rattle.pm_model.specs.Answers.{error_for}
 use Rattle.pm_objects.specs.declared.calls.Operation.{Operation}
 use Rattle.pm_objects.specs.declared.calls.Operation.TheVariants.{Abort}
 use Rattle.pm_objects.specs.declared.history.TxErr.{TxErr}
 use Rattle.pm_objects.specs.declared.history.Value.{Value}
 use Rattle.pm_view.specs.Area.{area_word, is_in_area}
-use Rattle.pm_view.specs.Blocks.{is_chunk, zone_page}
+use Rattle.pm_view.specs.Blocks.{chunk_of, descriptor_word as lane_descriptor, is_chunk, is_run, zone_of, zone_page}
 use Rattle.pm_view.specs.Founds.{IsAlone}
 use Rattle.pm_view.specs.Held.{is_guarded, is_under, is_under_found}
+use Rattle.pm_view.specs.Occupancy.{is_chunk_taken}
 use Rattle.pm_view.specs.Steps.Step.{Load}
 use Rattle.pm_view.specs.View.{Lock, View}
 use Rattle.pm_view.specs.Views.{after}
-use Rattle.pm_world.specs.Opening.{Opening}
+use Rattle.pm_world.specs.Opening.{Guards, IsChunk, Opening, is_free_chunk}
 use Rattle.pm_world.specs.Records.{is_recorded}
 use Rattle.pm_world.specs.declared.lane.Lane.{Lane}
+use Rattle.pm_world.proofs.Chunks.{chunk_here}
 use Rattle.pm_crash.proofs.AloneMemory.{load_words}
 use Rattle.pm_crash.proofs.CallWords.{behind_is_outside}
 use Rattle.pm_crash.proofs.FoundBlocks.{IsPageOf, page_of_chunk}
@@ -33,7 +35,7 @@ use Rattle.pm_crash.specs.Operations.{TakesBack, Tells}
 use Rattle.pm_crash.specs.Reserved.{IsBorneOut}
 use Rattle.pm_lock.specs.Finding.{FindsObject}
 use Rattle.pm_undo.proofs.Kept.{is_of}
-use Rattle.pm_undo.proofs.Lockings.{locked_is_plain}
+use Rattle.pm_undo.proofs.Lockings.{found_guards, locked_is_plain}
 use Rattle.pm_tx.proofs.Objects.{is_found}
 use Rattle.pm_tx.specs.AtWork.{IsAtWork}
 use Rattle.pm_tx.specs.Ending.{GivesUpBy, MayGiveUp}
@@ -45,6 +47,9 @@ use Rattle.pm_tx.specs.Publishing.{EndsWhole}
 pub chunk_words_outside : (lane lanes c : ℕ) → lane < lanes → is_in_area lane (descriptor_word lanes c) ≡ false
 chunk_words_outside lane lanes c inside = behind_is_outside lane lanes (descriptor_word lanes c) inside (omega arith)
 
+pub bitmaps_outside : (lane lanes c : ℕ) → lane < lanes → is_in_area lane (chunk_word lanes c) ≡ false
+bitmaps_outside lane lanes c inside = behind_is_outside lane lanes (chunk_word lanes c) inside (omega arith)
+
 pub root_outside : (lane : ℕ) → is_in_area lane 64 ≡ false
 root_outside lane = false_from_ne_true (is_in_area lane 64) (λ is. let low = leb-true (area_word lane) 64 (and_parts _ _ is).0 in omega (arith, low))
 
@@ -55,6 +60,7 @@ same_heads_outside v next inside lanes zones reserved words = record {
   zones = zones;
   reserved = reserved;
   described = λ c in_pool. words (descriptor_word v.lanes c) (chunk_words_outside v.lane v.lanes c inside);
+  bitmaps = λ c in_pool run. words (chunk_word v.lanes c) (bitmaps_outside v.lane v.lanes c inside);
   root = words 64 (root_outside v.lane);
 }
 
@@ -62,7 +68,7 @@ same_heads_outside v next inside lanes zones reserved words = record {
 looks_same : (m : View) (word x : ℕ) → x ≡ slice_index m.words word → HasSameHeads m (after m (Load word x))
 looks_same m word x found =
     let words : (i : ℕ) → slice_index (after m (Load word x)).words i ≡ slice_index m.words i = λ i. ap (λ (ws : List ℕ). slice_index ws i) (load_words m word x found) in
-    record { lanes = refl; zones = refl; reserved = refl; described = λ c in_pool. words (descriptor_word m.lanes c); root = words 64 }
+    record { lanes = refl; zones = refl; reserved = refl; described = λ c in_pool. words (descriptor_word m.lanes c); bitmaps = λ c in_pool run. words (chunk_word m.lanes c); root = words 64 }
 
 pub looks_borne : (n : ℕ) (v w : View) → Looks n v w → IsAlone v → IsBorneOut v → IsAlone w × IsBorneOut w
 unfolding Looks
@@ -96,6 +102,24 @@ module _ {M : Type 0} (o : Opening) (at : M → View → Type 0) (lane : Lane M)
       let of : IsPageOf v.lanes page c = page_of_chunk v.lanes page c refl in
       (locked_is_plain o work.sound v work.opening l (descriptor_word v.lanes c) held (is_found v work.objects l held) under).0.plain page of.in_chunk (sym of.descriptor))
 
+  -- no bitmap of a run is recorded: what a lock guards lies in an allocated block, and tells of none
+  pub bitmap_unrecorded : (c : ℕ) → is_run (slice_index v.words (descriptor_word v.lanes c)) ≡ true → is_recorded v.log.records (chunk_word v.lanes c) ≡ false
+  bitmap_unrecorded c run = unrecorded (chunk_word v.lanes c) (λ l held under.
+      let page : ℕ = page_at v.lanes c in
+      let word : ℕ = chunk_word v.lanes c in
+      let of : IsPageOf v.lanes page c = page_of_chunk v.lanes page c refl in
+      let guards : Guards o l.line word = found_guards o v work.opening l word held true (and_from (is_some l.block) (is_under word l) (is_found v work.objects l held) under) in
+      let here : word / 512 ≡ page = omega arith in
+      let chunk : IsChunk o.lanes page = subst (λ n. IsChunk n page) work.opening.lanes (chunk_here v.lanes page of.in_chunk) in
+      let in_chunk = and_parts (is_chunk o.lanes (word / 512) && is_chunk_taken (slice_index o.words) o.lanes (zone_of o.lanes (word / 512)) (chunk_of o.lanes (word / 512) - 1)) _ (work.sound.in_blocks l.line word guards) in
+      let taken : is_free_chunk (slice_index o.words) o.lanes page ≡ false =
+      ap (is_free_chunk (slice_index o.words) o.lanes) (sym here)
+      ∙ ap not (and_parts (is_chunk o.lanes (word / 512)) (is_chunk_taken (slice_index o.words) o.lanes (zone_of o.lanes (word / 512)) (chunk_of o.lanes (word / 512) - 1)) in_chunk.0).1 in
+      let was_run : is_run (slice_index o.words (lane_descriptor o.lanes page)) ≡ true =
+      ap is_run (sym (work.opening.descriptors page chunk taken))
+      ∙ (ap (λ n. is_run (slice_index v.words (lane_descriptor n page))) (sym work.opening.lanes) ∙ (ap (λ i. is_run (slice_index v.words i)) of.descriptor ∙ run)) in
+      work.sound.apart l.line word guards (page, (chunk, inr (sym of.bitmap, was_run))))
+
   pub root_unrecorded : is_recorded v.log.records 64 ≡ false
   root_unrecorded = unrecorded 64 (λ l held under.
       let object : FindsObject v l = work.objects l held in
@@ -112,6 +136,7 @@ module _ {M : Type 0} (o : Opening) (at : M → View → Type 0) (lane : Lane M)
     zones = tells.keeps.zones;
     reserved = reserved;
     described = λ c in_pool. back.others (descriptor_word v.lanes c) (chunk_words_outside v.lane v.lanes c work.working.area.lane) (descriptor_unrecorded c);
+    bitmaps = λ c in_pool run. back.others (chunk_word v.lanes c) (bitmaps_outside v.lane v.lanes c work.working.area.lane) (bitmap_unrecorded c run);
     root = back.others 64 (root_outside v.lane) root_unrecorded;
   }
 

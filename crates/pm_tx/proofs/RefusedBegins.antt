@@ -147,6 +147,9 @@ module _ {M : Type 0} (at : M → View → Type 0) (lane : Lane M) (v : View) (i
           refused = record {
             found = v;
             led = led_none v;
+            undrawn = refl;
+            working = working;
+            log = is.log;
             ended = end;
             view = after_all v (refuses new.last v);
             is = refl;
@@ -172,6 +175,9 @@ module _ {M : Type 0} (at : M → View → Type 0) (lane : Lane M) (v : View) (i
           why = r;
           found = v;
           led = led_none v;
+          undrawn = refl;
+          working = working;
+          log = is.log;
           reason = reason;
           stopped = record {
             ready = t.0;

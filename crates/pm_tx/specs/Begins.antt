@@ -10,8 +10,10 @@ use Rattle.pm_objects.specs.declared.history.TxErr.TheVariants as error
 use Rattle.pm_objects.specs.declared.history.Value.TheVariants.{Refused}
 use Rattle.pm_objects.specs.declared.refusal.Refusal.{Refusal}
 use Rattle.pm_objects.specs.declared.refusal.Refusal.TheVariants as refusal
-use Rattle.pm_undo.specs.Working.{FindsOpening}
+use Rattle.pm_undo.specs.Working.{FindsOpening, IsWorking}
 use Rattle.pm_view.specs.Constants.{IsSameLane}
+use Rattle.pm_view.specs.Log.{no_log}
+use Rattle.pm_view.specs.Log.Phase.{Open}
 use Rattle.pm_view.specs.View.{View}
 use Rattle.pm_view.specs.Views.{after_all}
 use Rattle.pm_world.specs.Lanes.{IsSeenAs}
@@ -38,11 +40,14 @@ pub record HasBegun {M : Type 0} (at : M → View → Type 0) (lane : Lane M) (v
   pub locks : AreSameLocks (locks_of view) (locked_all wants [])
   pub opens : (o : Opening) → IsSound o → o.zones ≤ 32 → FindsOpening o view → IsAtWork o at lane view
 
--- from the view at which it was refused: all that was undrained was made persistent, the begin was refused for this reason and told so, and the call, which
--- did nothing, drew its number. The lane holds its locks still
+-- from the view at which it was refused, where the call was open with nothing recorded: all that was undrained was made persistent, the begin was refused for
+-- this reason and told so, and the call, which did nothing, drew its number. The lane holds its locks still
 pub record HasRefused {M : Type 0} (at : M → View → Type 0) (lane : Lane M) (v : View) (wants : List Want) (r : Refusal) : Type 0 where
   pub found : View
   pub led : IsLed v found
+  pub undrawn : found.entries ≡ v.entries
+  pub working : IsWorking found
+  pub log : found.log ≡ no_log (Open [] [])
   pub ended : IsEndedBy at lane found (gives_up [] (Begin wants) (Some (Refused r)) lane.last) (Begin wants) (Some (Refused r))
   pub view : View
   pub is : view ≡ after_all found (gives_up [] (Begin wants) (Some (Refused r)) lane.last found)
@@ -57,6 +62,9 @@ pub record HasStoppedRefused {M : Type 0} (at : M → View → Type 0) (lane : L
   pub why : Refusal
   pub found : View
   pub led : IsLed v found
+  pub undrawn : found.entries ≡ v.entries
+  pub working : IsWorking found
+  pub log : found.log ≡ no_log (Open [] [])
   pub reason : IsBeginReason found 0 [] wants why
   pub stopped : IsStoppedIn at lane found (gives_up [] (Begin wants) (Some (Refused why)) lane.last) (Begin wants) (Some (Refused why))
 

@@ -31,7 +31,11 @@ mod image_tests;
 #[cfg(test)]
 mod object_tests;
 #[cfg(test)]
+mod pending_tests;
+#[cfg(test)]
 mod publish_tests;
+#[cfg(test)]
+mod reserve_tests;
 #[cfg(test)]
 mod run_tests;
 #[cfg(test)]

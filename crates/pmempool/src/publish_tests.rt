@@ -16,11 +16,11 @@ const WITH_NEW: &str =
     "root 16512\nobject 16512 type 0 size 64\nobject 16640 type 1 size 64\ndata 0 2a000000000000000000000000000000\n";
 
 /// The dump of a pool of which a word of the root was set.
-const ROOT_SET: &str =
+pub const ROOT_SET: &str =
     "root 16512\nobject 16512 type 0 size 64\ndata 0 00000000000000002a00000000000000\n";
 
 /// Runs scripts, each on a new pool, and compares the lines of their calls and the dump of the pool left; lane 0 ends.
-fn all_leave(rt: &impl Abort, alloc: Global, table: &[(&str, &str, &str)]) -> Result<(), Fail> {
+pub fn all_leave(rt: &impl Abort, alloc: Global, table: &[(&str, &str, &str)]) -> Result<(), Fail> {
     for (script, calls, dump) in table {
         let mut shelf = shelf_with(alloc, POOL, script)?;
         let report = format!(in alloc; "{calls}lane 0 ended\n")?;

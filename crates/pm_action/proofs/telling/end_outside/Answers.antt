@@ -1,19 +1,35 @@
-use Rattle.std.proofs.Common.{ap}
-use Rattle.pm_world.specs.Tellings.{reply_of}
+use Rattle.std.proofs.Common.{◌≡◌, None, Some, ap}
+use Rattle.std.specs.Option.{option_copied}
 use Rattle.pm_world.specs.declared.lane.Lane.{Lane}
-use Rattle.pm_action.proofs.ToldOutside.{ended, told_at_once, unharmed}
+use Rattle.pm_tx.proofs.ToldBegun.{begun_ready_for_any}
+use Rattle.pm_action.proofs.ToldOutside.{closed_at_once, drawn_so, ended, told_at_once, unharmed}
 use Rattle.pm_action.proofs.telling.end_outside.Goals as goal
+
+pub end_call-requires : goal.end_call-requires
+end_call-requires g c = let is = c.requires.begun in record { ready = begun_ready_for_any g.M.LaneMem.at c.args.lane.now is.0 is.1.0 c.args.operation.now (option_copied c.args.reply) }
 
 pub come_to_rest-requires : goal.come_to_rest-requires
 come_to_rest-requires g c =
     let is = c.requires.begun in
-    let t = c.tell_and_draw in
-    record { after = (_, ended g.M.LaneMem.at c.args.lane.now is.0 is.1.0 c.args.operation.now (reply_of c.args.refusal) t.new.lane t.ensures.lane t.ensures.made is.1.1) }
+    let drawn = c.end_call.new.lane in
+    record { after = (_, ended g.M.LaneMem.at c.args.lane.now is.0 is.1.0 c.args.operation.now (option_copied c.args.reply) drawn (drawn_so c.args.lane.now drawn c.end_call.ensures.else_same c.end_call.ensures.drawn) c.end_call.ensures.made is.1.1) }
+
+pub returns-clause-closed : goal.returns-clause-closed
+returns-clause-closed g c v is apart =
+    let drawn = c.end_call.new.lane in
+    let reply = option_copied c.args.reply in
+    let fields : drawn ≡ record c.args.lane.now { memory = drawn.memory; drawn = Some drawn.last; last = drawn.last } = drawn_so c.args.lane.now drawn c.end_call.ensures.else_same c.end_call.ensures.drawn in
+    closed_at_once g.M.LaneMem.at c.args.lane.now v is c.args.operation.now reply drawn fields c.end_call.ensures.made c.come_to_rest.new.lane
+    (c.come_to_rest.ensures.closed _ (ended g.M.LaneMem.at c.args.lane.now v is c.args.operation.now reply drawn fields c.end_call.ensures.made apart)
+    (unharmed g.M.LaneMem.at c.args.lane.now v is c.args.operation.now reply drawn fields c.end_call.ensures.made))
+    (ap (λ (l : Lane g.row.M.Denot). l.last) {y = record drawn { memory = c.come_to_rest.new.lane.memory; locks = c.come_to_rest.new.lane.locks; drawn = None }} c.come_to_rest.ensures.lane)
 
 pub returns-clause-told : goal.returns-clause-told
-returns-clause-told g c v actions is apart whole left =
-    let t = c.tell_and_draw in
-    let over = ended g.M.LaneMem.at c.args.lane.now v is c.args.operation.now (reply_of c.args.refusal) t.new.lane t.ensures.lane t.ensures.made apart in
-    told_at_once g.M.LaneMem.at c.args.lane.now v is c.args.operation.now (reply_of c.args.refusal) t.new.lane t.ensures.lane t.ensures.made whole actions left c.come_to_rest.new.lane
-    (c.come_to_rest.ensures.closed _ over (unharmed g.M.LaneMem.at c.args.lane.now v is c.args.operation.now (reply_of c.args.refusal) t.new.lane t.ensures.lane t.ensures.made))
-    (ap (λ (l : Lane g.row.M.Denot). l.last) c.come_to_rest.ensures.lane)
+returns-clause-told g c v is apart has_ended =
+    let drawn = c.end_call.new.lane in
+    let reply = option_copied c.args.reply in
+    let fields : drawn ≡ record c.args.lane.now { memory = drawn.memory; drawn = Some drawn.last; last = drawn.last } = drawn_so c.args.lane.now drawn c.end_call.ensures.else_same c.end_call.ensures.drawn in
+    told_at_once g.M.LaneMem.at c.args.lane.now v is c.args.operation.now reply drawn fields c.end_call.ensures.made has_ended c.come_to_rest.new.lane
+    (c.come_to_rest.ensures.closed _ (ended g.M.LaneMem.at c.args.lane.now v is c.args.operation.now reply drawn fields c.end_call.ensures.made apart)
+    (unharmed g.M.LaneMem.at c.args.lane.now v is c.args.operation.now reply drawn fields c.end_call.ensures.made))
+    (ap (λ (l : Lane g.row.M.Denot). l.last) {y = record drawn { memory = c.come_to_rest.new.lane.memory; locks = c.come_to_rest.new.lane.locks; drawn = None }} c.come_to_rest.ensures.lane)

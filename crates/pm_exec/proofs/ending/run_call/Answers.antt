@@ -1,24 +1,29 @@
-use Rattle.std.proofs.Common.{◌≡◌, ◌++◌, ◌∷◌, [], List, sym, ap, subst, rules, ◌∙◌}
+use Rattle.std.proofs.Common.{◌≡◌, ◌++◌, ◌∷◌, [], List, sym, subst, rules, ◌∙◌}
+use Rattle.std.proofs.lemmas.Result.{IfOk-weaker}
 use Rattle.pm_script.specs.declared.script.ScriptLine.{ScriptLine}
-use Rattle.pm_exec.specs.Letters.{offsets_in, resolved, resolved_line}
-use Rattle.pm_exec.specs.Progress.{HasCome, Values}
-use Rattle.pm_exec.proofs.OutsideLine.{one_line, transaction_lines}
+use Rattle.pm_exec.specs.Letters.{KeepsLetters, offsets_in, resolved}
+use Rattle.pm_exec.specs.Progress.{HasCome, values_given}
+use Rattle.pm_exec.proofs.Closed.{from_both}
+use Rattle.pm_exec.proofs.CallParts.{one_line, transaction_lines}
+use Rattle.pm_exec.proofs.ResolvedLines.{one_keeps, one_resolved}
 use Rattle.pm_exec.proofs.ending.run_call.Goals as goal
 
 pub returns-in_ok-said-clause-made : goal.returns-in_ok-said-clause-made
-returns-in_ok-said-clause-made c o first is =
+returns-in_ok-said-clause-made c =
     let raw = c.index-lines-0.result in
     let one = one_line c.args.lines.now raw c.requires.call c.index-lines-0.is (search rules) in
-    let so : c.in_ok-said.said ≡ resolved_line (c.args.given.now ++ offsets_in []) raw = c.in_ok-said.ensures in
-    let all : resolved (c.args.given.now ++ offsets_in []) c.args.lines.now ≡ c.in_ok-said.said ∷ [] = ap (resolved (c.args.given.now ++ offsets_in [])) one ∙ ap (λ (l : ScriptLine). l ∷ []) (sym so) in
-    subst (λ (ls : List ScriptLine). HasCome o first c.run_outside.new.lane c.args.blocks.now c.run_outside.new.actions.items c.args.names ls c.run_outside.result)
-    (sym (ap (λ (vs : Values). resolved (c.args.given.now ++ offsets_in vs) c.args.lines.now) c.run_outside.ensures.gives ∙ all))
-    (c.run_outside.ensures.made o first c.args.blocks.now is)
+    from_both c.run_outside.result _ _ _
+    (λ ended made letters o first is.
+    subst (λ (ls : List ScriptLine). HasCome o first c.run_outside.new.lane c.run_outside.new.blocks c.run_outside.new.pending c.args.names ls ended)
+    (one_resolved c.args.given.now c.args.lines.now c.requires.ordered raw c.in_ok-said.said one c.in_ok-said.ensures (values_given ended) letters)
+    (made o first is)) c.run_outside.ensures.made c.run_outside.ensures.letters
 
-pub run_outside-requires-clause-first : goal.run_outside-requires-clause-first
-run_outside-requires-clause-first c =
-    let f = c.requires.first in
-    (f.0, (f.1.0, (c.args.blocks.now, f.1.1)))
+pub returns-in_ok-said-clause-letters : goal.returns-in_ok-said-clause-letters
+returns-in_ok-said-clause-letters c =
+    let raw = c.index-lines-0.result in
+    let one = one_line c.args.lines.now raw c.requires.call c.index-lines-0.is (search rules) in
+    IfOk-weaker c.run_outside.result _ (λ ended. KeepsLetters c.args.lines.now [] (values_given ended))
+    (λ ended letters. one_keeps c.args.given.now c.args.lines.now c.requires.ordered raw c.in_ok-said.said one c.in_ok-said.ensures (values_given ended) letters) c.run_outside.ensures.letters
 
 pub run_transaction-requires-clause-transaction : goal.run_transaction-requires-clause-transaction
 run_transaction-requires-clause-transaction c =

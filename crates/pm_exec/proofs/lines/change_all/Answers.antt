@@ -11,7 +11,7 @@ use Rattle.pm_exec.proofs.lines.change_all.Goals as goal
 
 pub loop-said-init : goal.loop-said-init
 loop-said-init c = (
-  λ o first front a. subst (λ (ls : List ScriptLine). IsAtLine o first c.args.lane.now c.args.blocks.now c.args.actions.now.items c.args.names ls c.args.values.now.items) (sym (append-nil front)) a,
+  λ o first front a. subst (λ (ls : List ScriptLine). IsAtLine o first c.args.lane.now c.args.blocks.now c.args.pending.now c.args.names ls c.args.values.now.items) (sym (append-nil front)) a,
   letters_same c.args.lines.now c.args.values.now.items,
 )
 
@@ -40,7 +40,7 @@ loop-said-preserved c =
     let kept = c.in_ok-change_at.ensures.letters in (
       λ o first front at.
           let before : List ScriptLine = resolved (given ++ offsets_in a) (take i lines) in
-          subst (λ (ls : List ScriptLine). IsAtLine o first c.change_at.new.lane c.change_at.new.blocks c.change_at.new.actions.items c.args.names ls b)
+          subst (λ (ls : List ScriptLine). IsAtLine o first c.change_at.new.lane c.change_at.new.blocks c.change_at.new.pending c.args.names ls b)
           (append_assoc front before (s ∷ []) ∙ ap (λ (ls : List ScriptLine). front ++ ls) (one_more given lines c.requires.ordered i y low c.said-item.is a b s so kept))
           (c.in_ok-change_at.ensures.done o first (front ++ before) (c.loop-said.invariant.0 o first front at)),
       letters_then lines c.args.values.now.items a b c.loop-said.invariant.1 (letters_wide given lines c.requires.ordered i y low c.said-item.is a b s so kept),
@@ -48,7 +48,7 @@ loop-said-preserved c =
 
 pub returns-clause-done : goal.returns-clause-done
 returns-clause-done c o first front a =
-    subst (λ (ls : List ScriptLine). IsAtLine o first c.loop-said.lane c.loop-said.blocks c.loop-said.actions.items c.args.names (front ++ resolved (c.args.given.now ++ offsets_in c.loop-said.values.items) ls) c.loop-said.values.items)
+    subst (λ (ls : List ScriptLine). IsAtLine o first c.loop-said.lane c.loop-said.blocks c.loop-said.pending c.args.names (front ++ resolved (c.args.given.now ++ offsets_in c.loop-said.values.items) ls) c.loop-said.values.items)
     (taken_all c.args.lines.now c.loop-said.said-index c.loop-said-test.false)
     (c.loop-said.invariant.0 o first front a)
 
@@ -78,7 +78,7 @@ returns-in_err-change_at-clause-ends c =
     let before : List ScriptLine = resolved (given ++ offsets_in a) (take i lines) in
     let new = c.change_at.new.lane in
     let blocks = c.change_at.new.blocks in
-    let actions = c.change_at.new.actions.items in
+    let actions = c.change_at.new.pending in
     unless_memory (s ∷ []) a b o first new blocks actions c.args.names (front ++ resolved (given ++ offsets_in b) lines ++ rest) b c.in_err-change_at.field-0.0 c.in_err-change_at.ensures.letters
     (λ kept.
     subst (λ (ls : List ScriptLine). IsNotDone o first new blocks actions c.args.names ls b c.in_err-change_at.field-0.0) (up_to given lines c.requires.ordered i y low c.said-item.is a b s so kept front rest)

@@ -17,7 +17,7 @@ begin_at-requires-clause-begins c =
 pub begin_at-requires-clause-first : goal.begin_at-requires-clause-first
 begin_at-requires-clause-first c =
     let f = c.requires.first in
-    (f.0, (f.1.0, (c.args.actions.now.items, f.1.1)))
+    (f.0, (f.1.0, (c.args.pending.now, f.1.1)))
 
 pub slice_bounds-change_all-count : goal.slice_bounds-change_all-count
 slice_bounds-change_all-count c = let n = two c.args.lines.now (parts c.args.lines.now c.requires.transaction) in omega (arith, n)
@@ -35,11 +35,11 @@ pub change_all-requires-clause-at_work : goal.change_all-requires-clause-at_work
 change_all-requires-clause-at_work c =
     let f = c.requires.first in
     let begin = c.in_ok-begin.begin in
-    let at = c.in_ok-begin_at.ensures.done f.0 f.1.0 c.args.actions.now.items f.1.1 in (
+    let at = c.in_ok-begin_at.ensures.done f.0 f.1.0 c.args.pending.now f.1.1 in (
       f.0,
       f.1.0,
       begin ∷ [],
-      subst (λ (vs : Values). IsAtLine f.0 f.1.0 c.begin_at.new.lane c.begin_at.new.blocks c.args.actions.now.items c.args.names (begin ∷ []) vs) (sym c.requires.none) at,
+      subst (λ (vs : Values). IsAtLine f.0 f.1.0 c.begin_at.new.lane c.begin_at.new.blocks c.args.pending.now c.args.names (begin ∷ []) vs) (sym c.requires.none) at,
     )
 
 pub returns-in_err-begin_at-clause-made : goal.returns-in_err-begin_at-clause-made
@@ -53,10 +53,10 @@ returns-in_err-begin_at-clause-made c o first is =
     let so = c.in_ok-begin.ensures ∙ ap (λ (vs : Values). resolved_line (c.args.given.now ++ offsets_in vs) c.index-lines-0.result) seen in
     let why = c.in_err-begin_at.field-0.0 in
     rw (p.1, p.2)
-    (subst (λ (vs : Values). IsNotDone o first c.begin_at.new.lane c.begin_at.new.blocks c.args.actions.now.items c.args.names (resolved g script) vs why) (sym c.requires.none)
-    (subst (λ (ls : List ScriptLine). IsNotDone o first c.begin_at.new.lane c.begin_at.new.blocks c.args.actions.now.items c.args.names ls [] why)
+    (subst (λ (vs : Values). IsNotDone o first c.begin_at.new.lane c.begin_at.new.blocks c.args.pending.now c.args.names (resolved g script) vs why) (sym c.requires.none)
+    (subst (λ (ls : List ScriptLine). IsNotDone o first c.begin_at.new.lane c.begin_at.new.blocks c.args.pending.now c.args.names ls [] why)
     (begun c.args.given.now script c.requires.ordered t g c.in_ok-begin.begin c.index-lines-0.result so c.index-lines-0.is)
-    (c.in_err-begin_at.ensures.ends o first c.args.actions.now.items (resolved g (t.changes ++ t.commit ∷ [])) is)))
+    (c.in_err-begin_at.ensures.ends o first c.args.pending.now (resolved g (t.changes ++ t.commit ∷ [])) is)))
 
 pub returns-in_err-begin_at-clause-letters : goal.returns-in_err-begin_at-clause-letters
 returns-in_err-begin_at-clause-letters c = subst (λ (vs : Values). LettersKept c.args.lines.now [] vs c.from_residual-in_err-begin_at.result) (sym c.requires.none) (kept_as_they_are c.args.lines.now [] c.from_residual-in_err-begin_at.result)
@@ -75,9 +75,9 @@ returns-in_err-change_all-clause-made c o first is =
     let so = c.in_ok-begin.ensures ∙ (ap (λ (vs : Values). resolved_line (given ++ offsets_in vs) c.index-lines-0.result) seen ∙ ap (resolved_line (given ++ offsets_in [])) (c.index-lines-0.is ∙ first_line script t c.index-lines-0.result)) in
     let new = c.change_all.new.lane in
     let blocks = c.change_all.new.blocks in
-    let actions = c.change_all.new.actions.items in
+    let actions = c.change_all.new.pending in
     let why = c.in_err-change_all.field-0.0 in
-    let at = subst (λ (vs : Values). IsAtLine o first c.begin_at.new.lane c.begin_at.new.blocks c.args.actions.now.items c.args.names (begin ∷ []) vs) (sym c.requires.none) (c.in_ok-begin_at.ensures.done o first c.args.actions.now.items is) in
+    let at = subst (λ (vs : Values). IsAtLine o first c.begin_at.new.lane c.begin_at.new.blocks c.args.pending.now c.args.names (begin ∷ []) vs) (sym c.requires.none) (c.in_ok-begin_at.ensures.done o first c.args.pending.now is) in
     rw (p.1, p.2)
     (unless_memory slice [] values o first new blocks actions c.args.names (resolved g script) values why
     (subst (λ (vs : Values). LettersKept {T = Unit {0}} slice vs values (Err why)) c.requires.none c.in_err-change_all.ensures.letters)
@@ -109,10 +109,10 @@ returns-clause-made c o first is =
     let begin = c.in_ok-begin.begin in
     let seen : c.as_slice.result.now ≡ [] = search rules in
     let so = c.in_ok-begin.ensures ∙ (ap (λ (vs : Values). resolved_line (given ++ offsets_in vs) c.index-lines-0.result) seen ∙ ap (resolved_line (given ++ offsets_in [])) (c.index-lines-0.is ∙ first_line script t c.index-lines-0.result)) in
-    let at = subst (λ (vs : Values). IsAtLine o first c.begin_at.new.lane c.begin_at.new.blocks c.args.actions.now.items c.args.names (begin ∷ []) vs) (sym c.requires.none) (c.in_ok-begin_at.ensures.done o first c.args.actions.now.items is) in
+    let at = subst (λ (vs : Values). IsAtLine o first c.begin_at.new.lane c.begin_at.new.blocks c.args.pending.now c.args.names (begin ∷ []) vs) (sym c.requires.none) (c.in_ok-begin_at.ensures.done o first c.args.pending.now is) in
     let kept = subst (λ (vs : Values). KeepsLetters slice vs values) c.requires.none c.in_ok-change_all.ensures.letters in
-    subst (λ (ls : List ScriptLine). CameTo o first c.commit_all.new.lane c.change_all.new.blocks c.change_all.new.actions.items c.args.names ls values c.commit_all.result) (whole given script c.requires.ordered t values begin so kept)
-    (c.commit_all.ensures o first c.change_all.new.actions.items (begin ∷ resolved g slice) values (resolved_line g t.commit) (c.in_ok-change_all.ensures.done o first (begin ∷ []) at) (ap (resolved_op g) t.commits))
+    subst (λ (ls : List ScriptLine). CameTo o first c.commit_all.new.lane c.change_all.new.blocks c.change_all.new.pending c.args.names ls values c.commit_all.result) (whole given script c.requires.ordered t values begin so kept)
+    (c.commit_all.ensures o first c.change_all.new.pending (begin ∷ resolved g slice) values (resolved_line g t.commit) (c.in_ok-change_all.ensures.done o first (begin ∷ []) at) (ap (resolved_op g) t.commits))
 
 pub returns-clause-letters : goal.returns-clause-letters
 returns-clause-letters c =

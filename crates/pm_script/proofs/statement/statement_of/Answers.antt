@@ -8,6 +8,9 @@ returns-in-Lane c = let read = c.lane_of.ensures c.args.context.now in grind (ar
 pub returns-in-Alloc : goal.returns-in-Alloc
 returns-in-Alloc c = let read = c.alloc_of.ensures c.args.context.now in grind (arith, common_steps)
 
+pub returns-in-Reserve : goal.returns-in-Reserve
+returns-in-Reserve c = let read = c.reserve_of.ensures c.args.context.now in grind (arith, common_steps)
+
 pub returns-in-Publish : goal.returns-in-Publish
 returns-in-Publish c = let read = c.publish_of.ensures c.args.context.now in grind (arith, common_steps)
 

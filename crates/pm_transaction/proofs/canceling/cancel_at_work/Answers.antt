@@ -1,16 +1,27 @@
-use Rattle.std.proofs.Common.{ap}
-use Rattle.pm_transaction.proofs.ActionsWithLists.{canceled_with_lists}
+use Rattle.std.proofs.lemmas.Result.{err_from_is_err_and}
+use Rattle.pm_transaction.proofs.CanceledAtWork.{gave_up, may_give_up}
 use Rattle.pm_transaction.proofs.canceling.cancel_at_work.Goals as goal
 
-pub returns-in-Ok-clause-done : goal.returns-in-Ok-clause-done
-returns-in-Ok-clause-done g c o v is =
-    let has = c.in-Ok.ensures.done o v is.work in
+pub give_up_pending-requires : goal.give_up_pending-requires
+give_up_pending-requires g c =
+    let t = c.requires.at_work in
+    let a = t.6 in
+    let has = c.in_ok-cancel_call.ensures.done t.0 t.5 a.work.work in
+    let told = c.cancel_call.new.lane in
     record {
-      ready = has.ready;
-      draws = has.draws;
-      works = canceled_with_lists o g.M.LaneMem.at c.args.lane.now c.cancel_call.new.lane c.args.blocks.now v is (ap (λ l. l.locks) c.in-Ok.ensures.lane) has;
-      none = has.none;
+      may = (
+        _,
+        (has.works.seen.memory, may_give_up t.0 t.1 t.2 g.M.LaneMem.at t.3 t.5 t.4 c.args.lane.now told c.args.blocks.now a.works a.work c.in_ok-cancel_call.ensures.lane has (g.met.M.ReservedMem.counts told.memory) c.args.pending.now a.listed),
+      );
     }
 
-pub returns-in-Err-clause-stops : goal.returns-in-Err-clause-stops
-returns-in-Err-clause-stops g c o v is = c.in-Err.ensures.stops o v is.work
+pub returns-clause-done : goal.returns-clause-done
+returns-clause-done g c o header pool start v steps alone =
+    let told = c.cancel_call.new.lane in
+    gave_up o header pool g.M.LaneMem.at start v steps c.args.lane.now told c.args.blocks.now alone.works alone.work c.in_ok-cancel_call.ensures.lane (c.in_ok-cancel_call.ensures.done o v alone.work.work) (g.met.M.ReservedMem.counts told.memory)
+    c.give_up_pending.new.lane c.give_up_pending.ensures.else_same c.args.pending.now alone.listed c.give_up_pending.ensures.given
+
+pub returns-in_err-cancel_call-clause-stops : goal.returns-in_err-cancel_call-clause-stops
+returns-in_err-cancel_call-clause-stops g c =
+    let p = err_from_is_err_and c.from_residual.result c.from_residual.ensures.1 in
+    rw p.1 (λ o v is. c.in_err-cancel_call.ensures.stops o v is.work)

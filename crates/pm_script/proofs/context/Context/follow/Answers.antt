@@ -32,5 +32,5 @@ closed context lane n operation kept present commit is =
 pub returns-in-Commit : goal.returns-in-Commit
 returns-in-Commit c =
     let kept = filter_same _ (λ (t : OpenTransaction). not (is_of_lane c.args.lane t)) _ (λ x b q r. search (rules, tests)) _ _ c.retain.ensures.filtered in
-    ap (λ (context : Context). record context { begun = c.retain.new.self.items }) c.self-in-Commit.view_is
-    ∙ closed c.args.self.now c.args.lane c.args.line c.args.operation.now c.retain.new.self.items c.requires c.in-Commit.is (kept ∙ ap (λ (context : Context). others c.args.lane context.begun) c.self-in-Commit.view_is)
+    ap (λ (context : Context). record context { begun = c.retain.new.self.items }) c.self.view_is
+    ∙ closed c.args.self.now c.args.lane c.args.line c.args.operation.now c.retain.new.self.items c.requires c.in-Commit.is (kept ∙ ap (λ (context : Context). others c.args.lane context.begun) c.self.view_is)
