@@ -39,7 +39,7 @@ use Rattle.pm_world.specs.declared.lane.HeldLock.{HeldLock}
 use Rattle.pm_world.specs.declared.lane.Lane.{Lane}
 use Rattle.pm_transaction.proofs.FreedInTurn.{AreNamedOnce, count_made, named_now}
 use Rattle.pm_transaction.proofs.Frees.{root_there}
-use Rattle.pm_transaction.proofs.PublishesAll.{offset_held}
+use Rattle.pm_transaction.proofs.Publishes.{offset_held}
 use Rattle.pm_transaction.specs.AtWork.{HasBlock, IsHeldFreed, IsUnderLock, LiesInReserved}
 use Rattle.pm_transaction.specs.Committing.{MayPublishBlocks}
 use Rattle.pm_transaction.specs.PublishedLists.{CanListFreed, IsUnderLockOf, made_of}

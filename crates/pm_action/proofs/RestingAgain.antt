@@ -36,26 +36,6 @@ fields_rested {M} at old mid new v rests same fields =
     fields ∙ ap (λ (l : Lane M). record l { memory = new.memory; drawn = None; last = new.last }) same ∙ (λ i. record old { memory = new.memory; drawn = drawn i; last = new.last })
 
 module _ {M : Type 0} (old : Lane M) (free : old.locks.items ≡ []) where
-  -- it gave back what locks it took
-  pub fields_refused : (new : Lane M) → new.locks.items ≡ [] → new ≡ record old { memory = new.memory; locks = new.locks; drawn = None; last = new.last } → new ≡ record old { memory = new.memory; drawn = None; last = new.last }
-  fields_refused new freed fields =
-      let locks : new.locks ≡ old.locks = emptied old.locks new.locks free freed in
-      fields ∙ (λ i. record old { memory = new.memory; locks = locks i; drawn = None; last = new.last })
-
-  -- and what it listed it lists no more
-  pub fields_published : (none : old.records.items ≡ []) (unlisted : old.entries.items ≡ []) (held mid new : Lane M) → held ≡ record old { memory = held.memory; locks = held.locks }
-      → mid ≡ record held { memory = mid.memory; records = mid.records; entries = mid.entries; drawn = Some mid.last; last = mid.last } → mid.records.items ≡ [] → mid.entries.items ≡ []
-      → new ≡ record mid { memory = new.memory; locks = new.locks; drawn = None } → new.locks.items ≡ [] → new ≡ record old { memory = new.memory; drawn = None; last = new.last }
-  fields_published none unlisted held mid new taken made ended cleared fields freed =
-      let locks : new.locks ≡ old.locks = emptied old.locks new.locks free freed in
-      let records : mid.records ≡ old.records = emptied old.records mid.records none ended in
-      let entries : mid.entries ≡ old.entries = emptied old.entries mid.entries unlisted cleared in
-      let last : mid.last ≡ new.last = sym (ap (λ (l : Lane M). l.last) fields) in
-      fields
-      ∙ ap (λ (l : Lane M). record l { memory = new.memory; locks = new.locks; drawn = None }) made
-      ∙ ap (λ (l : Lane M). record l { memory = new.memory; locks = new.locks; records = mid.records; entries = mid.entries; drawn = None; last = mid.last }) taken
-      ∙ (λ i. record old { memory = new.memory; locks = locks i; records = records i; entries = entries i; drawn = None; last = last i })
-
 -- the lane's memory was another in between
 pub fields_behind : {M : Type 0} (mid later new : Lane M) → later ≡ record mid { memory = later.memory } → new ≡ record later { memory = new.memory; locks = new.locks; drawn = None; last = new.last }
     → new ≡ record mid { memory = new.memory; locks = new.locks; drawn = None; last = new.last }

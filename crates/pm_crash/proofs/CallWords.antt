@@ -162,10 +162,6 @@ call_works v w header pool level some under_way c =
     let few : length v.locks ≤ 64 = under_way.few in
     record { level = omega arith; working = c.stands; few = omega arith }
 
--- none of these objects is gone
-pub none_is_gone : (v : View) (tx : Transaction) → TracksBlocks tx (blocks_in v) → (offs : List ℕ) → ((off : ℕ) → Contains offs off → IsOldIn v off) → list_any (is_gone tx) offs ≡ false
-none_is_gone v tx tracks offs old = none_named tx offs (λ off there. tracks_gone v tx tracks off (old off there).found (old off there).kept)
-
 pub one_is_kept : (v : View) (tx : Transaction) → TracksBlocks tx (blocks_in v) → (off : ℕ) → IsOldIn v off → list_any (is_gone tx) (off ∷ []) ≡ false
 one_is_kept v tx tracks off old = or_from (is_gone tx off) false (tracks_gone v tx tracks off old.found old.kept) refl
 

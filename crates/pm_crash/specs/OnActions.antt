@@ -57,10 +57,6 @@ PassesObject v (SetWord id off value) = PassesEnd v id off 8 true
 abbrev pub entries_wanted : View → ℕ
 entries_wanted v = length (published_in v) + length (sets_in v) + 1
 
--- and so many with those for what it made and freed
-abbrev pub entries_in : View → ℕ
-entries_in v = entries_wanted v + (length (blocks_in v).made + length (blocks_in v).freed)
-
 -- what is set is a word of an object that the call made and has, which needs no lock
 abbrev pub CanSetNew : View → Action → Type 0
 CanSetNew v (SetWord id off value) = HasNewRange v id off 8 × IsWord (SetWord id off value)
@@ -123,10 +119,6 @@ LacksObjectOf v a = LacksObject v (object_of a)
 -- it has it, whether it is gone or not
 abbrev pub HasObjectOf : View → Action → Type 0
 HasObjectOf v a = HasObject v (object_of a)
-
--- it has it, and it is gone
-abbrev pub IsOnGone : View → Action → Type 0
-IsOnGone v a = IsGone v (object_of a) true
 
 -- it has it, and it is not gone
 abbrev pub IsOnLeft : View → Action → Type 0

@@ -72,9 +72,6 @@ module _ (v u : View) (n : NewObject) (g : Gains v u n) where
     blocks_apart : (k m : NewObject) (a b : Block) → block_of k ≡ a → block_of m ≡ b → AreDisjoint a b → AreDisjoint (block_of k) (block_of m)
     blocks_apart k m a b is is_too apart = subst (λ (x : Block). AreDisjoint x (block_of m)) (sym is) (subst (AreDisjoint a) (sym is_too) apart)
 
-    lanes_same : u.lanes ≡ v.lanes
-    lanes_same = g.still.lanes
-
     apart_by : (own : IsReservedFor u n) → WasFree v u n own → (m : NewObject) → IsReservedFor v m → AreDisjoint (block_of n) (block_of m)
     unfolding run_still chunks_still
     apart_by (inl run) free m (inl other) =

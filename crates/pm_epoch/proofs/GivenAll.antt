@@ -173,9 +173,6 @@ module _ (o : Opening) (header : Header) (pool : PoolView) (start y : View) (ste
     pub bits_left : (at : Occ) (bit : ℕ) → bit < 64 → (reserves x at bit ≡ true) ↔ ((reserves y at bit ≡ true) × (IsKeptBit y.lanes (map block_of ns) at bit → ⊥))
     bits_left = all_given.left
 
-    same_lanes : x.lanes ≡ y.lanes
-    same_lanes = ap (λ (v : View). v.lanes) all_given.same
-
     pub none_making : ReservesNoRun x.lanes x
     none_making = all_given.still.may.no_run
 

@@ -77,9 +77,6 @@ module _ (v : View) (n : ℕ) (all : List Published) (knows : KnowsTaken v) (non
   makes_none_free : (at : Occ) (bit : ℕ) → IsOcc v.lanes v.zones at → bit < 64 → SomeAllocates v.lanes all at bit → SomeFrees v.lanes all at bit → ⊥
   makes_none_free at bit of low makes frees = false≢true (sym (knows.apart at bit of low (inl (hands.own at bit of low makes))) ∙ hands.taken at bit of low frees)
 
-  has_freed : (at : Occ) (bit : ℕ) → IsOcc v.lanes v.zones at → bit < 64 → SomeFrees v.lanes all at bit → has_taken w at bit ≡ true
-  has_freed at bit of low frees = or_right (reserves w at bit || has_run_chunk w at) (list_any (has_bit at bit) w.freed) ((hands.freed at bit of low).1 frees)
-
   by_freed : (at : Occ) (bit : ℕ) → IsOcc v.lanes v.zones at → bit < 64 → IsTaken at bit → IsPromised at bit
   by_freed at bit of low taken = ⊎_elim
       (λ (freed : list_any (has_bit at bit) w.freed ≡ true). inr (or_right (reserves w at bit || has_run_chunk w at) (list_any (has_bit at bit) w.freed) freed))

@@ -9,6 +9,7 @@ use Rattle.pm_crash.specs.Alone.{raises}
 use Rattle.pm_crash.specs.CallBlocks.{CallBlocks, blocks_behind, blocks_in, reserved_in}
 use Rattle.pm_crash.proofs.CallBlocks.{blocks_once_more}
 use Rattle.pm_crash.specs.Pending.{pending_in, published_by, published_in}
+use Rattle.pm_crash.specs.OnActions.{defer_refusal, set_refusal}
 use Rattle.pm_crash.proofs.PendingOn.{published_once_more}
 use Rattle.pm_crash.proofs.Raises.{raises_append}
 use Rattle.pm_memory.specs.Solo.{Sees, Solo}
@@ -62,7 +63,8 @@ use Rattle.pm_world.specs.declared.lane.Lane.{Lane}
 use Rattle.pm_exec.specs.Bounds.{log_due, logs_of, most_stores, recorded_count}
 use Rattle.pm_exec.specs.Calls.{id_of, operation_of}
 use Rattle.pm_exec.specs.Course.{IsFree, IsLineMade, IsLineStopped}
-use Rattle.pm_exec.specs.Progress.{AreToldDone, IsAtLine, IsCut, IsGivenUpAt, IsToldDone, Values, done, values_told}
+use Rattle.pm_exec.specs.Replies.{AreToldDone, IsToldDone, Values, done, values_told}
+use Rattle.pm_exec.specs.Progress.{IsAtLine, IsCut, IsGivenUpAt}
 use Rattle.pm_exec.specs.Torn.{words_after, words_by}
 use Rattle.pm_exec.specs.declared.calls.Names.{Names}
 use Rattle.pm_exec.proofs.ChangeLines.{GoesTo, at_next_with, at_there_by, at_there_with, calm_behind, cut_in, free_u, lane_there, lane_u, words_u}
@@ -130,9 +132,6 @@ module _ (o : Opening) (first : View) (lane : Lane Solo) (blocks : BlockLists) (
   abbrev v : View
   v = a.view
 
-  may : MayTell v.log.phase
-  may = subst MayTell (sym a.works.work.working.is_open) tt
-
   -- ---- an operation on what is pending is told, done or refused
 
   -- it changes no word, publishes nothing, and makes and frees nothing
@@ -169,18 +168,15 @@ module _ (o : Opening) (first : View) (lane : Lane Solo) (blocks : BlockLists) (
   pub stays : GoesTo v v
   stays = record { led = led_none v; words = refl; call = refl; number = refl; entries = refl; log = refl; locks = refl }
 
-  pub tells_freely : (asks : Operation) (reply : Option Value) → IsFree v (after v (Tell asks reply))
-  tells_freely asks reply = record { led = tell_led asks reply v may; undrawn = refl }
-
   module _ (id : ScriptId) (action : SetAction) (id_is : action.id ≡ id_of names id) (is : said.operation ≡ op.Set id action.off action.value) where
-    pub set_done : (r : Option Refusal) (left : PendingActions) → HasToldPending o Sees new blocks left v (operation.SetValue action.id action.off action.value) r → new.level ≡ 1 → new.locks ≡ lane.locks
+    pub set_done : (r : Option Refusal) → r ≡ set_refusal action.off (pending_in v) → (left : PendingActions) → HasToldPending o Sees new blocks left v (operation.SetValue action.id action.off action.value) r → new.level ≡ 1 → new.locks ≡ lane.locks
         → IsAtLine o first new blocks left names (front ++ said ∷ []) (given_by values said r)
-    set_done r left told level locks =
+    set_done r reason left told level locks =
         let asks : Operation = operation.SetValue action.id action.off action.value in
         let t : Told = record { operation = asks; reply = option_map Refused r } in
         told_done v stays a.works.work.working asks r refl left
         (subst (λ (x : ScriptOp). IsToldDone names x t) (sym is) (r, ap (λ (i : Oid). record { operation = operation.SetValue i action.off action.value; reply = option_map Refused r }) id_is))
-        (subst (λ (x : ScriptOp). IsLineMade names x v (after v (Tell asks (option_map Refused r)))) (sym is) (tells_freely asks (option_map Refused r)))
+        (subst (λ (x : ScriptOp). IsLineMade names x v (after v (Tell asks (option_map Refused r)))) (sym is) (λ j. after v (Tell (operation.SetValue (id_is j) action.off action.value) (option_map Refused (reason j)))))
         (λ x i. ap (λ (y : ScriptOp). words_by names y x i) is) (none r) (keeps r) told.works told.listed level locks
       where
         none : (r : Option Refusal) (p : Pending) → published_by (operation.SetValue action.id action.off action.value) (option_map Refused r) p ≡ []
@@ -192,14 +188,14 @@ module _ (o : Opening) (first : View) (lane : Lane Solo) (blocks : BlockLists) (
         keeps (Some why) = refl
 
   module _ (id : ScriptId) (target : Oid) (target_is : target ≡ id_of names id) (is : said.operation ≡ op.DeferFree id) where
-    pub defer_done : (r : Option Refusal) (left : PendingActions) → HasToldPending o Sees new blocks left v (operation.DeferFree target) r → new.level ≡ 1 → new.locks ≡ lane.locks
+    pub defer_done : (r : Option Refusal) → r ≡ defer_refusal (pending_in v) → (left : PendingActions) → HasToldPending o Sees new blocks left v (operation.DeferFree target) r → new.level ≡ 1 → new.locks ≡ lane.locks
         → IsAtLine o first new blocks left names (front ++ said ∷ []) (given_by values said r)
-    defer_done r left told level locks =
+    defer_done r reason left told level locks =
         let asks : Operation = operation.DeferFree target in
         let t : Told = record { operation = asks; reply = option_map Refused r } in
         told_done v stays a.works.work.working asks r refl left
         (subst (λ (x : ScriptOp). IsToldDone names x t) (sym is) (r, ap (λ (i : Oid). record { operation = operation.DeferFree i; reply = option_map Refused r }) target_is))
-        (subst (λ (x : ScriptOp). IsLineMade names x v (after v (Tell asks (option_map Refused r)))) (sym is) (tells_freely asks (option_map Refused r)))
+        (subst (λ (x : ScriptOp). IsLineMade names x v (after v (Tell asks (option_map Refused r)))) (sym is) (λ j. after v (Tell (operation.DeferFree (target_is j)) (option_map Refused (reason j)))))
         (λ x i. ap (λ (y : ScriptOp). words_by names y x i) is) (none r) (keeps r) told.works told.listed level locks
       where
         none : (r : Option Refusal) (p : Pending) → published_by (operation.DeferFree target) (option_map Refused r) p ≡ []

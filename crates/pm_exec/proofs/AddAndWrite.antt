@@ -65,7 +65,8 @@ use Rattle.pm_exec.specs.Calls.{id_of, operation_of}
 use Rattle.pm_script.specs.declared.script.ScriptId.{ScriptId}
 use Rattle.pm_script.specs.declared.script.ScriptLine.{ScriptLine}
 use Rattle.pm_exec.specs.Course.{CameToGiveUp, IsFree, IsGivenUpMade, IsLineMade, IsLineStopped, IsRefusalMade, add_calls, spans_of, write_calls}
-use Rattle.pm_exec.specs.Progress.{IsAtLine, IsCut, IsGivenUpAt, IsNotDone, IsToldDone, Values, done, not_done}
+use Rattle.pm_exec.specs.Replies.{IsToldDone, Values, done}
+use Rattle.pm_exec.specs.Progress.{IsAtLine, IsCut, IsGivenUpAt, IsNotDone, not_done}
 use Rattle.pm_exec.specs.declared.calls.Names.{Names}
 use Rattle.pm_exec.proofs.LineLists.{gave_nothing, words_more}
 use Rattle.pm_exec.specs.Torn.{words_after, words_by}

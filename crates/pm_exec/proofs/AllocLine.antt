@@ -16,6 +16,7 @@ use Rattle.pm_crash.specs.Leading.{Leads}
 use Rattle.pm_crash.specs.OpenCall.{IsUnderBlock, words_recorded}
 use Rattle.pm_crash.specs.Operations.{entries_so_far}
 use Rattle.pm_crash.specs.Pending.{pending_in, published_by}
+use Rattle.pm_crash.specs.Reserving.{IsReserveReason}
 use Rattle.pm_image.specs.Logs.{generation_word}
 use Rattle.pm_layout.specs.Sizes.{class_of}
 use Rattle.pm_lock.proofs.Leads.{led_none}
@@ -78,7 +79,8 @@ use Rattle.pm_exec.proofs.PendingLists.{still_pending}
 use Rattle.pm_exec.specs.Bounds.{log_due, log_stores, making_stores, most_stores, recorded_count, stores_of_call, stores_of_lines}
 use Rattle.pm_exec.specs.Calls.{operation_of}
 use Rattle.pm_exec.specs.Course.{CameToGiveUp, IsLineMade, IsLineStopped}
-use Rattle.pm_exec.specs.Progress.{AreToldDone, IsAtLine, IsCut, IsGivenUpAt, IsToldDone, Values, values_told}
+use Rattle.pm_exec.specs.Replies.{AreToldDone, IsToldDone, Values, values_told}
+use Rattle.pm_exec.specs.Progress.{IsAtLine, IsCut, IsGivenUpAt}
 use Rattle.pm_exec.proofs.ActionLines.{due_still, told_done}
 use Rattle.pm_transaction.specs.Reserving.{HasRefusedReserve, HasReservedObject}
 use Rattle.pm_transaction.specs.AtWork.{IsAtWorkWith}
@@ -360,7 +362,8 @@ module _ (o : Opening) (first : View) (lane : Lane Solo) (blocks : BlockLists) (
         let w : View = after h.view (Tell asks (Some (Refused r))) in
         told_done o first lane blocks actions names front values a new said h.view t.0 t.1 asks (Some r) refl actions
         (subst (λ (x : ScriptOp). IsToldDone names x (record { operation = asks; reply = Some (Refused r) })) (sym is) (inr (r, refl)))
-        (subst (λ (x : ScriptOp). IsLineMade names x a.view w) (sym is) (inr (r, record { view = h.view; came = h.came; told = refl })))
+        (subst (λ (x : ScriptOp). IsLineMade names x a.view w) (sym is)
+        (inr (r, subst (λ (p : Pending). IsReserveReason p size r) (pending_same a.view h.view t.0.entries t.0.call) h.reason, record { view = h.view; came = h.came; told = refl })))
         (λ x i. ap (λ (y : ScriptOp). words_by names y x i) is) (unpublished (Some (Refused r))) refl h.works
         (still_pending (pending_in w) (pending_once_more h.view w asks (Some (Refused r)) refl refl ∙ pending_same a.view h.view t.0.entries t.0.call) a.pending) level locks
 

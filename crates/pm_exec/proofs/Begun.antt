@@ -65,7 +65,8 @@ use Rattle.pm_world.specs.Lawful.{generation_limit}
 use Rattle.pm_world.specs.Lanes.{span_of}
 use Rattle.pm_world.specs.Records.{generation_of}
 use Rattle.pm_exec.specs.Course.{IsBeginRefusal, IsFree, IsLineMade, IsRefusalMade, IsStoppedGivingUp, IsUsedUp, LinesMade, refused_calls, spans_of}
-use Rattle.pm_exec.specs.Progress.{AreToldDone, IsAtLine, IsCut, IsGivenUpAt, IsNotDone, IsStart, IsToldDone, IsUnbegun, done, not_done, numbered, refused, values_told}
+use Rattle.pm_exec.specs.Replies.{AreToldDone, IsToldDone, done, numbered, refused, values_told}
+use Rattle.pm_exec.specs.Progress.{IsAtLine, IsCut, IsGivenUpAt, IsNotDone, IsStart, IsUnbegun, not_done}
 use Rattle.pm_exec.specs.declared.calls.Names.{Names}
 use Rattle.pm_exec.proofs.Along.{lane_along, same_along}
 use Rattle.pm_exec.proofs.HeapStill.{begun_heap, gives_up_heapless, heap_along}
@@ -155,9 +156,6 @@ module _ (o : Opening) (first : View) (lane new : Lane Solo) (blocks : BlockList
       (λ t. behind (starts t.0) (none_drawn t.0) (starts_free t.0) (starts_leave t.0) (starts_heap t.0) (inr (subst (λ n. generation_limit ≤ n) (number_is t.0 t.1.1.ready) t.1.0)) t.1.1) s
 
   module _ (said : ScriptLine) (asked : List ScriptWant) (begins : said.operation ≡ op.Begin asked) (wants : List Want) (wants_are : wants ≡ map (want_of names) asked) where
-    begin_is : operation_of names said.operation ≡ operation.Begin wants
-    begin_is = ap (operation_of names) begins ∙ ap (λ (ws : List Want). operation.Begin ws) (sym wants_are)
-
     told_so : IsToldDone names said.operation (done (operation.Begin wants))
     told_so = subst (λ (x : ScriptOp). IsToldDone names x (done (operation.Begin wants))) (sym begins) (ap (λ (ws : List Want). done (operation.Begin ws)) wants_are)
 

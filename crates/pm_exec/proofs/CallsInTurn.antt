@@ -24,7 +24,8 @@ use Rattle.pm_exec.specs.Calls.{call_of, numbers_of}
 use Rattle.pm_exec.specs.Course.{CallsMade, IsCallMade}
 use Rattle.pm_exec.specs.Histories.{settled_fate}
 use Rattle.pm_exec.specs.Progress.{IsAnswered, IsHalted, IsStart, IsUnbegun, KeepsReserved}
-use Rattle.pm_exec.specs.Running.{AreEntries, HasComeTo, HasHalted, IsEntryOf, open_entry}
+use Rattle.pm_exec.specs.Replies.{AreEntries, IsEntryOf}
+use Rattle.pm_exec.specs.Running.{HasComeTo, HasHalted, open_entry}
 use Rattle.pm_exec.specs.declared.calls.Names.{Names}
 use Rattle.pm_exec.specs.declared.running.Halt.{Halt}
 use Rattle.pm_exec.proofs.Starts.{start_lane}

@@ -65,7 +65,8 @@ use Rattle.pm_exec.proofs.UndrawnSteps.{IsUndrawn, Keeps, first_undrawn_keep, un
 use Rattle.pm_exec.specs.Bounds.{most_stores, stores_of_call}
 use Rattle.pm_exec.specs.Calls.{operation_of, stands_alone}
 use Rattle.pm_exec.specs.Course.{IsOutsideMade, IsOutsideStopped}
-use Rattle.pm_exec.specs.Progress.{ActedOutside, IsActed, IsCut, IsOutsideReply, IsStart, IsUnbegun, numbered}
+use Rattle.pm_exec.specs.Replies.{IsOutsideReply, numbered}
+use Rattle.pm_exec.specs.Progress.{ActedOutside, IsActed, IsCut, IsStart, IsUnbegun}
 use Rattle.pm_exec.specs.declared.calls.Names.{Names}
 
 -- ---- the steps of a cancel

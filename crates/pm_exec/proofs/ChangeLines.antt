@@ -60,7 +60,8 @@ use Rattle.pm_world.specs.declared.lane.Stage.TheVariants as stage
 use Rattle.pm_exec.specs.Bounds.{most_stores, recorded_count, stores_of_call, stores_of_lines}
 use Rattle.pm_exec.proofs.FewStores.{walked, lines_more, lines_within, spans_count}
 use Rattle.pm_exec.specs.Calls.{operation_of}
-use Rattle.pm_exec.specs.Progress.{IsAtLine, IsCalmBehind, IsCut, IsGivenUpAt, AreToldDone, IsToldDone, IsUntorn, Values, numbered, refused, values_told}
+use Rattle.pm_exec.specs.Replies.{AreToldDone, IsToldDone, Values, numbered, refused, values_told}
+use Rattle.pm_exec.specs.Progress.{IsAtLine, IsCalmBehind, IsCut, IsGivenUpAt, IsUntorn}
 use Rattle.pm_exec.specs.Course.{CameToGiveUp, IsFree, IsFrontOf, IsGivenUpMade, IsLineMade, IsLineStopped, IsRefusalMade, IsStoppedBy, refused_calls, spans_of}
 use Rattle.pm_exec.specs.declared.calls.Names.{Names}
 use Rattle.pm_exec.proofs.LineLists.{made_more, told_more}
@@ -394,10 +395,6 @@ module _ (o : Opening) (first : View) (lane : Lane Solo) (blocks : BlockLists) (
     pub pending_u : IsPendingAs actions (pending_in u)
     pending_u = pending_there u looks_go
 
-    pub few_u : stores_among to_u.0 + recorded_count u + log_due u ≤ stores_of_lines names front
-    unfolding to_u
-    few_u = few_there u looks_go
-
     -- steps behind them that store at most as much as the line is good for
     few_in : (said : ScriptLine) (rest : List ScriptLine) (steps : List Step) → stores_among steps ≤ recorded_count u + most_stores names said.operation + 1 → stores_among (to_u.0 ++ steps) ≤ stores_of_call names (front ++ said ∷ rest)
     unfolding to_u
@@ -405,9 +402,6 @@ module _ (o : Opening) (first : View) (lane : Lane Solo) (blocks : BlockLists) (
 
     pub entries_u : u.entries ≡ first.entries
     entries_u = entries_there u looks_go
-
-    pub call_u : u.call ≡ a.view.call
-    call_u = same.call
 
     pub words_u : (i : ℕ) → IsUnderBlock a.view i → slice_index u.words i ≡ words_after names front (slice_index o.words) i
     words_u i under = ap (λ (words : List ℕ). slice_index words i) same.words ∙ a.words i under

@@ -21,7 +21,7 @@ use Rattle.pm_objects.specs.declared.history.TxErr.TheVariants as error
 use Rattle.pm_objects.specs.declared.pool.PoolView.{PoolView}
 use Rattle.pm_objects.specs.declared.refusal.Refusal.{Refusal}
 use Rattle.pm_pending.specs.declared.pending.PendingActions.{PendingActions}
-use Rattle.pm_reclaim.specs.Reclaims.{IsReclaiming}
+use Rattle.pm_reclaim.specs.Reclaims.{HasLeft, IsReclaiming}
 use Rattle.pm_script.specs.declared.script.ScriptLine.{ScriptLine}
 use Rattle.pm_lock.proofs.Drawless.{drawless}
 use Rattle.pm_lock.proofs.Leading.{ready_leads}
@@ -52,7 +52,8 @@ use Rattle.pm_exec.specs.Calls.{starts_alone}
 use Rattle.pm_exec.specs.Course.{AreMade}
 use Rattle.pm_exec.specs.Links.{IsLink, WorksOn}
 use Rattle.pm_exec.proofs.PendingLists.{still_pending}
-use Rattle.pm_exec.specs.Progress.{IsAnswered, IsCommitted, IsCut, IsGivenUpAt, IsHalted, IsOver, IsRefusedAt, KeepsReserved, TransactionEnded, Values}
+use Rattle.pm_exec.specs.Replies.{IsRefusedAt, TransactionEnded, Values}
+use Rattle.pm_exec.specs.Progress.{IsAnswered, IsCommitted, IsCut, IsGivenUpAt, IsHalted, IsOver, KeepsReserved}
 use Rattle.pm_exec.specs.declared.calls.Names.{Names}
 use Rattle.pm_exec.specs.declared.ending.CallAnswer.TheVariants as answer
 
@@ -213,7 +214,7 @@ module _ (o : Opening) (first : View) (lane new : Lane Solo) (blocks : BlockList
         made = subst (λ (x : TxErr). AreMade names lines x first v) (sym (is ∙ over.fails)) over.made;
         unlocked = u;
         closed = record { led = record { steps = gives locks v; leads = on_u; uncounted = given_none; leaves = leaves_u; heap = heap_u }; undrawn = entries_u };
-        reclaims = e.reclaims;
+        given = record { reclaims = e.reclaims; left = subst (λ (bs : List Block). HasLeft bs w) keeps e.left };
       };
     }
 

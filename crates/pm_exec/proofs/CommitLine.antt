@@ -69,7 +69,8 @@ use Rattle.pm_exec.specs.Bounds.{log_due, logs_of, stores_of_call}
 use Rattle.pm_exec.specs.Calls.{stands_alone, starts_alone}
 use Rattle.pm_exec.specs.Course.{IsFree, IsLineMade, IsLineStopped, commit_calls, published_entries, spans_of}
 use Rattle.pm_exec.specs.Links.{HasPassed}
-use Rattle.pm_exec.specs.Progress.{AreToldDone, IsAtLine, IsCommitted, IsCut, IsCutAtWork, IsCutPublishing, IsDrawnAlone, IsFlying, IsFlyingBy, IsInFlight, IsToldDone, IsUndrawn, Values, done, numbered, values_told}
+use Rattle.pm_exec.specs.Replies.{AreToldDone, IsToldDone, Values, done, numbered, values_told}
+use Rattle.pm_exec.specs.Progress.{IsAtLine, IsCommitted, IsCut, IsCutAtWork, IsCutPublishing, IsDrawnAlone, IsFlying, IsFlyingBy, IsInFlight, IsUndrawn}
 use Rattle.pm_exec.specs.declared.calls.Names.{Names}
 use Rattle.pm_exec.proofs.Along.{same_along}
 use Rattle.pm_exec.proofs.AreaSteps.{StoresArea, area_alone, ends_in_area, found_where_foreseen}

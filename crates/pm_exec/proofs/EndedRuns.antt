@@ -49,8 +49,9 @@ use Rattle.pm_world.specs.declared.lane.Lane.{Lane}
 use Rattle.pm_exec.specs.Calls.{call_of}
 use Rattle.pm_exec.specs.Course.{BeginsNone, ComesToEnd, IsFinishMade, IsSpentAt}
 use Rattle.pm_exec.specs.Histories.{closed_history, open_fate, settled_fate}
-use Rattle.pm_exec.specs.Progress.{IsCut, IsCutAtWork, IsCutPublishing, IsFlying, IsInFlight, IsUndrawn, Values}
-use Rattle.pm_exec.specs.Running.{AreEntries, HasAnsweredUpTo, HasCalled, HasClosed, HasClosedBehind, HasClosedStopped, HasGivenUp, HasStopped, HasStoppedGivingUp, open_entry}
+use Rattle.pm_exec.specs.Replies.{Values, AreEntries, IsOpenEntryOf}
+use Rattle.pm_exec.specs.Progress.{IsCut, IsCutAtWork, IsCutPublishing, IsFlying, IsInFlight, IsUndrawn}
+use Rattle.pm_exec.specs.Running.{HasAnsweredUpTo, HasCalled, HasClosed, HasClosedBehind, HasClosedStopped, HasGivenUp, HasStopped, HasStoppedGivingUp, open_entry}
 use Rattle.pm_exec.specs.declared.calls.Names.{Names}
 use Rattle.pm_exec.specs.declared.running.Halt.{Halt}
 use Rattle.pm_exec.proofs.Along.{same_along}
@@ -154,6 +155,7 @@ pub record IsEnded (o : Opening) (first : View) (lane : Lane Solo) (names : Name
   pub settled : List Entry
   pub others : List Entry
   pub settled_first : history ≡ settled ++ others
+  pub unanswered : All (λ (e : Entry). IsOpenEntryOf names behind e middle last) others
   pub called : HasCalled o first names answered settled middle
   pub same : IsSameLane middle last
   pub bound : IsWalked first last (stores_of_calls names all)
@@ -222,9 +224,9 @@ module _ (o : Opening) (first : View) (names : Names) (all : List (List ScriptLi
       stopped_calls calls same = sym exact ∙ same_stop (last.calls % 2 ^ 64) calls same
 
       -- with a history whose entries are these calls'
-      ended_with : (numbered rest : List (List ScriptLine)) (full others : List Entry) → full ≡ history ++ others → all ≡ numbered ++ rest → AreShown names numbered full last.entries → length full ≤ length answered + 1
+      ended_with : (numbered rest : List (List ScriptLine)) (full others : List Entry) → full ≡ history ++ others → All (λ (e : Entry). IsOpenEntryOf names (lines ∷ behind) e before last) others → all ≡ numbered ++ rest → AreShown names numbered full last.entries → length full ≤ length answered + 1
           → ((k : ℕ) (d : Entry) → k < length full → is_answered (slice_index_or full k d).fate ≡ ltb k (length answered)) → AreFated o first last decided halt.generation full → IsEnded o first lane names all decided halt.generation full halt.end
-      ended_with numbered rest full others settled_first calls_are shown most fates fated =
+      ended_with numbered rest full others settled_first unanswered calls_are shown most fates fated =
           subst (IsEnded o first lane names all decided halt.generation full) (sym s.ends) (record {
             answered = answered;
             behind = lines ∷ behind;
@@ -233,6 +235,7 @@ module _ (o : Opening) (first : View) (names : Names) (all : List (List ScriptLi
             settled = history;
             others = others;
             settled_first = settled_first;
+            unanswered = unanswered;
             called = s.called;
             same = s.halted.cut.same;
             last = last;
@@ -267,7 +270,7 @@ module _ (o : Opening) (first : View) (names : Names) (all : List (List ScriptLi
       ended_undrawn u =
           let none : halt.is_open ≡ None = s.is_open ∙ ap (λ (x : Option ℕ). open_entry names lines x s.reply) (s.halted.numbered ∙ u.number) in
           subst (λ (x : Option Entry). IsEnded o first lane names all decided halt.generation (closed_history history x decided) halt.end) (sym none)
-          (ended_with answered (lines ∷ behind) history [] (sym (append-nil history)) are (subst (AreShown names answered history) (sym u.entries) (all_shown answered (lines ∷ behind) are history before.entries s.called.are)) (let m = many in omega (arith, m))
+          (ended_with answered (lines ∷ behind) history [] (sym (append-nil history)) (All-nil (λ (e : Entry). IsOpenEntryOf names (lines ∷ behind) e before last)) are (subst (AreShown names answered history) (sym u.entries) (all_shown answered (lines ∷ behind) are history before.entries s.called.are)) (let m = many in omega (arith, m))
           (all_answered answered (lines ∷ behind) are history before.entries s.called.are)
           (λ header pool begins keep left kept decides k d low.
           (settled_at names answered history before.entries s.called.are k d low).1 ∙ sym (ended_stays last left (slice_index_or history k d).number (inr (λ some. none-some (slice_index_or history k d).number (sym u.number ∙ some))))))
@@ -290,13 +293,6 @@ module _ (o : Opening) (first : View) (names : Names) (all : List (List ScriptLi
         open_fate_is true = refl
         open_fate_is false = refl
 
-        flying_shown : IsShownAs names lines flying (record { number = f.number; call = f.told })
-        flying_shown = record {
-          number = refl;
-          call = refl;
-          entry = λ actions. entry_open names lines (rising_next answered lines behind (subst AreRising are rising)) actions flying f.told decided refl s.halted.unanswered f.done f.gave f.begun refl;
-        }
-
         flying_fates : (k : ℕ) (d : Entry) → k < length (history ++ flying ∷ []) → is_answered (slice_index_or (history ++ flying ∷ []) k d).fate ≡ ltb k (length answered)
         flying_fates k d low = ⊎_elim
             (λ (front : k < length history). ap (λ (e : Entry). is_answered e.fate) (get_or_append_left history (flying ∷ []) d k front) ∙ all_answered answered (lines ∷ behind) are history before.entries s.called.are k d front)
@@ -313,6 +309,13 @@ module _ (o : Opening) (first : View) (names : Names) (all : List (List ScriptLi
         full_shown =
             subst (AreShown names (answered ++ lines ∷ []) full) (sym f.entries)
             (shown_more names answered history before.entries lines flying (record { number = f.number; call = f.told }) (all_shown answered (lines ∷ behind) are history before.entries s.called.are) flying_shown)
+
+        -- it is the entry of the first call that was not answered
+        open_flying : All (λ (e : Entry). IsOpenEntryOf names (lines ∷ behind) e before last) (flying ∷ [])
+        open_flying =
+            All-cons (λ (e : Entry). IsOpenEntryOf names (lines ∷ behind) e before last) flying []
+            (record { call = lines; behind = behind; are = refl; of_call = refl; told = f.told; entries = f.entries; done = f.done; gave = f.gave })
+            (All-nil (λ (e : Entry). IsOpenEntryOf names (lines ∷ behind) e before last))
 
         -- the numbers count from 1
         number_at : (k : ℕ) (d : Entry) → k < length full → (slice_index_or full k d).number ≡ k + 1
@@ -358,7 +361,7 @@ module _ (o : Opening) (first : View) (names : Names) (all : List (List ScriptLi
         pub ended_flying : IsEnded o first lane names all decided halt.generation (closed_history history halt.is_open decided) halt.end
         ended_flying =
             subst (λ (full : List Entry). IsEnded o first lane names all decided halt.generation full halt.end) (sym is_flying)
-            (ended_with (answered ++ lines ∷ []) behind (history ++ flying ∷ []) (flying ∷ []) refl (are ∙ sym (append_assoc answered (lines ∷ []) behind))
+            (ended_with (answered ++ lines ∷ []) behind (history ++ flying ∷ []) (flying ∷ []) refl open_flying (are ∙ sym (append_assoc answered (lines ∷ []) behind))
             full_shown
             (let m = many in let all = length-append history (flying ∷ []) in omega (arith, m, all)) flying_fates flying_fated)
 
@@ -454,6 +457,7 @@ module _ (o : Opening) (first : View) (names : Names) (all : List (List ScriptLi
             settled = history;
             others = [];
             settled_first = sym (append-nil history);
+            unanswered = All-nil (λ (e : Entry). IsOpenEntryOf names u.behind e middle w);
             called = u.called;
             same = same_all;
             last = w;

@@ -35,7 +35,8 @@ use Rattle.pm_exec.proofs.UndrawnSteps.{IsUndrawn, Keeps, all_undrawn_keep}
 use Rattle.pm_exec.specs.Bounds.{log_stores, logs_of, most_stores, recorded_count}
 use Rattle.pm_exec.specs.Calls.{id_of, operation_of}
 use Rattle.pm_exec.specs.Course.{IsFree, IsLineMade}
-use Rattle.pm_exec.specs.Progress.{IsAtLine, IsCut, IsToldDone, Values, done}
+use Rattle.pm_exec.specs.Replies.{IsToldDone, Values, done}
+use Rattle.pm_exec.specs.Progress.{IsAtLine, IsCut}
 use Rattle.pm_exec.specs.Torn.{words_after, words_by}
 use Rattle.pm_exec.specs.declared.calls.Names.{Names}
 

@@ -12,7 +12,8 @@ use Rattle.pm_world.specs.Opening.{Opening}
 use Rattle.pm_world.specs.declared.lane.Lane.{Lane}
 use Rattle.pm_exec.specs.Calls.{call_lines, numbers_of}
 use Rattle.pm_exec.specs.Letters.{AreInOrder, AreTold, KeepsGiven, Offsets, offset_given, offsets_of, resolved}
-use Rattle.pm_exec.specs.Running.{AreEntries, HasComeTo, HasHalted, HasHaltedIn}
+use Rattle.pm_exec.specs.Replies.{AreEntries}
+use Rattle.pm_exec.specs.Running.{HasComeTo, HasHalted, HasHaltedIn}
 use Rattle.pm_exec.specs.declared.calls.Names.{Names}
 use Rattle.pm_exec.specs.declared.running.Halt.{Halt}
 use Rattle.pm_exec.proofs.GivenLetters.{AreAbove, IsAbove, call_lines_resolved, calls_above, calls_stand, calls_stay, front_above, given_kept}

@@ -23,7 +23,7 @@ use Rattle.pm_script.specs.declared.script.ScriptWant.{ScriptWant}
 use Rattle.pm_exec.specs.Calls.{call_lines, call_of, operation_of, call_lines_from, ends_call, has_root, is_root, numbers_of, root_in, with_line}
 use Rattle.pm_exec.specs.Histories.{closed_history, open_fate}
 use Rattle.pm_exec.specs.Letters.{AreGiven, AreGivenTo, AreInOrder, AreTold, KeepsGiven, KeepsLetters, LettersKept, Offsets, is_of_line, offset_given, offset_in, offsets_in, offsets_of, resolved, resolved_id, resolved_line, resolved_op, resolved_want}
-use Rattle.pm_exec.specs.Progress.{Values}
+use Rattle.pm_exec.specs.Replies.{Values}
 use Rattle.pm_exec.specs.Running.{open_entry}
 use Rattle.pm_text.specs.declared.report.LaneEnd.TheVariants as end
 use Rattle.pm_exec.specs.declared.calls.Names.{Names}
@@ -148,9 +148,6 @@ letters_of said other a b same kept given l names before =
 pub record StandsBefore (lines : List ScriptLine) (l : ScriptLine) : Type 0 where
   pub names : NamesEarlierLines l
   pub before : All (λ (other : ScriptLine). l.line ≤ other.line) lines
-
-pub order_tail : (l : ScriptLine) (lines : List ScriptLine) → AreInOrder (l ∷ lines) → AreInOrder lines
-order_tail l lines all = all.2
 
 pub order_drop : (n : ℕ) (lines : List ScriptLine) → AreInOrder lines → AreInOrder (drop n lines)
 order_drop zero lines all = all
@@ -330,9 +327,6 @@ calls_so given ops none = none
 calls_so given ops (transaction one others t rest) =
     subst AreCalls (sym (map-append (resolved_op given) one others)) (transaction (map (resolved_op given) one) (map (resolved_op given) others) (transaction_so given one t) (calls_so given others rest))
 calls_so given ops (outside one others alone rest) = outside (resolved_op given one) (map (resolved_op given) others) (outside_resolved given one alone) (calls_so given others rest)
-
-pub calls_resolved : (given : Offsets) (lines : List ScriptLine) → AreCalls (operations lines) → AreCalls (operations (resolved given lines))
-calls_resolved given lines are = subst AreCalls (sym (operations_resolved given lines)) (calls_so given (operations lines) are)
 
 ends_so : (given : Offsets) (inside : Bool) (x : ScriptOp) → ends_call inside (resolved_op given x) ≡ ends_call inside x
 ends_so given true (op.Begin wants) = refl

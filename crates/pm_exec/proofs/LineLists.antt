@@ -4,7 +4,7 @@ use Rattle.pm_model.specs.Shown.{values_at, values_of}
 use Rattle.pm_script.specs.declared.script.ScriptLine.{ScriptLine}
 use Rattle.pm_view.specs.View.{Told, View}
 use Rattle.pm_exec.specs.Course.{IsLineMade, LinesMade}
-use Rattle.pm_exec.specs.Progress.{AreToldDone, IsToldDone, Values, values_told}
+use Rattle.pm_exec.specs.Replies.{AreToldDone, IsToldDone, Values, values_told}
 use Rattle.pm_exec.specs.Torn.{words_after, words_by}
 use Rattle.pm_exec.specs.declared.calls.Names.{Names}
 

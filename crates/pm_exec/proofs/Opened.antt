@@ -51,13 +51,6 @@ module _ (image : List ℕ) (pool : PoolView) (is : IsMeaning image pool) (words
   pub words_long : length words ≡ 512 + 1024 * pool.lanes + 33280 * pool.zones
   words_long = recovered.as_long ∙ size_of image pool is
 
-  outside_areas : (i : ℕ) → IsHeapWord pool.lanes pool.zones i → (i < area_word 0) ⊎ (area_word pool.lanes ≤ i)
-  outside_areas i (inl root) = inl (omega arith)
-  outside_areas i (inr zone) = inr zone.0
-
-  pub words_hold : HoldsPool (slice_index words) pool.lanes pool.zones is.header pool
-  words_hold = held_by_heap (recovered_at image pool.lanes) (slice_index words) pool.lanes pool.zones is.header pool (holds_image image pool is).holds (λ i heap. recovered.words i (outside_areas i heap))
-
   -- a lane alone begins
   module _ (stop : Option ℕ) where
     pub means_so : IsMeaning words pool

@@ -17,7 +17,8 @@ use Rattle.pm_exec.specs.Bounds.{most_stores, stores_of_call, stores_of_lines}
 use Rattle.pm_exec.specs.Calls.{operation_of, stands_alone}
 use Rattle.pm_exec.specs.Course.{IsOneLine}
 use Rattle.pm_exec.specs.Letters.{KeepsLetters}
-use Rattle.pm_exec.specs.Progress.{ActedOutside, IsActed, IsAnswered, Values, values_outside}
+use Rattle.pm_exec.specs.Replies.{Values, values_outside}
+use Rattle.pm_exec.specs.Progress.{ActedOutside, IsActed, IsAnswered}
 use Rattle.pm_exec.specs.declared.calls.Names.{Names}
 use Rattle.pm_exec.specs.declared.ending.CallAnswer.TheVariants as answer
 use Rattle.pm_exec.proofs.FewStores.{lines_within, walked_within}

@@ -51,7 +51,8 @@ use Rattle.pm_exec.proofs.Starts.{start_alone, start_idle}
 use Rattle.pm_exec.specs.Bounds.{most_stores}
 use Rattle.pm_exec.specs.Calls.{id_of, operation_of}
 use Rattle.pm_exec.specs.Course.{IsOutsideMade}
-use Rattle.pm_exec.specs.Progress.{ActedOutside, IsActed, IsOutsideReply, IsStart, IsUnbegun, numbered}
+use Rattle.pm_exec.specs.Replies.{IsOutsideReply, numbered}
+use Rattle.pm_exec.specs.Progress.{ActedOutside, IsActed, IsStart, IsUnbegun}
 use Rattle.pm_exec.specs.declared.calls.Names.{Names}
 
 module _ (o : Opening) (first : View) (lane new : Lane Solo) (blocks : BlockLists) (actions : PendingActions) (names : Names) (is : IsStart o lane blocks actions first) where

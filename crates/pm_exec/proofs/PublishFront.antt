@@ -31,8 +31,3 @@ pub publishing_flies : (count raised number : ℕ) (w : View) → w.number ≡ S
 publishing_flies count raised number w drawn (inl (none, inl (undrawn, logging))) = absurd (false≢true (sym undrawn ∙ ap is_some drawn))
 publishing_flies count raised number w drawn (inl (none, inr (some, unapplied))) = unapplied_flies count raised w.log.phase none unapplied
 publishing_flies count raised number w drawn (inr (one, some, applied)) = applied_flies (count + 1) raised w.log.phase one applied
-
-pub publish_flies : (v : View) (entries : List Redo) (operation : Operation) (n k number : ℕ) → v.lane ≡ 0 → MayPublish v entries → (after_all v (take k (publishes entries operation n v))).number ≡ Some number
-    → IsFlyingBy (raises (take k (publishes entries operation n v))) (after_all v (take k (publishes entries operation n v))).log.phase
-publish_flies v entries operation n k number lane may drawn =
-    let made = take k (publishes entries operation n v) in publishing_flies (length entries) (raises made) number (after_all v made) drawn (publishes_so v entries may lane operation n k)

@@ -40,7 +40,8 @@ use Rattle.pm_exec.specs.Bounds.{IsWalked, log_stores, most_stores, stores_of_ca
 use Rattle.pm_exec.specs.Calls.{operation_of}
 use Rattle.pm_exec.specs.Course.{IsFree, IsOutsideMade, IsPublishMade, IsPublishRefusal, publish_calls}
 use Rattle.pm_exec.specs.Links.{IsLink}
-use Rattle.pm_exec.specs.Progress.{ActedOutside, IsActed, IsCut, IsCutAtWork, IsCutPublishing, IsDrawnAlone, IsFlying, IsFlyingBy, IsInFlight, IsOutsideReply, IsStart, IsToldDone, IsUnbegun, done, numbered, IsUndrawn}
+use Rattle.pm_exec.specs.Replies.{IsOutsideReply, IsToldDone, done, numbered}
+use Rattle.pm_exec.specs.Progress.{ActedOutside, IsActed, IsCut, IsCutAtWork, IsCutPublishing, IsDrawnAlone, IsFlying, IsFlyingBy, IsInFlight, IsStart, IsUnbegun, IsUndrawn}
 use Rattle.pm_exec.specs.declared.calls.Names.{Names}
 use Rattle.pm_header.specs.declared.header.Header.{Header}
 use Rattle.pm_lock.proofs.Drawless.{drawless}
@@ -152,9 +153,6 @@ module _ (o : Opening) (first : View) (lane new : Lane Solo) (blocks : BlockList
   publish_is = ap (operation_of names) (sym says)
 
   module _ (h : View) (led : IsLed first h) (undrawn : h.entries ≡ first.entries) (counts : HasOwnCounts h) where
-    same_pending : pending_before h ≡ pending_before first
-    same_pending = same_before first h undrawn
-
     free : IsFree first h
     free = record { led = led; undrawn = undrawn }
 
@@ -339,7 +337,7 @@ module _ (o : Opening) (first : View) (lane new : Lane Solo) (blocks : BlockList
           is = ap (after_all h) (sym (logs_outside (map entry_of (sets_before first)) new.last h) ∙ by_lists h p.undrawn);
           unlocked = w;
           closed = record { led = p.back; undrawn = p.drawn_there };
-          given = inl refl;
+          given = inl (alone.alone, refl);
         })))
         (let two = stores_append (p.led.steps ++ made) p.back.steps in let both = stores_append p.led.steps made in let before = led_stores first h p.led in let behind = led_stores over w p.back in
         let same = ap stores_among (logs_outside (map entry_of (sets_before first)) new.last h) in let few = p.few in let count = length-map (sets_before first) entry_of in
@@ -485,7 +483,7 @@ module _ (o : Opening) (first : View) (lane new : Lane Solo) (blocks : BlockList
         is = ap (after_all h) published_here;
         unlocked = u;
         closed = record { led = record { steps = gives d.locks over; leads = on_u; uncounted = given_none; leaves = all_gives_leave d.locks over; heap = heap_u }; undrawn = entries_u };
-        given = inr d.ended.reclaims;
+        given = inr (record { reclaims = d.ended.reclaims; left = d.ended.left });
       }
 
       pub all_acted : (left : PendingActions) → IsPendingAs left none_pending → IsActed o first new blocks left names x None None

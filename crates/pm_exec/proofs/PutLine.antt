@@ -4,6 +4,7 @@ use Rattle.pm_crash.proofs.Covered.{among_tested}
 use Rattle.pm_crash.specs.CallBlocks.{block_of, blocks_in}
 use Rattle.pm_crash.specs.OpenCall.{IsUnderBlock, words_recorded}
 use Rattle.pm_crash.specs.Pending.{pending_in}
+use Rattle.pm_crash.specs.Reserving.{put_refusal}
 use Rattle.pm_crash.specs.Writes.{words_written, written_word}
 use Rattle.pm_made.specs.Made.{BlockLists}
 use Rattle.pm_memory.specs.Solo.{Sees, Solo}
@@ -42,11 +43,12 @@ use Rattle.pm_world.specs.Sequences.{Sequence, in_turn, one, stores}
 use Rattle.pm_world.specs.declared.lane.Lane.{Lane}
 use Rattle.pm_exec.specs.Bounds.{most_stores}
 use Rattle.pm_exec.specs.Calls.{id_of, operation_of}
-use Rattle.pm_exec.specs.Course.{IsLineMade, IsLineStopped, put_calls}
-use Rattle.pm_exec.specs.Progress.{IsAtLine, IsCut, IsToldDone, Values, done}
+use Rattle.pm_exec.specs.Course.{IsLineMade, IsLineStopped, put_calls, IsPutRefused}
+use Rattle.pm_exec.specs.Replies.{IsToldDone, Values, done}
+use Rattle.pm_exec.specs.Progress.{IsAtLine, IsCut}
 use Rattle.pm_exec.specs.Torn.{words_after, words_by}
 use Rattle.pm_exec.specs.declared.calls.Names.{Names}
-use Rattle.pm_exec.proofs.ActionLines.{due_still, given_by, stays, tells_freely, told_done}
+use Rattle.pm_exec.proofs.ActionLines.{due_still, given_by, stays, told_done}
 use Rattle.pm_exec.proofs.AddAndWrite.{under_outside}
 use Rattle.pm_exec.proofs.ChangeLines.{at_next_with, calm_behind, cut_in, free_u, lane_u}
 use Rattle.pm_exec.proofs.LineLists.{gave_nothing, words_more}
@@ -165,7 +167,9 @@ module _ (o : Opening) (first : View) (lane : Lane Solo) (blocks : BlockLists) (
       let t : Told = record { operation = asks; reply = Some (Refused r) } in
       told_done o first lane blocks actions names front values a new said v (stays o first lane blocks actions names front values a new said) a.works.work.working asks (Some r) refl actions
       (subst (λ (x : ScriptOp). IsToldDone names x t) (sym is) (Some r, ap (λ (i : Oid). record { operation = operation.WriteReserved i off bytes; reply = Some (Refused r) }) target_is))
-      (subst (λ (x : ScriptOp). IsLineMade names x v (after v (Tell asks (Some (Refused r))))) (sym is) (inr (tells_freely o first lane blocks actions names front values a new said asks (Some (Refused r)))))
+      (subst (λ (x : ScriptOp). IsLineMade names x v (after v (Tell asks (Some (Refused r))))) (sym is) (inr (subst (λ (x : Option Refusal). IsPutRefused (operation_of names (op.WriteReserved id off bytes)) x v (after v (Tell asks (Some (Refused r)))))
+      (sym (ap (λ (i : Oid). put_refusal v.pool (pending_in v) i off (length bytes)) (sym target_is) ∙ h.refuses.reason))
+      (ap (λ (i : Oid). after v (Tell (operation.WriteReserved i off bytes) (Some (Refused r)))) target_is))))
       no_word (λ p. refl) refl h.told.works h.told.listed level locks
 
   pub put_cut : (rest : List ScriptLine) → HasReservedRange v target off (length bytes) → IsStoppedIn Sees new v steps asks None → IsCut o first new names (front ++ said ∷ rest) values

@@ -51,20 +51,6 @@ calm_steps = record { load = λ w x. tt; flush = λ line. tt; drain = tt }
 pub quiet_by : (steps : Sequence) → HasOnly IsCalm steps → (v : View) (k : ℕ) → IsQuiet v → IsQuiet (after_all v (take k (steps v)))
 quiet_by steps only v k quiet = quiet_at v (steps v) k quiet (only v quiet.lane)
 
-calm_starts : (n : ℕ) → HasOnly IsCalm (starts n)
-unfolding starts sees_generation
-calm_starts n =
-    only_in_turn IsCalm sees_generation (one (NumberSeen n))
-    (only_by_lane IsCalm (λ lane. looks (area_word lane)) (only_looks IsCalm calm_steps (area_word 0)))
-    (only_one IsCalm (NumberSeen n) tt)
-
-calm_reads : (id : Oid) (off len : ℕ) (bytes : List ℕ) → HasOnly IsCalm (reads_range id off len bytes)
-unfolding reads_range reads
-calm_reads id off len bytes =
-    only_in_turn IsCalm (reads (id.off + off) len) (one (Tell (Read id off len) (Some (Bytes bytes))))
-    (only_looks_from IsCalm calm_steps ((id.off + off) / 8) (word_count (id.off + off) len))
-    (only_one IsCalm (Tell (Read id off len) (Some (Bytes bytes))) tt)
-
 calm_writes : (id : Oid) (off : ℕ) (bytes : List ℕ) → ((u : ℕ) → u < word_count (id.off + off) (length bytes) → is_in_area 0 ((id.off + off) / 8 + u) ≡ false) → HasOnly IsCalm (writes_range id off bytes)
 unfolding writes_range writes writes_word
 calm_writes id off bytes outside =
@@ -78,10 +64,6 @@ calm_writes id off bytes outside =
 calm_ends : (operation : Operation) (reply : Option Value) (n : ℕ) → HasOnly IsCalm (ends_call operation reply n)
 unfolding ends_call
 calm_ends operation reply n = only_in_turn IsCalm (one (Tell operation reply)) (one (Draw n)) (only_one IsCalm (Tell operation reply) tt) (only_one IsCalm (Draw n) tt)
-
-calm_gives : (locks : List HeldLock) → HasOnly IsCalm (gives locks)
-unfolding gives
-calm_gives locks = only_counted IsCalm (λ i. one (Give (line_at locks i))) (length locks) (λ i below. only_one IsCalm (Give (line_at locks i)) tt)
 
 -- the end of a generation stores that alone
 calm_retires : HasOnly IsCalm retires
@@ -291,20 +273,8 @@ module _ (v : View) (working : IsWorking v) (lane : v.lane ≡ 0) where
   unfolding gives_up
   calm_gives_up spans operation reply n are = only_in_turn IsCalm (takes_back spans) (ends_call operation reply n) (calm_takes_back spans (sym are)) (calm_ends operation reply n)
 
-pub quiet_in_start : (v : View) (n k : ℕ) → IsQuiet v → IsQuiet (after_all v (take k (starts n v)))
-quiet_in_start v n k quiet = quiet_by (starts n) (calm_starts n) v k quiet
-
-pub quiet_in_read : (v : View) (id : Oid) (off len : ℕ) (bytes : List ℕ) (k : ℕ) → IsQuiet v → IsQuiet (after_all v (take k (reads_range id off len bytes v)))
-quiet_in_read v id off len bytes k quiet = quiet_by (reads_range id off len bytes) (calm_reads id off len bytes) v k quiet
-
 pub quiet_in_write : (v : View) (id : Oid) (off : ℕ) (bytes : List ℕ) (k : ℕ) → IsQuiet v → ((u : ℕ) → u < word_count (id.off + off) (length bytes) → is_in_area 0 ((id.off + off) / 8 + u) ≡ false) → IsQuiet (after_all v (take k (writes_range id off bytes v)))
 quiet_in_write v id off bytes k quiet outside = quiet_by (writes_range id off bytes) (calm_writes id off bytes outside) v k quiet
-
--- what publishes stores no slot word where the lane may enter each entry, and there are 63 at most, so that the pairs end before the slots
-pub quiet_in_publish : (v : View) (entries : List Redo) (operation : Operation) (n k : ℕ) → IsQuiet v → length entries ≤ 63 → All (MayEnter v) entries → IsQuiet (after_all v (take k (publishes entries operation n v)))
-quiet_in_publish v entries operation n k quiet few each =
-    let steps : List Step = publishes entries operation n v in
-    quiet_all v (take k steps) quiet (each_first IsSlotless k steps (only_publishes entries operation n few (pool_sets v entries quiet.lane each) v quiet.lane))
 
 -- nor does a call that one log decides
 pub quiet_in_log : (v : View) (entries : List Redo) (operation : Operation) (n k : ℕ) → IsQuiet v → length entries ≤ 63 → All (MayEnter v) entries → IsQuiet (after_all v (take k (logs_call operation entries n v)))
@@ -323,19 +293,3 @@ quiet_in_commit v spans entries n k quiet few each =
 pub quiet_in_give_up : (v : View) (spans : List Span) (operation : Operation) (reply : Option Value) (n k : ℕ) → IsQuiet v → IsWorking v → spans ≡ map span_of v.log.records
     → IsQuiet (after_all v (take k (gives_up spans operation reply n v)))
 quiet_in_give_up v spans operation reply n k quiet working are = quiet_by (gives_up spans operation reply n) (calm_gives_up v working quiet.lane spans operation reply n are) v k quiet
-
-pub quiet_in_end : (v : View) (operation : Operation) (reply : Option Value) (n k : ℕ) → IsQuiet v → IsQuiet (after_all v (take k (ends_call operation reply n v)))
-quiet_in_end v operation reply n k quiet = quiet_by (ends_call operation reply n) (calm_ends operation reply n) v k quiet
-
-pub quiet_in_give : (v : View) (locks : List HeldLock) (k : ℕ) → IsQuiet v → IsQuiet (after_all v (take k (gives locks v)))
-quiet_in_give v locks k quiet = quiet_by (gives locks) (calm_gives locks) v k quiet
-
-pub quiet_taken : (v : View) (line : ℕ) (write won : Bool) → IsQuiet v → IsQuiet (after v (takes line write won))
-quiet_taken v line true won quiet = quiet_after v (takes line true won) quiet tt
-quiet_taken v line false won quiet = quiet_after v (takes line false won) quiet tt
-
-pub quiet_told : (v : View) (operation : Operation) (reply : Option Value) → IsQuiet v → IsQuiet (after v (Tell operation reply))
-quiet_told v operation reply quiet = quiet_after v (Tell operation reply) quiet tt
-
-pub quiet_drawn : (v : View) (n : ℕ) → IsQuiet v → IsQuiet (after v (Draw n))
-quiet_drawn v n quiet = quiet_after v (Draw n) quiet tt

@@ -70,14 +70,6 @@ none_torn_where_quiet o w image quiet k slot u low within being valid = ⊎_elim
     (λ (other : k ≢ 0). absurd (idle_writes_none o k slot (subst (λ (x : View). IsBeingWritten x slot) (alone_else o w k other) being)))
     (cases_eq k 0)
 
--- with nothing undrained and no record in the making a lane is quiet: as its call begins
-pub quiet_undrained : (w : View) → w.lane ≡ 0 → w.changes ≡ [] → MakesNone w.log.phase → IsQuiet w
-quiet_undrained w lane drained unbegun = record { lane = lane; unchanged = λ c there slots. no_member c (subst (λ (cs : List Change). Contains cs c) drained there); unbegun = unbegun }
-
--- and between calls
-pub quiet_between : (w : View) → w.lane ≡ 0 → w.changes ≡ [] → w.log ≡ no_log Idle → IsQuiet w
-quiet_between w lane drained idle = quiet_undrained w lane drained (subst (λ (l : Log). MakesNone l.phase) (sym idle) tt)
-
 -- a step of lane 0 that stores no slot word
 abbrev pub IsCalm : Step → Type 0
 IsCalm (Load w x) = Unit {0}

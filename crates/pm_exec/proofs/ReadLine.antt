@@ -38,7 +38,8 @@ use Rattle.pm_crash.specs.OpenCall.{words_recorded}
 use Rattle.pm_view.specs.Log.{Recorded}
 use Rattle.pm_exec.specs.Calls.{id_of, operation_of}
 use Rattle.pm_exec.specs.Course.{IsFree, IsLineMade}
-use Rattle.pm_exec.specs.Progress.{IsAtLine, IsCut, IsToldDone, Values}
+use Rattle.pm_exec.specs.Replies.{IsToldDone, Values}
+use Rattle.pm_exec.specs.Progress.{IsAtLine, IsCut}
 use Rattle.pm_exec.specs.Torn.{words_after, words_by}
 use Rattle.pm_exec.specs.declared.calls.Names.{Names}
 use Rattle.pm_exec.proofs.ChangeLines.{at_next, free_u, lane_u, words_u}

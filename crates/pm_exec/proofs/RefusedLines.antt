@@ -7,7 +7,8 @@ use Rattle.pm_objects.specs.declared.refusal.Refusal.{Refusal}
 use Rattle.pm_objects.specs.declared.refusal.Refusal.TheVariants as refusal
 use Rattle.pm_script.specs.declared.script.ScriptLine.{ScriptLine}
 use Rattle.pm_exec.specs.Letters.{KeepsLetters, LettersKept}
-use Rattle.pm_exec.specs.Progress.{IsRefusalGiven, Values}
+use Rattle.pm_exec.specs.Replies.{Values}
+use Rattle.pm_exec.specs.Progress.{IsRefusalGiven}
 use Rattle.pm_exec.specs.declared.lines.NotDone.{NotDone}
 use Rattle.pm_exec.specs.declared.lines.NotDone.TheVariants.{Memory, Stopped}
 use Rattle.pm_exec.proofs.GivenLetters.{letters_one, letters_same}

@@ -88,7 +88,8 @@ use Rattle.pm_exec.proofs.Starts.{start_lane, words_led}
 use Rattle.pm_exec.specs.Bounds.{making_stores, most_stores, stores_of_call, stores_of_lines}
 use Rattle.pm_exec.specs.Calls.{id_of, operation_of, stands_alone}
 use Rattle.pm_exec.specs.Course.{IsFree, IsOutsideMade, IsOutsideStopped, IsReserveMade, IsReserveRefusedOutside, put_calls}
-use Rattle.pm_exec.specs.Progress.{ActedOutside, IsActed, IsCut, IsOutsideReply, IsStart, IsUnbegun, numbered}
+use Rattle.pm_exec.specs.Replies.{IsOutsideReply, numbered}
+use Rattle.pm_exec.specs.Progress.{ActedOutside, IsActed, IsCut, IsStart, IsUnbegun}
 use Rattle.pm_exec.specs.declared.calls.Names.{Names}
 
 module _ (o : Opening) (first : View) (lane new : Lane Solo) (blocks : BlockLists) (actions : PendingActions) (names : Names) (is : IsStart o lane blocks actions first) (shape : new.shape ≡ lane.shape) where

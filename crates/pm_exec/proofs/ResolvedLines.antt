@@ -11,7 +11,8 @@ use Rattle.pm_view.specs.View.{View}
 use Rattle.pm_world.specs.Opening.{Opening}
 use Rattle.pm_world.specs.declared.lane.Lane.{Lane}
 use Rattle.pm_exec.specs.Letters.{AreInOrder, KeepsLetters, LettersKept, Offsets, offsets_in, resolved, resolved_line, resolved_op, resolved_want}
-use Rattle.pm_exec.specs.Progress.{IsNotDone, Values}
+use Rattle.pm_exec.specs.Replies.{Values}
+use Rattle.pm_exec.specs.Progress.{IsNotDone}
 use Rattle.pm_exec.specs.declared.calls.Names.{Names}
 use Rattle.pm_exec.specs.declared.lines.NotDone.{NotDone}
 use Rattle.pm_exec.specs.declared.lines.NotDone.TheVariants.{GivenUp, Memory, Spent, Stopped}
@@ -79,19 +80,6 @@ module _ (given : Offsets) (lines : List ScriptLine) (order : AreInOrder lines) 
         ∙ (ap (λ (ls : List ScriptLine). ls ++ (there ++ rest)) one_more
         ∙ (sym (append_assoc (resolved behind (take (i + 1) lines)) there rest) ∙ ap (λ (ls : List ScriptLine). ls ++ rest) all)))
         ∙ sym (append_assoc front (resolved behind lines) rest)
-
--- the parts of a transaction's lines, resolved
-pub parts_resolved : (given : Offsets) (script : List ScriptLine) → Parts script → Parts (resolved given script)
-parts_resolved given script p = record {
-  begin = resolved_line given p.begin;
-  changes = resolved given p.changes;
-  commit = resolved_line given p.commit;
-  is = ap (resolved given) p.is ∙ map-append (resolved_line given) (p.begin ∷ p.changes) (p.commit ∷ []);
-  wants = map (resolved_want given) p.wants;
-  begins = ap (resolved_op given) p.begins;
-  are = subst (All IsChange) (sym (operations_resolved given p.changes)) (all_resolved given IsChange (change_resolved given) (operations p.changes) p.are);
-  commits = ap (resolved_op given) p.commits;
-}
 
 module _ (given : Offsets) (script : List ScriptLine) (order : AreInOrder script) (p : Parts script) where
   abbrev pub slice : List ScriptLine

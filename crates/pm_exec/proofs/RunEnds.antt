@@ -44,7 +44,8 @@ use Rattle.pm_exec.specs.Course.{CallsMade}
 use Rattle.pm_exec.specs.Progress.{IsCutAtWork, IsCutPublishing, IsStart}
 use Rattle.pm_made.specs.Made.{BlockLists}
 use Rattle.pm_pending.specs.declared.pending.PendingActions.{PendingActions}
-use Rattle.pm_exec.specs.Running.{AreEntries, HasComeTo, HasClosed, MayRun, MayStart}
+use Rattle.pm_exec.specs.Replies.{AreEntries}
+use Rattle.pm_exec.specs.Running.{HasComeTo, HasClosed, MayRun, MayStart}
 use Rattle.pm_exec.specs.Runs.{IsHistoryOf, LeavesReplay, MakesCalls}
 use Rattle.pm_exec.specs.Torn.{HasNoTornMatch}
 use Rattle.pm_exec.specs.declared.calls.Names.{Names}
@@ -171,8 +172,10 @@ module _ (pool : PoolView) (words : List ℕ) (stop : Option ℕ) (script : List
         are_ended = e.settled_first;
         middle = e.middle;
         made = e.called.made;
+        told = e.called.are;
         last = e.last;
         ends = e.ends;
+        unanswered = e.unanswered;
         within = within_stop first e.last lane.memory same e.seen;
         image = image_kept;
         bound = bounded first e.last (stores_of_script names script) refl e.bound;

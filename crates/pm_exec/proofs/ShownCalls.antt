@@ -27,7 +27,7 @@ use Rattle.pm_script.specs.declared.script.ScriptOp.TheVariants.{Begin, Add, Wri
 use Rattle.pm_view.specs.View.{Told}
 use Rattle.pm_exec.specs.Calls.{call_of, numbers_of, operation_of, stands_alone, starts_alone}
 use Rattle.pm_exec.specs.Histories.{open_fate, settled_fate}
-use Rattle.pm_exec.specs.Progress.{AreToldDone, HasEnded, IsOutsideReply, IsRefusedAt, IsToldDone, OutsideEnded, TransactionEnded, Values, refused, values_outside, values_told}
+use Rattle.pm_exec.specs.Replies.{AreToldDone, HasEnded, IsOutsideReply, IsRefusedAt, IsToldDone, OutsideEnded, TransactionEnded, Values, refused, values_outside, values_told}
 use Rattle.pm_exec.specs.declared.ending.CallAnswer.{CallAnswer}
 use Rattle.pm_exec.specs.declared.ending.CallAnswer.TheVariants as answer
 use Rattle.pm_exec.specs.declared.calls.Names.{Names}
@@ -258,14 +258,6 @@ module _ (names : Names) where
     record IsShownOutside (op : Operation) (r : Option Refusal) (reply : Option Value) (gave : Option ℕ) : Type 0 where
       fate : IsFateOutside reply (settled_fate (answer.Outside r))
       values : (line : ℕ) → stands_outside op ≡ true → values_shown (line ∷ []) (record { operation = op; reply = reply } ∷ []) ≡ values_outside line gave
-
-    no_values : (b : Bool) → cond {A = Values} (b && false) [] [] ≡ []
-    no_values true = refl
-    no_values false = refl
-
-    one_value : (b : Bool) (line off : ℕ) → cond {A = Values} (b && false) [] ((line, Offset off) ∷ []) ≡ (line, Offset off) ∷ []
-    one_value true line off = refl
-    one_value false line off = refl
 
     -- a refusal gives nothing
     refused_outside : (op : Operation) (r : Refusal) → IsShownOutside op (Some r) (Some (Refused r)) None

@@ -15,7 +15,7 @@ use Rattle.pm_script.specs.declared.script.ScriptLine.{ScriptLine}
 use Rattle.pm_view.specs.View.{Numbered, View}
 use Rattle.pm_world.specs.Crash.{loses}
 use Rattle.pm_exec.specs.Calls.{call_of, numbers_of}
-use Rattle.pm_exec.specs.Running.{AreEntries}
+use Rattle.pm_exec.specs.Replies.{AreEntries}
 use Rattle.pm_exec.specs.declared.calls.Names.{Names}
 use Rattle.pm_exec.proofs.RisingCalls.{AreRising}
 use Rattle.pm_exec.proofs.ShownCalls.{entry_answered}

@@ -37,9 +37,6 @@ module _ (o : Opening) (lane : Lane Solo) (blocks : BlockLists) (actions : Pendi
   pub start_words : v.words ≡ o.words
   start_words = begins_words o is.header is.pool v is.begins
 
-  pub start_zones : o.zones ≤ 32
-  start_zones = (begins_holds o is.header is.pool v is.begins).1.has_header.has_shape.shape.zones_to
-
   -- the pool is sound
   pub start_sound : IsSound o
   start_sound = (stands_begun o is.header is.pool v is.begins).goes.world.sound

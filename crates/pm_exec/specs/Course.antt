@@ -1,8 +1,8 @@
 -- The memory calls that the lines of a script make, where one lane is alone, and where it stops: docs/FORMAT.md, "Sequences".
-use Rattle.std.specs.Prelude.{Any, ◌≡◌, ◌⊎◌, ℕ, ◌≤◌, true, List, [], ◌∷◌, ◌++◌, length, map, Option, None, Some, slice_index, ⊤}
+use Rattle.std.specs.Prelude.{Any, ◌≡◌, ◌⊎◌, ℕ, ◌≤◌, true, List, [], ◌∷◌, ◌++◌, length, map, Option, None, Some, option_map, slice_index, ⊤}
 use Rattle.pm_alloc.specs.NewObjects.{GivesNoObject, HasNewObject}
 use Rattle.pm_blocks.specs.declared.making.NoBlock.TheVariants as no_block
-use Rattle.pm_crash.specs.CallBlocks.{blocks_behind, blocks_in, no_blocks}
+use Rattle.pm_crash.specs.CallBlocks.{block_of, blocks_behind, blocks_in, no_blocks, reserved_object}
 use Rattle.pm_crash.specs.Operations.{IsMade}
 use Rattle.pm_epoch.specs.Allocating.{object_in_block, with_object_told}
 use Rattle.pm_epoch.specs.Reserving.{with_object_reserved}
@@ -10,7 +10,7 @@ use Rattle.pm_image.specs.declared.block.Block.{Block}
 use Rattle.pm_made.specs.Entries.{entries_of}
 use Rattle.pm_made.specs.Made.{BlockLists, ListsBlocks}
 use Rattle.pm_memory.specs.declared.lane_mem.Stopped.{Stopped as HasStopped}
-use Rattle.pm_reclaim.specs.Reclaims.{Reclaims}
+use Rattle.pm_reclaim.specs.Reclaims.{HasLeft, Reclaims}
 use Rattle.pm_memory.specs.Runs.{Stops}
 use Rattle.pm_objects.specs.declared.history.Value.TheVariants.{Refused}
 use Rattle.pm_objects.specs.declared.history.Entry.{Entry}
@@ -43,10 +43,10 @@ use Rattle.pm_exec.specs.Histories.{settled_fate}
 use Rattle.pm_exec.specs.declared.calls.Names.{Names}
 use Rattle.pm_crash.specs.OnActions.{defer_refusal, set_refusal}
 use Rattle.pm_crash.specs.Reserving.{IsReserveReason, put_refusal}
-use Rattle.pm_crash.specs.Pending.{pending_before, published_in, sets_before}
+use Rattle.pm_crash.specs.Pending.{pending_before, pending_in, published_in, sets_before}
 use Rattle.pm_action.specs.Canceling.{cancels_outside, finishes}
 use Rattle.pm_action.specs.Holding.{Overruns}
-use Rattle.pm_model.specs.Actions.{Pending, none_pending, pending_count, wants_pending}
+use Rattle.pm_model.specs.Actions.{Pending, none_pending, only_sets, pending_count, wants_pending}
 use Rattle.pm_objects.specs.declared.calls.Operation.{Operation}
 use Rattle.pm_objects.specs.declared.calls.Operation.TheVariants as operation
 use Rattle.pm_pending.specs.Pending.{entry_of}
@@ -127,8 +127,17 @@ pub record IsCommitMade (v w : View) : Type 0 where
   pub number : ℕ
   pub made : IsMadeBy (commit_calls blocks number) v w
 
--- the line was done: a begin, a read, a free, a free that is deferred, a set and a publish make no counted calls, nor does an add of an object that the call made,
--- nor a reservation or a put that is refused
+-- an operation on what is pending was told, done or refused so, and nothing else was done
+abbrev pub IsToldSo : Operation → Option Refusal → View → View → Type 0
+IsToldSo op r v w = w ≡ after v (Tell op (option_map Refused r))
+
+-- a write into what is reserved was refused so, for what is pending
+abbrev pub IsPutRefused : Operation → Option Refusal → View → View → Type 0
+IsPutRefused op None v w = ⊥
+IsPutRefused op (Some r) v w = IsToldSo op (Some r) v w
+
+-- the line was done: a begin, a read, a free and a publish make no counted calls, nor does an add of an object that the call made; a free that is deferred and a set are
+-- told alone, with the plain model's refusal if there is one, and so are a reservation and a put that are refused
 abbrev pub IsLineMade : Names → ScriptOp → View → View → Type 0
 IsLineMade names (Begin wants) v w = IsFree v w
 IsLineMade names (Add id off len) v w = IsMadeBy (add_calls names id off len) v w ⊎ (IsMade v (id_of names id) × IsFree v w)
@@ -136,10 +145,11 @@ IsLineMade names (Write id off bytes) v w = IsMadeBy (write_calls names id off b
 IsLineMade names (Read id off len) v w = IsFree v w
 IsLineMade names (Alloc letter size kind) v w = IsObjectMade size kind v w
 IsLineMade names (Free id) v w = IsFree v w
-IsLineMade names (Reserve letter size kind) v w = IsObjectReserved size kind v w ⊎ ((r : Refusal) × IsReserveRefused size kind r v w)
-IsLineMade names (WriteReserved id off bytes) v w = IsMadeBy (put_calls names id off bytes) v w ⊎ IsFree v w
-IsLineMade names (DeferFree id) v w = IsFree v w
-IsLineMade names (Set id off value) v w = IsFree v w
+IsLineMade names (Reserve letter size kind) v w = IsObjectReserved size kind v w ⊎ ((r : Refusal) × IsReserveReason (pending_in v) size r × IsReserveRefused size kind r v w)
+IsLineMade names (WriteReserved id off bytes) v w =
+    IsMadeBy (put_calls names id off bytes) v w ⊎ IsPutRefused (operation_of names (WriteReserved id off bytes)) (put_refusal v.pool (pending_in v) (id_of names id) off (length bytes)) v w
+IsLineMade names (DeferFree id) v w = IsToldSo (operation_of names (DeferFree id)) (defer_refusal (pending_in v)) v w
+IsLineMade names (Set id off value) v w = IsToldSo (operation_of names (Set id off value)) (set_refusal off (pending_in v)) v w
 IsLineMade names Publish v w = IsFree v w
 IsLineMade names Cancel v w = IsMadeBy cancels_pending v w
 IsLineMade names Commit v w = IsCommitMade v w
@@ -188,17 +198,26 @@ AreMade names lines error.None v w = LinesMade names lines v w
 AreMade names lines (error.Refused r) v w = IsRefusedIn names lines r v w
 AreMade names lines e v w = ⊥
 
--- a transaction was answered with this error: its lines were made, its locks given back, and then what it had reserved or freed of which no word says that it
--- is taken
+-- the blocks of all that is reserved and pending
+abbrev pub blocks_reserved : Pending → List Block
+blocks_reserved p = map block_of (map reserved_object p.reserved)
+
+-- What the lane had reserved or freed was given back where no word says that it is taken, but for these blocks: each occupancy word has what the words say is taken, and
+-- what is of these blocks, and nothing else
+pub record IsRestGivenBack (kept : List Block) (v w : View) : Type 0 where
+  pub reclaims : Reclaims v w
+  pub left : HasLeft kept w
+
+-- a transaction was answered with this error: its lines were made, its locks given back, and then its blocks, but for those of what is reserved and pending still
 pub record IsTransactionMade (names : Names) (lines : List ScriptLine) (e : TxErr) (v w : View) : Type 0 where
   pub over : View
   pub made : AreMade names lines e v over
   pub unlocked : View
   pub closed : IsFree over unlocked
-  pub reclaims : Reclaims unlocked w
+  pub given : IsRestGivenBack (blocks_reserved (pending_before over)) unlocked w
 
 -- what is pending was published outside of a transaction: locks were taken, all was made persistent, the entries of the words, of the frees and of what was reserved
--- were logged and performed, and the locks given back; then the blocks that were freed
+-- were logged and performed, and the locks given back; then the blocks that were freed, where there were any changes of blocks
 pub record IsPublishMade (v w : View) : Type 0 where
   pub start : View
   pub free : IsFree v start
@@ -210,7 +229,7 @@ pub record IsPublishMade (v w : View) : Type 0 where
   pub is : over ≡ after_all start (publish_calls blocks number start)
   pub unlocked : View
   pub closed : IsFree over unlocked
-  pub given : (w ≡ unlocked) ⊎ Reclaims unlocked w
+  pub given : ((pending_before v ≡ only_sets (sets_before v)) × (w ≡ unlocked)) ⊎ IsRestGivenBack [] unlocked w
 
 -- an object was reserved outside of a transaction, as all of a call, which drew a number
 pub record IsReserveMade (size kind : ℕ) (v w : View) : Type 0 where

@@ -8,6 +8,7 @@ pub mod Opening
 pub mod Openings
 pub mod Progress
 pub mod Quiet
+pub mod Replies
 pub mod Running
 pub mod Runs
 pub mod Torn

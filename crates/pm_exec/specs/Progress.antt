@@ -1,6 +1,5 @@
 -- How far a call of a run has come: for the crate's own functions.
-use Rattle.std.specs.Prelude.{◌≡◌, ◌⊎◌, ℕ, ◌+◌, ◌*◌, ◌/◌, ◌<◌, ◌≤◌, false, List, [], ◌∷◌, ◌++◌, map, slice_index, take, Option, None, Some, Result, Ok, Err, alloc_error, ⊤}
-use Rattle.std.specs.List.{AllZip}
+use Rattle.std.specs.Prelude.{◌≡◌, ◌⊎◌, ℕ, ◌+◌, ◌≤◌, false, List, [], ◌∷◌, ◌++◌, map, slice_index, take, Option, None, Some, Result, Ok, Err, alloc_error, ⊤}
 use Rattle.pm_crash.specs.Alone.{Begins, raises, standing}
 use Rattle.pm_crash.specs.Leading.{Leads}
 use Rattle.pm_crash.specs.OpenCall.{IsUnderBlock}
@@ -10,27 +9,24 @@ use Rattle.pm_header.specs.declared.header.Header.{Header}
 use Rattle.pm_image.specs.Logs.{generation_word}
 use Rattle.pm_made.specs.Made.{BlockLists}
 use Rattle.pm_memory.specs.Solo.{Sees, Solo}
-use Rattle.pm_model.specs.Checks.{is_action}
 use Rattle.pm_model.specs.Names.{is_refusal}
-use Rattle.pm_model.specs.Shown.{answer_of, values_of}
-use Rattle.pm_objects.specs.declared.calls.Operation.{Operation}
+use Rattle.pm_model.specs.Shown.{answer_of}
 use Rattle.pm_objects.specs.declared.calls.Operation.TheVariants as operation
 use Rattle.pm_objects.specs.declared.history.Reply.{Reply}
 use Rattle.pm_objects.specs.declared.history.TxErr.{TxErr}
 use Rattle.pm_objects.specs.declared.history.TxErr.TheVariants as error
 use Rattle.pm_objects.specs.declared.history.Value.{Value}
-use Rattle.pm_objects.specs.declared.history.Value.TheVariants.{Bytes, Offset, Refused}
+use Rattle.pm_objects.specs.declared.history.Value.TheVariants.{Refused}
 use Rattle.pm_objects.specs.declared.ids.Oid.{Oid}
 use Rattle.pm_objects.specs.declared.pool.PoolView.{PoolView}
 use Rattle.pm_objects.specs.declared.refusal.Refusal.{Refusal}
 use Rattle.pm_objects.specs.declared.refusal.Refusal.TheVariants as refusal
 use Rattle.pm_script.specs.declared.script.ScriptLine.{ScriptLine}
 use Rattle.pm_script.specs.declared.script.ScriptOp.{ScriptOp}
-use Rattle.pm_script.specs.declared.script.ScriptOp.TheVariants.{Alloc, DeferFree, Read, Reserve, Set, WriteReserved}
 use Rattle.pm_blocks.specs.NewRuns.{IsThere}
 use Rattle.pm_lock.specs.Finding.{FindsObjects}
 use Rattle.pm_lock.specs.Leading.{DrawEnded}
-use Rattle.pm_lock.specs.Resting.{IsAtRest, IsFresh}
+use Rattle.pm_lock.specs.Resting.{IsAtRest}
 use Rattle.pm_layout.specs.declared.shape.Shape.{Shape}
 use Rattle.pm_transaction.specs.AtWork.{AreForPool, IsAtWorkWith, IsNotMaking}
 use Rattle.pm_transaction.specs.Resting.{StandsAtRest}
@@ -47,7 +43,7 @@ use Rattle.pm_view.specs.Log.{no_log}
 use Rattle.pm_view.specs.Log.{Phase}
 use Rattle.pm_view.specs.Log.Phase.{Applying, Clearing, Drawn, Idle, Retiring, Sealing}
 use Rattle.pm_view.specs.Steps.{Step}
-use Rattle.pm_view.specs.View.{Numbered, Told, View}
+use Rattle.pm_view.specs.View.{Told, View}
 use Rattle.pm_view.specs.Views.{after_all}
 use Rattle.pm_world.specs.Opening.{Opening}
 use Rattle.pm_world.specs.Records.{generation_of}
@@ -55,10 +51,11 @@ use Rattle.pm_world.specs.Sequences.{Ready}
 use Rattle.pm_world.specs.declared.lane.Lane.{Lane}
 use Rattle.pm_world.specs.declared.lane.Span.{Span}
 use Rattle.pm_exec.specs.Bounds.{IsWalked, log_due, most_stores, recorded_count, stores_of_call, stores_of_lines}
-use Rattle.pm_exec.specs.Calls.{id_of, numbers_of, operation_of, stands_alone, starts_alone}
-use Rattle.pm_exec.specs.Course.{AreMade, IsCallMade, IsFree, IsOneLine, IsOutsideMade, IsStoppedInCall, IsUsedUp, LinesMade, spans_of}
+use Rattle.pm_exec.specs.Calls.{numbers_of, operation_of, stands_alone}
+use Rattle.pm_exec.specs.Course.{AreMade, IsCallMade, IsFree, IsOutsideMade, IsStoppedInCall, IsUsedUp, LinesMade, spans_of}
 use Rattle.pm_exec.specs.Links.{HasPassed, IsLink}
 use Rattle.pm_exec.specs.Quiet.{IsQuiet}
+use Rattle.pm_exec.specs.Replies.{AreToldDone, HasEnded, IsOutsideReply, IsRefusedAt, Values, numbered, values_told}
 use Rattle.pm_exec.specs.Torn.{words_after}
 use Rattle.pm_exec.specs.declared.calls.Names.{Names}
 use Rattle.pm_exec.specs.declared.ending.CallEnd.{CallEnd}
@@ -67,49 +64,9 @@ use Rattle.pm_exec.specs.declared.lines.NotDone.{NotDone}
 use Rattle.pm_exec.specs.declared.lines.NotDone.TheVariants.{GivenUp, Stopped, Spent, Memory}
 use Rattle.pm_exec.specs.declared.ending.CallAnswer.{CallAnswer}
 use Rattle.pm_exec.specs.declared.ending.CallAnswer.TheVariants as answer
-use Rattle.pm_model.specs.Actions.{Pending}
 use Rattle.pm_pending.specs.AllPending.{IsPendingAs}
 use Rattle.pm_pending.specs.declared.pending.PendingActions.{PendingActions}
-use Rattle.std.specs.Prelude.{◌%◌, All, option_map}
-
--- what lines gave
-abbrev pub Values : Type 0
-Values = List (ℕ × Value)
-
--- an operation that was done without a value, and one that was refused so
-abbrev pub done : Operation → Told
-done op = record { operation = op; reply = None }
-
-abbrev pub refused : Operation → Refusal → Told
-refused op r = record { operation = op; reply = Some (Refused r) }
-
--- the operation was done without a value, or refused, which aborts nothing
-abbrev pub IsToldOrRefused : Operation → Told → Type 0
-IsToldOrRefused op t = (r : Option Refusal) × (t ≡ record { operation = op; reply = option_map Refused r })
-
--- the operation of a line was done: a read gave bytes, an object that was made or reserved its offset, and another gave nothing; what changes what is pending, but a
--- publish and a cancel, may give its refusal
-abbrev pub IsToldDone : Names → ScriptOp → Told → Type 0
-IsToldDone names (Set id off value) t = IsToldOrRefused (operation.SetValue (id_of names id) off value) t
-IsToldDone names (DeferFree id) t = IsToldOrRefused (operation.DeferFree (id_of names id)) t
-IsToldDone names (WriteReserved id off bytes) t = IsToldOrRefused (operation.WriteReserved (id_of names id) off bytes) t
-IsToldDone names (Reserve letter size kind) t =
-    ((off : ℕ) × (t ≡ record { operation = operation.Reserve size kind; reply = Some (Offset off) })) ⊎ ((r : Refusal) × (t ≡ refused (operation.Reserve size kind) r))
-IsToldDone names (Read id off len) t = (bytes : List ℕ) × (t ≡ record { operation = operation.Read (id_of names id) off len; reply = Some (Bytes bytes) })
-IsToldDone names (Alloc letter size kind) t = (off : ℕ) × (t ≡ record { operation = operation.Alloc size kind; reply = Some (Offset off) })
-IsToldDone names op t = t ≡ done (operation_of names op)
-
--- these lines were done
-abbrev pub AreToldDone : Names → List ScriptLine → List Told → Type 0
-AreToldDone names lines told = AllZip (λ (line : ScriptLine) (t : Told). IsToldDone names line.operation t) lines told
-
--- what they gave
-abbrev pub values_told : List ScriptLine → List Told → Values
-values_told lines told = values_of (numbers_of lines) (map model_told told)
-
--- a call as it is numbered
-abbrev pub numbered : ℕ → List Told → Numbered
-numbered n told = record { number = n; call = told }
+use Rattle.std.specs.Prelude.{All}
 
 -- The lane, in a pool of this shape, makes no object now, and what it has reserved stands. Wherever it began, it rests with that: as its next call begins it is between
 -- two calls
@@ -285,19 +242,6 @@ pub record IsUnbegun (first : View) (lane : Lane Solo) (actions : PendingActions
   pub rests : IsAtRest Sees lane view
   pub pending : IsPendingAs actions (pending_before first)
 
--- some of the lines was refused so, and has this number; those before it were done, gave these values, and came to this with it
-pub record IsRefusedAt (names : Names) (lines : List ScriptLine) (line : ℕ) (r : Refusal) (values : Values) (told : List Told) : Type 0 where
-  pub front : List ScriptLine
-  pub said : ScriptLine
-  pub rest : List ScriptLine
-  pub is_lines : lines ≡ front ++ said ∷ rest
-  pub of_line : said.line ≡ line
-  pub gives_up : is_action (operation_of names said.operation) ≡ false
-  pub before : List Told
-  pub done : AreToldDone names front before
-  pub gave : values ≡ values_told front before
-  pub told_so : told ≡ before ++ refused (operation_of names said.operation) r ∷ []
-
 -- its call was given up at this line
 pub record IsGivenUpAt (o : Opening) (first : View) (lane : Lane Solo) (blocks : BlockLists) (actions : PendingActions) (names : Names) (lines : List ScriptLine) (values : Values) (line : ℕ) (r : Refusal) : Type 0 where
   pub told : List Told
@@ -334,39 +278,6 @@ pub record IsCommitted (o : Opening) (first : View) (lane : Lane Solo) (blocks :
 abbrev pub CameTo : {T : Type 0} → Opening → View → Lane Solo → BlockLists → PendingActions → Names → List ScriptLine → Values → Result T NotDone → Type 0
 CameTo o first lane blocks actions names lines values (Ok answer) = IsCommitted o first lane blocks actions names lines values
 CameTo o first lane blocks actions names lines values (Err why) = IsNotDone o first lane blocks actions names lines values why
-
--- how an answered transaction of these lines ended, with what it gave: all were done, or one was refused
-abbrev pub TransactionEnded : Names → List ScriptLine → TxErr → Reply → List Told → Type 0
-TransactionEnded names lines e reply told = (starts_alone lines ≡ false) × (
-    ((e ≡ error.None) × (reply.at ≡ 0) × AreToldDone names lines told × (reply.values ≡ values_told lines told))
-    ⊎ ((r : Refusal) × (e ≡ error.Refused r) × IsRefusedAt names lines reply.at r reply.values told))
-
--- the reply of a call outside of a transaction, of one operation, that was done, or refused so, and what its line gave then: a reservation its offset, another nothing
-abbrev pub IsOutsideReply : Operation → Option Refusal → Option Value → Option ℕ → Type 0
-IsOutsideReply op (Some r) reply gave = (reply ≡ Some (Refused r)) × (gave ≡ None)
-IsOutsideReply (operation.Reserve size kind) None reply gave = (off : ℕ) × ((reply ≡ Some (Offset off)) × (gave ≡ Some off))
-IsOutsideReply op None reply gave = (reply ≡ None) × (gave ≡ None)
-
--- what the line gave, as a list of values
-abbrev pub values_outside : ℕ → Option ℕ → Values
-values_outside line None = []
-values_outside line (Some off) = (line, Offset off) ∷ []
-
--- how a call outside of a transaction ended, of one line: it was done, or refused so
-pub record OutsideEnded (names : Names) (lines : List ScriptLine) (r : Option Refusal) (reply : Reply) (told : List Told) : Type 0 where
-  pub op : ScriptOp
-  pub one : IsOneLine lines op
-  pub at : reply.at ≡ 0
-  pub answer : Option Value
-  pub gave : Option ℕ
-  pub replies : IsOutsideReply (operation_of names op) r answer gave
-  pub values : reply.values ≡ values_outside one.line.line gave
-  pub told_so : told ≡ record { operation = operation_of names op; reply = answer } ∷ []
-
--- how an answered call of these lines ended
-abbrev pub HasEnded : Names → List ScriptLine → CallAnswer → Reply → List Told → Type 0
-HasEnded names lines (answer.Transaction e) reply told = TransactionEnded names lines e reply told
-HasEnded names lines (answer.Outside r) reply told = OutsideEnded names lines r reply told
 
 -- the call was answered, a link of its run, and the lane rests again
 pub record IsAnswered (o : Opening) (first : View) (lane : Lane Solo) (blocks : BlockLists) (actions : PendingActions) (names : Names) (lines : List ScriptLine) (number : ℕ) (a : CallAnswer) (reply : Reply) : Type 0 where

@@ -1,5 +1,5 @@
 -- How far a run has come, call by call: for the crate's own functions.
-use Rattle.std.specs.Prelude.{◌≡◌, ◌⊎◌, ℕ, ◌%◌, ◌^◌, List, [], ◌∷◌, ◌++◌, slice_index, Option, None, Some, ⊤, ◌<◌}
+use Rattle.std.specs.Prelude.{◌≡◌, ◌⊎◌, ℕ, ◌%◌, ◌^◌, List, [], ◌∷◌, ◌++◌, slice_index, Option, None, Some, ◌<◌}
 use Rattle.pm_crash.specs.Alone.{Begins, Rests, standing}
 use Rattle.pm_header.specs.declared.header.Header.{Header}
 use Rattle.pm_memory.specs.Solo.{Sees, Solo}
@@ -18,7 +18,7 @@ use Rattle.pm_transaction.specs.AtWork.{AreForPool}
 use Rattle.pm_view.specs.Constants.{IsSameLane}
 use Rattle.pm_view.specs.Log.{no_log}
 use Rattle.pm_view.specs.Log.Phase.{Idle}
-use Rattle.pm_view.specs.View.{Numbered, View}
+use Rattle.pm_view.specs.View.{View}
 use Rattle.pm_world.specs.Lanes.{IsOfShape}
 use Rattle.pm_world.specs.Opening.{Opening}
 use Rattle.pm_world.specs.Records.{generation_of}
@@ -26,29 +26,14 @@ use Rattle.pm_world.specs.declared.lane.Lane.{Lane}
 use Rattle.pm_exec.specs.Bounds.{IsWalked, stores_of_calls}
 use Rattle.pm_exec.specs.Calls.{call_of, numbers_of}
 use Rattle.pm_exec.specs.Course.{CallsMade, IsFinishMade, IsFree, IsFrontOf, IsSpentAt}
-use Rattle.pm_exec.specs.Histories.{settled_fate}
-use Rattle.pm_exec.specs.Progress.{HasEnded, IsHalted, IsStart, IsUnbegun, KeepsReserved}
+use Rattle.pm_exec.specs.Replies.{AreEntries}
+use Rattle.pm_exec.specs.Progress.{IsHalted, IsStart, IsUnbegun, KeepsReserved}
 use Rattle.pm_exec.specs.declared.calls.Names.{Names}
 use Rattle.pm_exec.specs.declared.running.Halt.{Halt}
 use Rattle.pm_crash.specs.Pending.{pending_before}
 use Rattle.pm_model.specs.Actions.{none_pending}
 use Rattle.pm_pending.specs.AllPending.{IsPendingAs}
-use Rattle.pm_exec.specs.declared.ending.CallAnswer.{CallAnswer}
 use Rattle.pm_pending.specs.declared.pending.PendingActions.{PendingActions}
-
--- the entry of an answered call of these lines, as the lane's view has the call
-pub record IsEntryOf (names : Names) (lines : List ScriptLine) (e : Entry) (n : Numbered) : Type 0 where
-  pub number : e.number ≡ n.number
-  pub call : e.call ≡ call_of names lines
-  pub answer : CallAnswer
-  pub ended : HasEnded names lines answer e.reply n.call
-  pub fate : e.fate ≡ settled_fate answer
-
--- these calls were answered: each has its entry
-abbrev pub AreEntries : Names → List (List ScriptLine) → List Entry → List Numbered → Type 0
-AreEntries names [] [] [] = ⊤
-AreEntries names (call ∷ calls) (e ∷ history) (n ∷ entries) = IsEntryOf names call e n × AreEntries names calls history entries
-AreEntries names calls history entries = ⊥
 
 -- these calls were answered, one after another from the first view, and led to this view. Wherever the lane began, it begins again here, over words
 -- that have the opening's header page

@@ -21,6 +21,7 @@ use Rattle.pm_exec.specs.Bounds.{IsBounded, stores_of_script}
 use Rattle.pm_exec.specs.Calls.{names_of, script_calls, call_lines}
 use Rattle.pm_exec.specs.Course.{CallsMade, ComesToEnd}
 use Rattle.pm_exec.specs.Openings.{first_view, opening_of}
+use Rattle.pm_exec.specs.Replies.{AreEntries, IsOpenEntryOf}
 
 -- the history has the first of the script's calls, in order, and all of them where the lane ended; each was answered where the lane did not
 -- stop; and where it did, it made as many counted calls as its stop number says
@@ -53,8 +54,12 @@ pub record MakesCalls (words : List ℕ) (pool : PoolView) (script : List Script
   pub are_ended : history ≡ ended ++ rest
   pub middle : View
   pub made : CallsMade (names_of pool) answered ended (first_view pool words stop) middle
+  -- each entry has what its call told, as the lane made it
+  pub told : AreEntries (names_of pool) answered ended middle.entries
   pub last : View
   pub ends : ComesToEnd (names_of pool) behind lane_end middle last
+  -- and so has that of the call in which the lane stopped, if it drew a number
+  pub unanswered : All (λ (e : Entry). IsOpenEntryOf (names_of pool) behind e middle last) rest
   pub within : (n : ℕ) → stop ≡ Some n → last.calls ≤ n
   pub image : IsKeptImage keep last.words (last.changes ∷ []) written
   -- the calls that drew a number are the history's, and those that were made whole are answered, and no other

@@ -7,7 +7,8 @@ ghost use Rattle.pm_view.specs.View.{View};
 ghost use Rattle.pm_world.specs.Opening.{Opening};
 ghost use Rattle.pm_exec.specs.Calls.{id_of, stands_alone};
 ghost use Rattle.pm_exec.specs.Letters.{LettersKept};
-ghost use Rattle.pm_exec.specs.Progress.{IsAtLine, IsLaneAtLine, IsLaneWith, IsNotDone, IsRefusalGiven, Values};
+ghost use Rattle.pm_exec.specs.Replies.{Values};
+ghost use Rattle.pm_exec.specs.Progress.{IsAtLine, IsLaneAtLine, IsLaneWith, IsNotDone, IsRefusalGiven};
 
 use crate::calls::{Names, action_of, id_of};
 use crate::lines::{NotDone, not_done};
@@ -16,7 +17,7 @@ use pm_memory::SoloMem;
 use pm_objects::{Refusal, Value};
 use pm_pending::{PendingActions, SetAction};
 use pm_script::{ScriptId, ScriptLine, ScriptOp};
-use pm_transaction::{cancel, defer_free, publish_all, reserve, set_value, write_reserved};
+use pm_transaction::{cancel, defer_free, publish, reserve, set_value, write_reserved};
 use pm_world::Lane;
 
 /// Adds the reason why the line with this number was refused to what the lines gave: that aborts nothing. The lane's stop alone ends them.
@@ -143,7 +144,7 @@ fn publish_at(
     ensures ends { IfErr result (λ why. (o : Opening) (first : View) (names : Names) (front rest : List ScriptLine) (values : Values) → IsAtLine o first lane.old blocks.old pending.old names front values
         → IsNotDone o first lane.new blocks.new pending.new names (front ++ said.now ∷ rest) values why) }
 {
-    match publish_all(lane, blocks, pending) {
+    match publish(lane, blocks, pending) {
         Ok(()) => Ok(()),
         Err(why) => Err(not_done(said.line, why)),
     }

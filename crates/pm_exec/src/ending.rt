@@ -16,7 +16,8 @@ ghost use Rattle.pm_world.specs.Opening.{Opening};
 ghost use Rattle.pm_exec.specs.Histories.{open_fate, settled_fate};
 ghost use Rattle.pm_exec.specs.Calls.{IsCall, stands_alone};
 ghost use Rattle.pm_exec.specs.Letters.{AreInOrder, KeepsLetters, offsets_in, resolved};
-ghost use Rattle.pm_exec.specs.Progress.{HasCome, IsOver, IsStart, TransactionEnded, values_given, values_outside};
+ghost use Rattle.pm_exec.specs.Replies.{TransactionEnded, values_outside};
+ghost use Rattle.pm_exec.specs.Progress.{HasCome, IsOver, IsStart, values_given};
 
 use crate::acting::act_outside;
 use crate::calls::{Names, stands_alone};

@@ -12,7 +12,8 @@ ghost use Rattle.pm_view.specs.View.{View};
 ghost use Rattle.pm_world.specs.Opening.{Opening};
 ghost use Rattle.pm_exec.specs.Calls.{id_of, stands_alone, want_of};
 ghost use Rattle.pm_exec.specs.Letters.{AreInOrder, LettersKept, offsets_in, resolved};
-ghost use Rattle.pm_exec.specs.Progress.{CameTo, IsAtLine, IsStart, IsLaneAtLine, IsLaneWith, IsNotDone, Values, not_done};
+ghost use Rattle.pm_exec.specs.Replies.{Values};
+ghost use Rattle.pm_exec.specs.Progress.{CameTo, IsAtLine, IsStart, IsLaneAtLine, IsLaneWith, IsNotDone, not_done};
 ghost use Rattle.pm_exec.specs.declared.lines.NotDone.TheVariants.{Memory};
 
 use crate::actions::act_at;

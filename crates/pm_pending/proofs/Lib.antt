@@ -1,3 +1,2 @@
-pub mod Refused
 pub mod AllRefused
 pub mod AreReserved

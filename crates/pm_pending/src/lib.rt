@@ -9,7 +9,7 @@
 mod actions;
 mod pending;
 
-pub use actions::{MAX_ACTIONS, SetAction, list_entries, pend};
+pub use actions::{MAX_ACTIONS, SetAction, list_entries};
 pub use pending::{PendingActions, Reserved};
 
 #[cfg(test)]

@@ -25,14 +25,14 @@ fn root_word() -> SetAction
 /// An action is listed behind the others; one at no multiple of eight bytes is refused.
 #[test]
 fn pends(rt: HostRuntime) -> Result<(), Fail> {
-    let mut actions: ArrayVec<SetAction, 63> = ArrayVec::new();
-    assert_eq!(rt; pend(&mut actions, root_word()), Ok(()));
+    let mut list = PendingActions::new();
+    assert_eq!(rt; list.set(root_word()), Ok(()));
     let odd = SetAction {
         off: 4,
         ..root_word()
     };
-    assert_eq!(rt; pend(&mut actions, odd), Err(Refusal::Unaligned));
-    assert_eq!(rt; actions.as_slice(), [root_word()].as_slice());
+    assert_eq!(rt; list.set(odd), Err(Refusal::Unaligned));
+    assert_eq!(rt; list.sets.as_slice(), [root_word()].as_slice());
     Ok(())
 }
 

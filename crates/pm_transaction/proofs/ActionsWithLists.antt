@@ -1,13 +1,10 @@
 -- Behind an operation that tells nothing of the heap, and makes no memory call or only settles, a lane has its lists still.
-use Rattle.std.proofs.Common.{◌≡◌, ℕ, List, [], ◌∷◌, Contains, slice_index, Option, None, Some, option_map, refl, sym, ◌∙◌, ap, subst}
+use Rattle.std.proofs.Common.{◌≡◌, ℕ, List, [], ◌∷◌, Contains, slice_index, Option, None, refl, sym, ◌∙◌, ap, subst}
 use Rattle.pm_image.specs.Blocks.{chunk_word, descriptor_word}
 use Rattle.pm_made.specs.Made.{BlockLists}
 use Rattle.pm_objects.specs.declared.calls.Operation.{Operation}
-use Rattle.pm_objects.specs.declared.calls.Operation.TheVariants.{Cancel, SetValue}
-use Rattle.pm_objects.specs.declared.ids.Oid.{Oid}
+use Rattle.pm_objects.specs.declared.calls.Operation.TheVariants.{Cancel}
 use Rattle.pm_objects.specs.declared.history.Value.{Value}
-use Rattle.pm_objects.specs.declared.history.Value.TheVariants.{Refused}
-use Rattle.pm_objects.specs.declared.refusal.Refusal.{Refusal}
 use Rattle.pm_view.proofs.Sequences.{after_all-append}
 use Rattle.pm_view.specs.Steps.Step.{Tell}
 use Rattle.pm_view.specs.View.{View}
@@ -45,12 +42,6 @@ module _ {M : Type 0} (o : Opening) (at : M → View → Type 0) (lane next : La
   pub told_with_lists : (op : Operation) (reply : Option Value) → blocks_in (after v (Tell op reply)) ≡ blocks_in v → LeavesReserved op reply (pending_in v) → ((root : Option ℕ) → TellsOfRoot root op reply (pending_in v))
       → IsAtWork o at next (after v (Tell op reply)) → IsAtWorkWith o at next blocks (after v (Tell op reply))
   told_with_lists op reply same none no_root work = with_lists o at next blocks (after v (Tell op reply)) work (keeps_behind_tell next.locks.items blocks v keeps_as op reply same none no_root)
-
-  pub set_with_lists : (id : Oid) (off value : ℕ) (refused : Option Refusal) → IsAtWork o at next (after v (Tell (SetValue id off value) (option_map Refused refused)))
-      → IsAtWorkWith o at next blocks (after v (Tell (SetValue id off value) (option_map Refused refused)))
-  set_with_lists id off value None work = told_with_lists (SetValue id off value) None (blocks_once_more v (after v (Tell (SetValue id off value) None)) (SetValue id off value) None refl refl) (refl, refl) (λ root. tt) work
-  set_with_lists id off value (Some r) work =
-      told_with_lists (SetValue id off value) (Some (Refused r)) (blocks_once_more v (after v (Tell (SetValue id off value) (Some (Refused r)))) (SetValue id off value) (Some (Refused r)) refl refl) (refl, refl) (λ root. tt) work
 
   abbrev m : View
   m = after_all v (settles v)

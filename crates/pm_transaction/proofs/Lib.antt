@@ -57,11 +57,10 @@ pub mod StopsMaking
 pub mod PublishKept
 pub mod PublishChecks
 pub mod PublishEntries
-pub mod Publishes
 pub mod Deferred
 pub mod FreedInTurn
 pub mod ListedInTurn
-pub mod PublishesAll
+pub mod Publishes
 pub mod PublishAllChecks
 pub mod PublishAllReasons
 pub mod RestingViews

@@ -137,10 +137,6 @@ module _ (v : View) (base : WorksInPool v) (id : Oid) (off : ℕ) (bytes : List 
   pub zone_locks_so : w.zone_locks ≡ v.zone_locks
   zone_locks_so = ap (λ (z : View). z.zone_locks) (sym sequence.1) ∙ (told_writes_leave (id.off + off) bytes op v).zone_locks
 
-  -- only words that may be filled are undrained still
-  pub undrained_so : ReservesOfPool v → OnlyFilled v → OnlyFilled (after u (Tell op None))
-  undrained_so of_pool only = let t : OnlyFilled u = made.1.undrained of_pool only in All-weaker (FilledChange u) (FilledChange w) (λ c of. record { whole = of.whole; may = record { reserved = of.may.reserved; plain = of.may.plain } }) u.changes t
-
 -- ---- in a transaction
 
 module _ {M : Type 0} (o : Opening) (at : M → View → Type 0) (lane : Lane M) (blocks : BlockLists) (v : View) (all : IsAtWorkWith o at lane blocks v) (id : Oid) (off : ℕ) (bytes : List ℕ) (range : HasOwnRange v id off (length bytes)) (op : Operation) where

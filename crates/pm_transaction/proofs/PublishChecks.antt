@@ -1,39 +1,34 @@
 -- What the checks of a publish find of each action, in a call that may have made and freed objects, and so why it is refused.
-use Rattle.std.proofs.Common.{◌≡◌, ◌⊎◌, ⊎_elim, inl, inr, ℕ, ◌+◌, ◌%◌, ◌^◌, ◌<◌, true, false, All, List, length, map, take, get_or, Result, Err, IfErr, Ok, None, OnOk, refl, sym, ap, ◌∙◌, subst, arith}
+use Rattle.std.proofs.Common.{◌≡◌, ◌⊎◌, ⊎_elim, inl, inr, ℕ, ◌+◌, ◌%◌, ◌^◌, ◌<◌, true, false, All, List, length, map, take, get_or, Result, Err, IfErr, Ok, OnOk, refl, sym, ap, ◌∙◌, subst}
 use Rattle.std.specs.List.{Any}
 use Rattle.std.specs.Result.{is_ok}
 use Rattle.std.proofs.lemmas.Bool.{false≢true, or_cases}
-use Rattle.std.proofs.lemmas.List.{length-map}
-use Rattle.std.proofs.lemmas.List.Elements.{All-map, All-nil, All-weaker}
-use Rattle.pm_crash.proofs.PendingOn.{pending_same, sets_alone}
-use Rattle.pm_crash.specs.CallBlocks.{CallBlocks, IsOldIn, blocks_behind, blocks_in, is_gone_in, is_new_in}
-use Rattle.pm_crash.specs.OnActions.{CanFreeIn, CanSetIn, HasObject, HasObjectOf, IsOnGone, IsOnLeft, IsPublishReasonIn, LacksObject, LacksObjectOf, PassesIn, PassesNewObject, entries_in, entries_published, entries_wanted}
+use Rattle.std.proofs.lemmas.List.Elements.{All-weaker}
+use Rattle.pm_crash.specs.CallBlocks.{IsOldIn, blocks_in, is_gone_in, is_new_in}
+use Rattle.pm_crash.specs.OnActions.{CanSetIn, HasObjectOf, IsOnLeft, LacksObjectOf, PassesIn, PassesNewObject}
 use Rattle.pm_crash.specs.OpenCall.{lock_of, locks_of}
-use Rattle.pm_crash.specs.Operations.{HasNewRange, HasRange, IsGone, IsLeft, IsNotHeld, PassesEnd}
-use Rattle.pm_crash.specs.Pending.{pending_in, sets_in}
+use Rattle.pm_crash.specs.Operations.{HasNewRange, HasRange, IsNotHeld, PassesEnd}
 use Rattle.pm_made.specs.Made.{BlockLists}
-use Rattle.pm_model.specs.Actions.{Action, Pending, max_entries, object_of, only_sets, wants_pending}
+use Rattle.pm_model.specs.Actions.{Action, object_of}
 use Rattle.pm_model.specs.Actions.Action.{SetWord}
 use Rattle.pm_model.specs.Transaction.{is_locked}
-use Rattle.pm_objects.specs.declared.calls.Operation.TheVariants.{Publish}
 use Rattle.pm_objects.specs.declared.calls.Want.{Want}
 use Rattle.pm_objects.specs.declared.ids.Oid.{Oid}
 use Rattle.pm_objects.specs.declared.refusal.Refusal.{Refusal}
 use Rattle.pm_objects.specs.declared.refusal.Refusal.TheVariants as refusal
-use Rattle.pm_pending.specs.Pending.{action_of, pending_of, sets_of}
+use Rattle.pm_pending.specs.Pending.{action_of}
 use Rattle.pm_pending.specs.declared.actions.SetAction.{SetAction}
 use Rattle.pm_view.specs.View.{Lock, View}
 use Rattle.pm_world.specs.Opening.{Opening}
 use Rattle.pm_world.specs.declared.lane.Lane.{Lane}
 use Rattle.pm_tx.proofs.Checked.{looks_call, looks_entries}
-use Rattle.pm_tx.proofs.EachAction.{all_further, some_at, some_mapped}
+use Rattle.pm_tx.proofs.EachAction.{all_further, some_at}
 use Rattle.pm_tx.proofs.GoingOn.{KeepsObjects}
 use Rattle.pm_tx.proofs.LearnsAtWork.{looks_none, looks_then}
-use Rattle.pm_tx.proofs.LookedOn.{IsLookedOn, looked_on, objects_looked}
+use Rattle.pm_tx.proofs.LookedOn.{looked_on, objects_looked}
 use Rattle.pm_tx.specs.Learning.{HasChecked}
 use Rattle.pm_transaction.proofs.GoingWith.{Keeps, kept_of, looks_keep, old_still, with_lists}
-use Rattle.pm_transaction.proofs.Owned.{as_many_listed}
-use Rattle.pm_transaction.proofs.PublishKept.{can_in_kept, left_kept}
+use Rattle.pm_transaction.proofs.PublishKept.{can_in_kept}
 use Rattle.pm_transaction.specs.AnyRanges.{Sorts}
 use Rattle.pm_transaction.specs.AtWork.{HasLookedWith, IsAtWorkWith, IsLaneAtWorkWith}
 
@@ -173,88 +168,5 @@ module _ {M : Type 0} (o : Opening) (at : M → View → Type 0) (blocks : Block
 abbrev pub want_of : Action → Want
 want_of a = record { id = object_of a; write = true }
 
-module _ (v : View) (actions : List SetAction) (pending : pending_of actions ≡ pending_in v) where
-  -- what holds of the object of some action, or of each, does of what is wanted
-  some_wanted : (P : Want → Type 0) → Any (λ (a : SetAction). P (want_of (action_of a))) actions → Any P (wants_pending (pending_in v))
-  some_wanted P some =
-      subst (λ (p : Pending). Any P (wants_pending p)) pending (some_mapped P want_of (map action_of actions) (some_mapped (λ (a : Action). P (want_of a)) action_of actions some))
-
-  all_wanted : (P : Want → Type 0) → All (λ (a : SetAction). P (want_of (action_of a))) actions → All P (wants_pending (pending_in v))
-  all_wanted P each =
-      subst (λ (p : Pending). All P (wants_pending p)) pending (All-map P want_of (map action_of actions) (All-map (λ (a : Action). P (want_of a)) action_of actions each))
-
-  -- nothing is to be freed, so nothing was asked for too late
-  pub in_time : (pending_in v).late ≡ false
-  in_time = ap (λ (p : Pending). p.late) (sym pending)
-
-  pub lacks_reason : Any (LacksIts v) actions → IsPublishReasonIn v refusal.NotLocked
-  lacks_reason some = some_wanted (λ (want : Want). LacksObject v want.id) some
-
-  pub gone_reason : All (HasIts v) actions → Any (λ (a : SetAction). is_gone_in v a.id.off ≡ true) actions → IsPublishReasonIn v refusal.NoObject
-  gone_reason has some = (
-    all_wanted (λ (want : Want). HasObject v want.id) has,
-    inr (some_wanted (λ (want : Want). IsGone v want.id true)
-        (some_with (λ (a : SetAction). is_gone_in v a.id.off ≡ true) (HasIts v) (λ (a : SetAction). IsOnGone v (action_of a)) actions (λ a its gone. record { of_pool = its.0; has = its.1; gone = gone }) has some)),
-  )
-
-  pub past_reason : All (IsLeftFor v) actions → Any (PassesEndIn v) actions → IsPublishReasonIn v refusal.OutOfRange
-  past_reason left some = (
-    record { in_time = in_time; left = all_wanted (λ (want : Want). IsLeft v want.id true) left },
-    subst (λ (p : Pending). Any (PassesIn v) p.sets) pending (some_mapped (PassesIn v) action_of actions some),
-  )
-
-  pub each_set : All (SetsIn v) actions → All (CanSetIn v) (sets_in v)
-  each_set each = subst (λ (p : Pending). All (CanSetIn v) p.sets) pending (All-map (CanSetIn v) action_of actions each)
-
-  -- what is to be freed can be, and all is published with what the call made and freed so far
-  pub each_free : All (CanFreeIn v) (pending_in v).frees
-  each_free = subst (λ (p : Pending). All (CanFreeIn v) p.frees) pending (All-nil (CanFreeIn v))
-
-  pub published_entries : entries_published v ≡ entries_in v
-  published_entries = ap (λ (b : CallBlocks). entries_wanted v + (length b.made + length b.freed)) (ap (λ (p : Pending). blocks_behind Publish None p (blocks_in v)) (sym pending))
-
-  pub full_reason : All (SetsIn v) actions → max_entries < entries_in v → IsPublishReasonIn v refusal.ActionsFull
-  full_reason each full = record { in_time = in_time; frees = each_free; each = each_set each; full = (let same = published_entries in omega (arith, full, same)) }
-
-  -- so many entries there would be
-  pub entries_are : {M : Type 0} (o : Opening) (at : M → View → Type 0) (lane : Lane M) (blocks : BlockLists) → IsAtWorkWith o at lane blocks v → (count : ℕ) → count ≡ length (blocks_in v).freed + length (blocks_in v).made
-      → entries_in v ≡ length lane.entries.items + length actions + 1 + count
-  entries_are o at lane blocks all count is =
-      let listed = as_many_listed o at lane blocks v all in
-      let same = ap (λ (p : Pending). length p.sets) pending in
-      let many = length-map actions action_of in
-      omega (arith, listed, same, many, is)
-
 pub left_of : (v : View) (actions : List SetAction) → All (HasIts v) actions → All (λ (a : SetAction). is_gone_in v a.id.off ≡ false) actions → All (IsLeftFor v) actions
 left_of v actions has left n d low = let its = has n d low in record { of_pool = its.0; has = its.1; left = left n d low }
-
--- ---- and at the view that the looks leave
-
-module _ {M : Type 0} (o : Opening) (at : M → View → Type 0) (lane next : Lane M) (blocks : BlockLists) (v : View) (all : IsAtWorkWith o at lane blocks v) (locks : next.locks ≡ lane.locks) (actions : List SetAction) (pending : pending_of actions ≡ pending_in v) where
-  pub pending_still : (P : View → Type 0) (t : HasLookedWith o at next blocks v P) → pending_of actions ≡ pending_in t.view
-  pending_still P t = let looks : IsLookedOn v t.view = looked_on t.loads v t.view t.looks in pending ∙ sym (pending_same v t.view looks.entries looks.call)
-
-  -- and so set-values are all that is pending there
-  pub alone_looked : (P : View → Type 0) (t : HasLookedWith o at next blocks v P) → pending_in t.view ≡ only_sets (sets_in t.view)
-  alone_looked P t = sets_alone (pending_in t.view) (sets_of actions) (pending_still P t)
-
-  pub looked_past : All (IsLeftFor v) actions → HasLookedWith o at next blocks v (λ w. Any (PassesEndIn w) actions) → HasLookedWith o at next blocks v (λ w. IsPublishReasonIn w refusal.OutOfRange)
-  looked_past left t =
-      let keeps : KeepsObjects v t.view = objects_looked_at o at lane next blocks v all locks (λ w. Any (PassesEndIn w) actions) t in
-      let entries = looks_entries t.loads v t.view t.looks in
-      let call = looks_call t.loads v t.view t.looks in
-      record {
-        loads = t.loads;
-        view = t.view;
-        looks = t.looks;
-        works = t.works;
-        holds =
-            past_reason t.view actions (pending_still (λ w. Any (PassesEndIn w) actions) t)
-            (All-weaker (IsLeftFor v) (IsLeftFor t.view) (λ a. left_kept v t.view keeps entries call (action_of a)) actions left) t.holds;
-      }
-
-  pub looked_full : HasLookedWith o at next blocks v (λ w. All (SetsIn w) actions) → ((w : View) → IsAtWorkWith o at next blocks w → pending_of actions ≡ pending_in w → max_entries < entries_in w)
-      → HasLookedWith o at next blocks v (λ w. IsPublishReasonIn w refusal.ActionsFull)
-  looked_full t full =
-      let is = pending_still (λ w. All (SetsIn w) actions) t in
-      record { loads = t.loads; view = t.view; looks = t.looks; works = t.works; holds = full_reason t.view actions is t.holds (full t.view t.works is) }

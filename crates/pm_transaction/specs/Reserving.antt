@@ -27,10 +27,6 @@ use Rattle.pm_epoch.specs.Reserving.{with_object_reserved}
 use Rattle.pm_transaction.specs.Allocating.{CameToRefuse, MayAllocate}
 use Rattle.pm_transaction.specs.AtWork.{IsAtWorkWith}
 
--- the object in a block, behind the block's first line, as the list of what is reserved has it
-abbrev pub reserved_in_block : Block → ℕ → ℕ → Reserved
-reserved_in_block block size kind = record { off = block.place + 64; kind = kind; size = size }
-
 -- From the view before the lane made an object of this size and type, and told its offset as reserved: the object in a block that was reserved as `reserve` does,
 -- and filled. It is listed with what is pending. Where the lane works alone, and passed no stop number, the object is one that the plain model lets its call
 -- reserve, and it may make another.

@@ -1,26 +1,21 @@
 //! Laws of transactions that make and free objects, of a lane that works alone.
 
-ghost use Rattle.std.specs.Prelude.{◌≡◌, ◌==◌, ◌&&◌, ℕ, ◌<◌, All, List, [], ◌∷◌, length, slice_index, Option, Some, option_map, take};
+ghost use Rattle.std.specs.Prelude.{◌≡◌, ◌==◌, ◌&&◌, ℕ, ◌<◌, All, List, [], ◌∷◌, length, slice_index, Some, take};
 ghost use Rattle.pm_header.specs.declared.header.Header.{Header};
 ghost use Rattle.pm_image.specs.Logs.{generation_word, seal_word};
 ghost use Rattle.pm_image.specs.declared.block.Block.{Block};
 ghost use Rattle.pm_memory.specs.Keep.{IsKeptImage};
 ghost use Rattle.pm_model.specs.Actions.{Action};
 ghost use Rattle.pm_objects.specs.declared.calls.Operation.{Operation};
-ghost use Rattle.pm_objects.specs.declared.calls.Operation.TheVariants.{SetValue};
 ghost use Rattle.pm_objects.specs.declared.calls.Want.{Want};
-ghost use Rattle.pm_objects.specs.declared.history.Value.TheVariants.{Refused};
-ghost use Rattle.pm_objects.specs.declared.ids.Oid.{Oid};
 ghost use Rattle.pm_objects.specs.declared.pool.PoolView.{PoolView};
-ghost use Rattle.pm_objects.specs.declared.refusal.Refusal.{Refusal};
 ghost use Rattle.pm_record.specs.declared.redo.Redo.{Redo};
 ghost use Rattle.pm_view.specs.Founds.{IsAlone};
 ghost use Rattle.pm_view.specs.Log.{no_log};
 ghost use Rattle.pm_view.specs.Log.Phase.{Idle};
-ghost use Rattle.pm_view.specs.Steps.Step.{Tell};
 ghost use Rattle.pm_view.specs.Steps.{Step};
 ghost use Rattle.pm_view.specs.View.{View};
-ghost use Rattle.pm_view.specs.Views.{after, after_all};
+ghost use Rattle.pm_view.specs.Views.{after_all};
 ghost use Rattle.pm_world.specs.Crash.{loses};
 ghost use Rattle.pm_world.specs.Opening.{Opening};
 ghost use Rattle.pm_world.specs.Records.{generation_of};
@@ -33,8 +28,6 @@ ghost use Rattle.pm_crash.specs.CallBlocks.{reserved_in};
 ghost use Rattle.pm_crash.specs.Reserving.{HasReserved};
 ghost use Rattle.pm_epoch.specs.Epochs.{HasEnded};
 ghost use Rattle.pm_made.specs.Made.{BlockLists};
-ghost use Rattle.pm_tx.specs.Actions.{HasCanceled, cancels};
-ghost use Rattle.pm_tx.specs.AtWork.{IsAtWork};
 ghost use Rattle.pm_tx.specs.Ending.{IsAfterCall};
 ghost use Rattle.pm_tx.specs.Sequences.{commits};
 ghost use Rattle.pm_transaction.specs.Allocating.{MayAllocate};
@@ -155,14 +148,4 @@ pub fn a_lane_alone_that_ended_begins_again<M: LawfulMem>()
     ensures begins_else { (o : Opening) (header : Header) (pool : PoolView) (start v : View) (steps : List Step) (lane : Lane M) (locks : List HeldLock) (kept : List Block) (number : ℕ)
         → WorksAlone o header pool start steps v → v.log ≡ no_log Idle → v.zone_locks ≡ [] → v.number ≡ Some number
         → (ended : HasEndedWith M.at lane v locks kept) → BeginsAgain (standing o ended.view) header pool ended.view }
-{}
-
-/// A law: a lane at work in a transaction with its lists has them still behind an action that `pm_tx` made pending there, or refused, and behind a cancel of what
-/// was pending: neither tells anything of the heap. No code runs.
-pub fn calls_on_actions_keep_the_lists<M: LawfulMem>()
-    ensures set { (o : Opening) (v : View) (lane next : Lane M) (blocks : BlockLists) (id : Oid) (off value : ℕ) (refused : Option Refusal) → IsAtWorkWith o M.at lane blocks v
-        → next.locks ≡ lane.locks → IsAtWork o M.at next (after v (Tell (SetValue id off value) (option_map Refused refused)))
-        → IsAtWorkWith o M.at next blocks (after v (Tell (SetValue id off value) (option_map Refused refused))) }
-    ensures canceled { (o : Opening) (v : View) (lane next : Lane M) (blocks : BlockLists) → IsAtWorkWith o M.at lane blocks v
-        → next.locks ≡ lane.locks → HasCanceled o M.at next v → IsAtWorkWith o M.at next blocks (after_all v (cancels v)) }
 {}

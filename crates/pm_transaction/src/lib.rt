@@ -3,7 +3,7 @@
 //! pmemobj_defer_free(3) and pmemobj_set_value(3) inside of one.
 //!
 //! Promises the calls of a lane that is alone, over any lawful memory, whose transaction may make and free objects (`begin`, `add_range`, `write`, `read`,
-//! `alloc`, `free`, `publish`, `publish_all`, `commit`, `end`; `reserve`, `write_reserved`, `defer_free`, `set_value`). What the transaction found is `pm_tx`'s; what it made needs no lock and no record. Each makes exactly the stated memory calls, and is
+//! `alloc`, `free`, `publish`, `cancel`, `commit`, `end`; `reserve`, `write_reserved`, `defer_free`, `set_value`). What the transaction found is `pm_tx`'s; what it made needs no lock and no record. Each makes exactly the stated memory calls, and is
 //! the plain model's; a refusal is the model's reason and gives the transaction up, or, of the last four, leaves it in work. It stands on `pm_tx` for objects found, on `pm_alloc` for
 //! new ones, on `pm_made` for the lists of what was made and freed, and on `pm_crash` for what a call comes to; docs/MODEL.md, "Transactions that make objects".
 //!
@@ -25,9 +25,9 @@ mod giving_back;
 mod laws;
 mod new_ranges;
 mod origins;
+mod publish_checks;
 mod published_lists;
 mod publishing;
-mod publishing_all;
 mod ranges;
 mod reserving;
 mod resting;
@@ -46,12 +46,11 @@ pub use laws::{
     a_call_told_by_its_log_is_published, a_commit_cut_short_is_lost_by_its_words,
     a_commit_cut_short_leaves_its_whole_calls, a_commit_of_a_lane_alone_publishes_its_call,
     a_lane_alone_begins_at_work, a_lane_alone_may_allocate, a_lane_alone_may_publish_its_blocks,
-    a_lane_alone_that_ended_begins_again, calls_on_actions_keep_the_lists,
+    a_lane_alone_that_ended_begins_again,
 };
 pub use new_ranges::{do_add_new, do_read_new, do_write_new};
 pub use published_lists::{move_frees, move_reserved};
 pub use publishing::publish;
-pub use publishing_all::publish_all;
 pub use ranges::{add_range, read, write};
 pub use reserving::reserve;
 pub use resting::{

@@ -2,7 +2,7 @@ ghost use Rattle.std.specs.Prelude.{◌≡◌, false, IfOk};
 
 use super::*;
 use crate::origins::{Origin, origin_of};
-use crate::publishing_all::{check_each_left, count_made};
+use crate::publishing::{check_each_left, count_made};
 use arrayvec::ArrayVec;
 use pm_layout::Shape;
 use pm_made::{CallBlocks, Made};
@@ -131,7 +131,7 @@ fn no_transaction(rt: HostRuntime) -> Result<(), Fail> {
     };
     pending.frees.push(id(16512));
     assert_eq!(rt;
-        publish_all(&mut lane, &mut blocks, &mut pending),
+        publish(&mut lane, &mut blocks, &mut pending),
         Err(Refusal::NoTx)
     );
     assert_eq!(rt; pending.count(), 1);

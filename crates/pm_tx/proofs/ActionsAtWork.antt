@@ -1,8 +1,7 @@
 -- A lane at work tells a call on its pending actions, stays at work, and has pending what the plain model has.
-use Rattle.std.proofs.Common.{◌≡◌, ℕ, ◌+◌, ◌≤◌, arith, All, List, true, get_or, ◌*◌, [], ◌∷◌, ◌++◌, length, map, Option, None, Result, Ok, Err, OnOk, OnErr, inl, refl, sym, ap, ◌∙◌, subst}
-use Rattle.std.specs.Option.{option_map}
+use Rattle.std.proofs.Common.{◌≡◌, ℕ, ◌+◌, ◌≤◌, arith, All, List, true, get_or, ◌*◌, [], ◌∷◌, ◌++◌, length, map, Option, None, Result, Ok, Err, inl, refl, sym, ap, ◌∙◌, subst}
 use Rattle.std.specs.Result.{result_err}
-use Rattle.std.proofs.lemmas.List.{append-nil, map-append}
+use Rattle.std.proofs.lemmas.List.{append-nil}
 use Rattle.pm_crash.proofs.ActionsOn.{change_goes_on}
 use Rattle.pm_crash.proofs.PendingOn.{pending_once_more, published_once_more}
 use Rattle.pm_crash.specs.OnActions.{ChangesPending, IsPendingAnswer}
@@ -10,14 +9,12 @@ use Rattle.pm_crash.specs.Operations.{KeepsLog, KeepsWords, Tells}
 use Rattle.pm_crash.specs.Pending.{pending_behind, pending_in, published_by, published_in}
 use Rattle.pm_memory.specs.Runs.{Stops}
 use Rattle.pm_memory.specs.declared.lane_mem.Stopped.{Stopped}
-use Rattle.pm_model.specs.Actions.{Action, Pending, only_sets, with_set}
+use Rattle.pm_model.specs.Actions.{Action}
 use Rattle.pm_objects.specs.declared.calls.Operation.{Operation}
-use Rattle.pm_objects.specs.declared.calls.Operation.TheVariants.{Cancel, SetValue}
+use Rattle.pm_objects.specs.declared.calls.Operation.TheVariants.{Cancel}
 use Rattle.pm_objects.specs.declared.history.Value.{Value}
-use Rattle.pm_objects.specs.declared.history.Value.TheVariants.{Refused}
 use Rattle.pm_objects.specs.declared.refusal.Refusal.{Refusal}
-use Rattle.pm_pending.specs.Pending.{action_of, pending_of, refusal_in}
-use Rattle.pm_pending.specs.declared.actions.SetAction.{SetAction}
+use Rattle.pm_pending.specs.Pending.{refusal_in}
 use Rattle.pm_undo.proofs.Begun.{tell_works}
 use Rattle.pm_undo.proofs.Restored.{open_settled}
 use Rattle.pm_undo.proofs.Settled.{settle_lawful}
@@ -130,12 +127,6 @@ module _ (v m : View) (is : IsAsBefore v m) (op : Operation) (reply : Option Val
 pub error_is_reason : (result : Result (Unit {0}) Refusal) → result_err result ≡ refusal_in result
 error_is_reason (Ok done) = refl
 error_is_reason (Err r) = refl
-
--- the list is what is pending: with the action, or as it was
-pub set_is_pending : (result : Result (Unit {0}) Refusal) (old new : List SetAction) (a : SetAction) (pending : Pending) → pending_of old ≡ pending → OnOk result (new ≡ old ++ a ∷ []) → OnErr result (new ≡ old)
-    → pending_of new ≡ pending_behind (SetValue a.id a.off a.value) (option_map Refused (refusal_in result)) pending
-set_is_pending (Ok done) old new a pending is more same = ap pending_of more ∙ (ap only_sets (map-append action_of old (a ∷ [])) ∙ ap (with_set (action_of a)) is)
-set_is_pending (Err r) old new a pending is more same = ap pending_of same ∙ is
 
 -- ---- a cancel
 

@@ -49,15 +49,4 @@ module _ (operation : Operation) (reply : Option Value) (n : ℕ) (v : View) whe
     unfolding in_turn after_all
     ends_at_once = ap (λ (steps : List Step). steps ++ ends_call operation reply n (after_all v steps)) (settles_nothing v none)
 
-    pub ending_never_stops : (new : View → Type 0) → Stops new v (in_turn settles (ends_call operation reply n) v) → ⊥
-    ending_never_stops new stops = uncounted_never_stops new v (ends_call operation reply n v) ends_uncounted (subst (Stops new v) ends_at_once stops)
-
 module _ (entries : List Redo) (operation : Operation) (n : ℕ) (v : View) (none : v.changes ≡ []) where
-  pub publishes_at_once : publishes_outside entries operation n v ≡ publishes entries operation n v
-  unfolding publishes_outside in_turn after_all
-  publishes_at_once = ap (λ (steps : List Step). steps ++ publishes entries operation n (after_all v steps)) (settles_nothing v none)
-
--- and the view once all is persistent is the same
-pub settled_same : (v : View) → v.changes ≡ [] → after_all v (settles v) ≡ v
-unfolding after_all
-settled_same v none = ap (after_all v) (settles_nothing v none)

@@ -1,17 +1,18 @@
 //! Transactions: pmemobj_tx_begin(3) and its kin, over any lawful memory of a lane.
 //!
-//! Promises the calls of an outermost transaction (`begin`, `add_range`, `write`, `read`, `set_at_work`, `cancel_at_work`, `commit`,
-//! `abort`, `end`). Each makes exactly the stated sequence of memory calls, or the first of them up to the lane's stop, and what it makes
-//! of the call is the plain model's: a refusal is the model's reason, takes back what was done and gives the transaction up. The parts
-//! stand beside them: checks (`check_range`, `check_words`, `check_write`), and the work (`do_add`, `do_write`, `do_read`, and `commit_call`, which also
-//! performs entries that allocate and free blocks). They stand on
-//! `pm_lock` for a begin's locks, on `pm_undo` for the records without which no word is stored, and on `pm_crash` for what a call comes to.
+//! Promises the calls of an outermost transaction (`begin`, `add_range`, `write`, `read`, `commit`, `abort`, `end`). Each makes exactly the
+//! stated sequence of memory calls, or the first of them up to the lane's stop, and what it makes of the call is the plain model's: a refusal
+//! is the model's reason, takes back what was done and gives the transaction up. The parts stand beside them: checks (`check_range`,
+//! `check_words`, `check_write`), and the work (`do_add`, `do_write`, `do_read`, `cancel_call`, and `commit_call`, which also performs entries
+//! that allocate and free blocks). They stand on `pm_lock` for a begin's locks, on `pm_undo` for the records without which no word is stored,
+//! and on `pm_crash` for what a call comes to.
 #![tactic(auto)]
 
 mod aborting;
 mod adding;
 mod beginning;
 mod bounds;
+mod canceling;
 mod checking;
 mod committing;
 mod ending;
@@ -20,7 +21,6 @@ mod generations;
 mod giving_up;
 mod laws;
 mod learning;
-mod pending;
 mod publishing;
 mod reading;
 mod refusing;
@@ -34,6 +34,7 @@ pub use aborting::abort;
 pub use adding::{add_range, do_add};
 pub use beginning::{begin, open_call, refuse_call};
 pub use bounds::a_call_makes_few_stores;
+pub use canceling::cancel_call;
 pub use checking::{check_range, check_words, check_write};
 pub use committing::{commit, commit_call, commit_inner};
 pub use ending::{draw_number, end_call};
@@ -46,7 +47,6 @@ pub use generations::{
 pub use giving_up::give_up;
 pub use laws::{a_call_may_be_committed, a_call_may_be_taken_back};
 pub use learning::learn;
-pub use pending::{cancel_at_work, cancel_call, set_at_work};
 pub use publishing::{a_log_may_be_published, publish_log};
 pub use reading::{do_read, read};
 pub use refusing::{refuse, refuse_write};

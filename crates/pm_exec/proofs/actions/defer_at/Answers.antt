@@ -2,7 +2,8 @@ use Rattle.std.proofs.Common.{◌++◌, ◌∷◌, [], None, Some, ap, sym, ◌�
 use Rattle.pm_crash.specs.Pending.{pending_in}
 use Rattle.pm_memory.specs.Solo.{Solo}
 use Rattle.pm_world.specs.declared.lane.Lane.{Lane}
-use Rattle.pm_exec.specs.Progress.{IsAtLine, Values}
+use Rattle.pm_exec.specs.Replies.{Values}
+use Rattle.pm_exec.specs.Progress.{IsAtLine}
 use Rattle.pm_exec.proofs.ActionLines.{defer_done}
 use Rattle.pm_exec.proofs.AddAndWrite.{unrefused}
 use Rattle.pm_exec.proofs.GivenLetters.{letters_same}
@@ -15,7 +16,7 @@ returns-in-Ok-clause-done c o first front a =
     let none = unrefused c.args.lane.now a.works.work.unstopped a.level a.works.work.works in
     let level = ap (λ (l : Lane Solo). l.level) e.else_same ∙ a.level in
     let locks = ap (λ (l : Lane Solo). l.locks) e.else_same in
-    defer_done o first c.args.lane.now c.args.blocks.now c.args.pending.now c.args.names front c.args.values.now.items a c.defer_free.new.lane c.args.said.now c.args.id c.id_of.result c.id_of.ensures c.requires.is_said None c.defer_free.new.pending (e.stays none o a.view a.works a.pending) level locks
+    defer_done o first c.args.lane.now c.args.blocks.now c.args.pending.now c.args.names front c.args.values.now.items a c.defer_free.new.lane c.args.said.now c.args.id c.id_of.result c.id_of.ensures c.requires.is_said None (e.answers none (pending_in a.view) a.pending) c.defer_free.new.pending (e.stays none o a.view a.works a.pending) level locks
 
 pub returns-in-Ok-clause-letters : goal.returns-in-Ok-clause-letters
 returns-in-Ok-clause-letters c = letters_same (c.args.said.now ∷ []) c.args.values.now.items
@@ -29,7 +30,7 @@ returns-in-Err-clause-done c =
     let level = ap (λ (l : Lane Solo). l.level) e.else_same ∙ a.level in
     let locks = ap (λ (l : Lane Solo). l.locks) e.else_same in
     subst (λ (vs : Values). IsAtLine o first c.defer_free.new.lane c.args.blocks.now c.defer_free.new.pending c.args.names (front ++ c.args.said.now ∷ []) vs) (sym given)
-    (defer_done o first c.args.lane.now c.args.blocks.now c.args.pending.now c.args.names front c.args.values.now.items a c.defer_free.new.lane c.args.said.now c.args.id c.id_of.result c.id_of.ensures c.requires.is_said (Some c.in-Err.why) c.defer_free.new.pending (e.stays none o a.view a.works a.pending) level locks))
+    (defer_done o first c.args.lane.now c.args.blocks.now c.args.pending.now c.args.names front c.args.values.now.items a c.defer_free.new.lane c.args.said.now c.args.id c.id_of.result c.id_of.ensures c.requires.is_said (Some c.in-Err.why) (e.answers none (pending_in a.view) a.pending) c.defer_free.new.pending (e.stays none o a.view a.works a.pending) level locks))
 
 pub returns-in-Err-clause-ends : goal.returns-in-Err-clause-ends
 returns-in-Err-clause-ends c =

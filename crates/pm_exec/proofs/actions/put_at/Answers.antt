@@ -1,7 +1,8 @@
 use Rattle.std.proofs.Common.{◌++◌, ◌∷◌, [], ap, sym, ◌∙◌, subst}
 use Rattle.pm_memory.specs.Solo.{Solo}
 use Rattle.pm_world.specs.declared.lane.Lane.{Lane}
-use Rattle.pm_exec.specs.Progress.{IsAtLine, IsCut, Values}
+use Rattle.pm_exec.specs.Replies.{Values}
+use Rattle.pm_exec.specs.Progress.{IsAtLine, IsCut}
 use Rattle.pm_exec.proofs.AddAndWrite.{unrefused}
 use Rattle.pm_exec.proofs.GivenLetters.{letters_same}
 use Rattle.pm_exec.proofs.PutLine.{put_cut, put_done, put_refused}

@@ -4,7 +4,8 @@ use Rattle.pm_objects.specs.declared.history.Value.TheVariants.{Refused}
 use Rattle.pm_pending.specs.declared.pending.PendingActions.{PendingActions}
 use Rattle.pm_world.specs.declared.lane.Lane.{Lane}
 use Rattle.pm_exec.specs.Letters.{KeepsLetters}
-use Rattle.pm_exec.specs.Progress.{IsAtLine, IsCut, Values}
+use Rattle.pm_exec.specs.Replies.{Values}
+use Rattle.pm_exec.specs.Progress.{IsAtLine, IsCut}
 use Rattle.pm_exec.proofs.AddAndWrite.{unrefused}
 use Rattle.pm_exec.proofs.AllocLine.{may_make, reserve_cut, reserve_done, reserve_refused}
 use Rattle.pm_exec.proofs.GivenLetters.{letters_one}

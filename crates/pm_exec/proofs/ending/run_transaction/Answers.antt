@@ -2,7 +2,8 @@ use Rattle.std.proofs.lemmas.Result.{IfOk-weaker}
 use Rattle.std.proofs.Common.{◌≡◌, ◌++◌, [], List, ℕ, slice_index, sym, ap, subst, ◌∙◌, Err}
 use Rattle.pm_script.specs.declared.script.ScriptLine.{ScriptLine}
 use Rattle.pm_exec.specs.Letters.{KeepsLetters, LettersKept, Offsets, offsets_in, resolved}
-use Rattle.pm_exec.specs.Progress.{HasCome, IsHalted, IsNotDone, Values, values_given}
+use Rattle.pm_exec.specs.Replies.{Values}
+use Rattle.pm_exec.specs.Progress.{HasCome, IsHalted, IsNotDone, values_given}
 use Rattle.pm_exec.specs.declared.lines.NotDone.{NotDone}
 use Rattle.pm_exec.proofs.Closed.{ended_done, ended_refused, from_both, halted}
 use Rattle.pm_exec.proofs.GivenLetters.{letters_same, numbers_resolved, transaction_resolved}

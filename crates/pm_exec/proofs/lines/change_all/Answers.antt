@@ -3,7 +3,8 @@ use Rattle.std.proofs.lemmas.Result.{err_from_is_err_and}
 use Rattle.pm_script.specs.Scripts.{IsChange}
 use Rattle.pm_script.specs.declared.script.ScriptLine.{ScriptLine}
 use Rattle.pm_exec.specs.Letters.{offsets_in, resolved, resolved_line}
-use Rattle.pm_exec.specs.Progress.{IsAtLine, IsNotDone, Values}
+use Rattle.pm_exec.specs.Replies.{Values}
+use Rattle.pm_exec.specs.Progress.{IsAtLine, IsNotDone}
 use Rattle.pm_exec.proofs.GivenLetters.{change_resolved, letters_same, letters_then}
 use Rattle.pm_exec.proofs.ResolvedLines.{letters_so, letters_wide, one_more, unless_memory, up_to}
 use Rattle.pm_exec.proofs.ScriptParts.{change_at_index, taken_all}

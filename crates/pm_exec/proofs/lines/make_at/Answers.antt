@@ -4,7 +4,8 @@ use Rattle.pm_memory.specs.Solo.{Solo}
 use Rattle.pm_world.specs.declared.lane.Lane.{Lane}
 use Rattle.pm_exec.proofs.AddAndWrite.{ends_so, unrefused}
 use Rattle.pm_exec.proofs.AllocLine.{make_cut, make_done, make_given_up, make_not_spent, may_make}
-use Rattle.pm_exec.specs.Progress.{IsAtLine, IsGivenUpAt, Values}
+use Rattle.pm_exec.specs.Replies.{Values}
+use Rattle.pm_exec.specs.Progress.{IsAtLine, IsGivenUpAt}
 use Rattle.pm_exec.specs.Letters.{KeepsLetters}
 use Rattle.pm_exec.proofs.GivenLetters.{kept_as_they_are, letters_one}
 use Rattle.pm_exec.proofs.lines.make_at.Goals as goal

@@ -11,7 +11,8 @@ use Rattle.pm_tx.specs.Calls.{HasLooked}
 use Rattle.pm_tx.specs.Ranges.{HasReadRange, KnowsRange, reads_range}
 use Rattle.pm_view.specs.Views.{after_all}
 use Rattle.pm_world.specs.declared.lane.Lane.{Lane}
-use Rattle.pm_exec.specs.Progress.{IsAtLine, Values}
+use Rattle.pm_exec.specs.Replies.{Values}
+use Rattle.pm_exec.specs.Progress.{IsAtLine}
 use Rattle.pm_exec.proofs.AddAndWrite.{ends_so, given_up, unrefused}
 use Rattle.pm_exec.proofs.ReadLine.{front_is, read_cut, read_done, read_is, read_new_done, read_not_spent}
 use Rattle.pm_exec.specs.Letters.{KeepsLetters}

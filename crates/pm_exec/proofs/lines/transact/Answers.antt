@@ -2,7 +2,8 @@ use Rattle.std.proofs.Common.{◌≡◌, ◌++◌, [], ◌∷◌, List, ◌-◌,
 use Rattle.std.proofs.lemmas.Result.{err_from_is_err_and}
 use Rattle.pm_script.specs.declared.script.ScriptLine.{ScriptLine}
 use Rattle.pm_exec.specs.Letters.{KeepsLetters, LettersKept, Offsets, offsets_in, resolved, resolved_line, resolved_op, resolved_want}
-use Rattle.pm_exec.specs.Progress.{CameTo, IsAtLine, IsNotDone, Values}
+use Rattle.pm_exec.specs.Replies.{Values}
+use Rattle.pm_exec.specs.Progress.{CameTo, IsAtLine, IsNotDone}
 use Rattle.pm_exec.proofs.GivenLetters.{kept_as_they_are, order_drop, order_take}
 use Rattle.pm_exec.proofs.ResolvedLines.{begun, letters_all, letters_any, letters_so, unless_memory, whole}
 use Rattle.pm_exec.proofs.ScriptParts.{begins_there, changes_are, first_line, parts, two}

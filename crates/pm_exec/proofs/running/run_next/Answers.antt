@@ -3,7 +3,8 @@ use Rattle.pm_crash.specs.Alone.{standing}
 use Rattle.pm_script.specs.declared.script.ScriptLine.{ScriptLine}
 use Rattle.pm_exec.specs.Calls.{call_of}
 use Rattle.pm_exec.specs.Letters.{KeepsLetters, Offsets, offsets_in, offsets_of, resolved}
-use Rattle.pm_exec.specs.Progress.{HasCome, Values, values_given}
+use Rattle.pm_exec.specs.Replies.{Values}
+use Rattle.pm_exec.specs.Progress.{HasCome, values_given}
 use Rattle.pm_exec.specs.Running.{HasComeTo}
 use Rattle.pm_exec.specs.declared.ending.CallEnd.{CallEnd}
 use Rattle.pm_exec.specs.declared.ending.CallEnd.TheVariants as call_end

@@ -1,41 +1,64 @@
-use Rattle.std.proofs.Common.{◌≡◌, Err, ap, refl, subst, sym, rules}
-use Rattle.pm_crash.specs.CallBlocks.{blocks_in}
-use Rattle.pm_crash.specs.OnActions.{IsPublishReasonIn}
+use Rattle.std.proofs.Common.{◌≡◌, All, Err, List, ap, refl, subst, sym, rules}
+use Rattle.std.specs.List.{Any}
+use Rattle.pm_objects.specs.declared.ids.Oid.{Oid}
 use Rattle.pm_objects.specs.declared.refusal.Refusal.{Refusal}
-use Rattle.pm_objects.specs.declared.refusal.Refusal.TheVariants as refusal
+use Rattle.pm_pending.specs.declared.actions.SetAction.{SetAction}
 use Rattle.pm_tx.proofs.Checked.{if_err, of_err}
 use Rattle.pm_world.specs.declared.lane.Lane.{Lane}
-use Rattle.pm_transaction.proofs.PublishChecks.{gone_reason, lacks_reason, left_of, looked_full, looked_past, unlooked}
+use Rattle.pm_transaction.proofs.PublishAllReasons.{InRoot, NotInRoot, full, left_there, passed, past, refused_early, rooted}
+use Rattle.pm_transaction.proofs.PublishChecks.{IsLeftFor, PassesEndIn, SetsIn, unlooked}
 use Rattle.pm_transaction.specs.AtWork.{HasLookedWith}
+use Rattle.pm_transaction.specs.Publishing.{IsPublishRefused}
 use Rattle.pm_transaction.proofs.publishing.check_publish.Goals as goal
 
-pub returns-in_err-check_owned-clause-refused : goal.returns-in_err-check_owned-clause-refused
-returns-in_err-check_owned-clause-refused g c =
+pub returns-in_err-check_objects-clause-refused : goal.returns-in_err-check_objects-clause-refused
+returns-in_err-check_objects-clause-refused g c =
     if_err _ c.from_residual.result
     (λ r is o v all pending.
-    let e : c.check_owned.result ≡ Err r = search rules in
-    subst (λ (r : Refusal). HasLookedWith o g.M.LaneMem.at c.args.lane.now c.args.blocks.now v (λ w. IsPublishReasonIn w r)) (sym (of_err _ c.check_owned.result r e c.check_owned.ensures.cause))
-    (unlooked o g.M.LaneMem.at c.args.lane.now c.args.blocks.now v all (λ w. IsPublishReasonIn w refusal.NotLocked) (lacks_reason v c.args.actions.now pending (c.in_err-check_owned.ensures.not_locked o v all))))
+    let e : c.check_objects.result ≡ Err r = search rules in
+    unlooked o g.M.LaneMem.at c.args.lane.now c.args.blocks.now v all (λ w. IsPublishRefused w r)
+    (refused_early v r (of_err _ c.check_objects.result r e c.check_objects.ensures.causes) (of_err _ c.check_objects.result r e c.check_objects.ensures.refused o v all pending)))
 
-pub returns-in_err-check_left-clause-refused : goal.returns-in_err-check_left-clause-refused
-returns-in_err-check_left-clause-refused g c =
-    if_err _ c.from_residual-in_err-check_left.result
+pub returns-in_err-check_no_root-clause-refused : goal.returns-in_err-check_no_root-clause-refused
+returns-in_err-check_no_root-clause-refused g c =
+    if_err _ c.from_residual-in_err-check_no_root.result
     (λ r is o v all pending.
-    let e : c.check_left.result ≡ Err r = search rules in
-    subst (λ (r : Refusal). HasLookedWith o g.M.LaneMem.at c.args.lane.now c.args.blocks.now v (λ w. IsPublishReasonIn w r)) (sym (of_err _ c.check_left.result r e c.check_left.ensures.cause))
-    (unlooked o g.M.LaneMem.at c.args.lane.now c.args.blocks.now v all (λ w. IsPublishReasonIn w refusal.NoObject)
-    (gone_reason v c.args.actions.now pending (c.in_ok-check_owned.ensures.ok o v all) (c.in_err-check_left.ensures.gone (blocks_in v) all.lists))))
+    let e : c.check_no_root.result ≡ Err r = search rules in
+    subst (λ (r : Refusal). HasLookedWith o g.M.LaneMem.at c.check_no_root.new.lane c.args.blocks.now v (λ w. IsPublishRefused w r)) (sym (of_err _ c.check_no_root.result r e c.check_no_root.ensures.cause))
+    (rooted o g.M.LaneMem.at c.args.lane.now c.check_no_root.new.lane c.check_no_root.new.lane c.args.blocks.now v all (ap (λ (lane : Lane g.row.M.Denot). lane.locks) c.check_no_root.ensures.else_same) refl c.args.pending.now pending (c.in_ok-check_objects.ensures.ok o v all pending)
+    (subst (λ (ids : List Oid). HasLookedWith o g.M.LaneMem.at c.check_no_root.new.lane c.args.blocks.now v (λ w. InRoot w ids)) c.as_slice-frees.ensures.value (c.in_err-check_no_root.ensures.root o v all))))
 
 pub returns-in_err-check_ends-clause-refused : goal.returns-in_err-check_ends-clause-refused
 returns-in_err-check_ends-clause-refused g c =
     if_err _ c.from_residual-in_err-check_ends.result
     (λ r is o v all pending.
     let e : c.check_ends.result ≡ Err r = search rules in
-    let left = left_of v c.args.actions.now (c.in_ok-check_owned.ensures.ok o v all) (c.in_ok-check_left.ensures.ok (blocks_in v) all.lists) in
-    subst (λ (r : Refusal). HasLookedWith o g.M.LaneMem.at c.check_ends.new.lane c.args.blocks.now v (λ w. IsPublishReasonIn w r)) (sym (of_err _ c.check_ends.result r e c.check_ends.ensures.cause))
-    (looked_past o g.M.LaneMem.at c.args.lane.now c.check_ends.new.lane c.args.blocks.now v all (ap (λ (lane : Lane g.row.M.Denot). lane.locks) c.check_ends.ensures.else_same) c.args.actions.now pending left (c.in_err-check_ends.ensures.past o v all left)))
+    let at = g.M.LaneMem.at in
+    let first = ap (λ (lane : Lane g.row.M.Denot). lane.locks) c.check_no_root.ensures.else_same in
+    let then = ap (λ (lane : Lane g.row.M.Denot). lane.locks) c.check_ends.ensures.else_same in
+    let left = c.in_ok-check_objects.ensures.ok o v all pending in
+    let t = subst (λ (ids : List Oid). HasLookedWith o g.M.LaneMem.at c.check_no_root.new.lane c.args.blocks.now v (λ w. NotInRoot w ids)) c.as_slice-frees.ensures.value (c.in_ok-check_no_root.ensures.ok o v all) in
+    subst (λ (r : Refusal). HasLookedWith o g.M.LaneMem.at c.check_ends.new.lane c.args.blocks.now v (λ w. IsPublishRefused w r)) (sym (of_err _ c.check_ends.result r e c.check_ends.ensures.cause))
+    (past o at c.args.lane.now c.check_no_root.new.lane c.check_ends.new.lane c.args.blocks.now v all first then c.args.pending.now pending left t
+    (subst (λ (actions : List SetAction). HasLookedWith o g.M.LaneMem.at c.check_ends.new.lane c.args.blocks.now t.view (λ w. Any (PassesEndIn w) actions)) c.as_slice-sets.ensures.value
+    (c.in_err-check_ends.ensures.past o t.view t.works (subst (All (IsLeftFor t.view)) (sym c.as_slice-sets.ensures.value) (left_there o at c.args.lane.now c.check_no_root.new.lane c.check_ends.new.lane c.args.blocks.now v all first then c.args.pending.now pending left t))))))
 
 pub returns-then-not-has_room_for-clause-refused : goal.returns-then-not-has_room_for-clause-refused
 returns-then-not-has_room_for-clause-refused g c o v all pending =
-    looked_full o g.M.LaneMem.at c.args.lane.now c.check_ends.new.lane c.args.blocks.now v all (ap (λ (lane : Lane g.row.M.Denot). lane.locks) c.check_ends.ensures.else_same) c.args.actions.now pending (c.in_ok-check_ends.ensures.ok o v all)
-    (λ w works is. c.if-not-has_room_for.ensures.no_ refl o w works is)
+    let at = g.M.LaneMem.at in
+    let first = ap (λ (lane : Lane g.row.M.Denot). lane.locks) c.check_no_root.ensures.else_same in
+    let then = ap (λ (lane : Lane g.row.M.Denot). lane.locks) c.check_ends.ensures.else_same in
+    let left = c.in_ok-check_objects.ensures.ok o v all pending in
+    let t = subst (λ (ids : List Oid). HasLookedWith o g.M.LaneMem.at c.check_no_root.new.lane c.args.blocks.now v (λ w. NotInRoot w ids)) c.as_slice-frees.ensures.value (c.in_ok-check_no_root.ensures.ok o v all) in
+    let s = subst (λ (actions : List SetAction). HasLookedWith o g.M.LaneMem.at c.check_ends.new.lane c.args.blocks.now t.view (λ w. All (SetsIn w) actions)) c.as_slice-sets.ensures.value (c.in_ok-check_ends.ensures.ok o t.view t.works) in
+    full o at c.args.lane.now c.check_no_root.new.lane c.check_ends.new.lane c.args.blocks.now v all first then c.args.pending.now pending left t s (λ w works is late. c.if-not-has_room_for.ensures.no_ refl o w works is late)
+
+pub returns-clause-ok : goal.returns-clause-ok
+returns-clause-ok g c o v all pending =
+    let at = g.M.LaneMem.at in
+    let first = ap (λ (lane : Lane g.row.M.Denot). lane.locks) c.check_no_root.ensures.else_same in
+    let then = ap (λ (lane : Lane g.row.M.Denot). lane.locks) c.check_ends.ensures.else_same in
+    let left = c.in_ok-check_objects.ensures.ok o v all pending in
+    let t = subst (λ (ids : List Oid). HasLookedWith o g.M.LaneMem.at c.check_no_root.new.lane c.args.blocks.now v (λ w. NotInRoot w ids)) c.as_slice-frees.ensures.value (c.in_ok-check_no_root.ensures.ok o v all) in
+    let s = subst (λ (actions : List SetAction). HasLookedWith o g.M.LaneMem.at c.check_ends.new.lane c.args.blocks.now t.view (λ w. All (SetsIn w) actions)) c.as_slice-sets.ensures.value (c.in_ok-check_ends.ensures.ok o t.view t.works) in
+    passed o at c.args.lane.now c.check_no_root.new.lane c.check_ends.new.lane c.args.blocks.now v all first then c.args.pending.now pending left t s (λ w works is late. c.if-not-has_room_for.ensures.yes refl o w works is late)
