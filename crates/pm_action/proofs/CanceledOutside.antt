@@ -189,6 +189,9 @@ module _ {M : Type 0} (at : M → View → Type 0) (old mid : Lane M) (v : View)
 
   -- ---- or it gave up what was pending
 
+  call_is : (k : ℕ) → (y k).call ≡ record { operation = Cancel; reply = None } ∷ []
+  call_is k = (end_is_last w m (works at mid w is) is.may_come back Cancel None k).0 ∙ ap (λ (call : List Told). told_more call Cancel None) is.untold
+
   entries_are : (k : ℕ) → (x k).entries ≡ drawn_more v.entries k (record { operation = Cancel; reply = None } ∷ [])
   entries_are k =
       ap (λ (u : View). u.entries) (given k).same

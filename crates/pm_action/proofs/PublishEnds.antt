@@ -178,6 +178,14 @@ module _ {M : Type 0} (at : M → View → Type 0) (lane : Lane M) (v u : View) 
     words = was.words;
   }
 
+  err_further : (pending : PendingActions) (blocks : BlockLists) (r : Refusal) → IsBegunPublishCause r → PublishEnds {M = M} {T = Unit {0}} at lane pending blocks u (Err r) → PublishEnds {M = M} {T = Unit {0}} at lane pending blocks v (Err r)
+  err_further pending blocks refusal.Stopped cause was = stops_further pending blocks was
+  err_further pending blocks refusal.Busy cause was = busy_further at lane v u led entries was
+  err_further pending blocks refusal.NoObject cause was = none_further (pending_before v) (subst (λ (p : Pending). HasFoundNone at lane p u) same was)
+  err_further pending blocks refusal.RootKept cause was = root_further (pending_before v) (subst (λ (p : Pending). HasFoundRoot at lane p u) same was)
+  err_further pending blocks refusal.OutOfRange cause was = short_further (pending_before v) (subst (λ (p : Pending). HasFoundShort at lane p u) same was)
+  err_further pending blocks r cause was = absurd cause
+
   pub ends_further : (pending : PendingActions) (blocks : BlockLists) (result : Result (Unit {0}) Refusal) → IfErr result IsBegunPublishCause → PublishEnds at lane pending blocks u result → PublishEnds at lane pending blocks v result
   ends_further pending blocks (Ok done) cause was = published_further pending blocks was
   ends_further pending blocks (Err r) cause was = err_further pending blocks r cause was

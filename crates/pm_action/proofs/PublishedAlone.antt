@@ -122,6 +122,9 @@ module _ {M : Type 0} {o : Opening} {at : M → View → Type 0} {lane : Lane M}
     works_begun : WorksAlone o header pool start (steps ++ Tell (Begin wants) None ∷ []) begun
     works_begun = record { begins = works.begins; leads = leads_then start v begun steps (Tell (Begin wants) None ∷ []) works.leads leads_begun; numbered = works.numbered; within = works.within }
 
+    call_begun : begun.call ≡ record { operation = Begin wants; reply = None } ∷ []
+    call_begun = ap (λ (told : List Told). told ++ record { operation = Begin wants; reply = None } ∷ []) h.untold
+
     takes_begun : TakesWanted begun [] wants
     takes_begun =
         let takes = h.holds.holds.takes in

@@ -197,6 +197,9 @@ module _ {M : Type 0} (at : M → View → Type 0) (held : Lane M) (pending : Pe
           ready_led over (gives told.locks.items over) closed.ready (drawless over (gives told.locks.items over) (let n = ap (λ (u : View). length u.entries) gone in omega (arith, n))) (none_counted told.locks.items over) (all_gives_leave told.locks.items over)
           (record { zone_locks = ap (λ (u : View). u.zone_locks) gone; reserved = ap (λ (u : View). u.reserved) gone; freed = ap (λ (u : View). u.freed) gone })
 
+      call_is : over.call ≡ record { operation = Publish; reply = None } ∷ []
+      call_is = ended_sets.told ∙ ap (λ (told : List Told). told ++ record { operation = Publish; reply = None } ∷ []) h.begun.untold
+
       entries : x.entries ≡ drawn_more v.entries k (record { operation = Publish; reply = None } ∷ [])
       entries = ap (λ (u : View). u.entries) gone ∙ (ended_sets.entries ∙ (λ i. drawn_more v.entries (same i) (call_is i)))
 

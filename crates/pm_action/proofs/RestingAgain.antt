@@ -35,7 +35,6 @@ fields_rested {M} at old mid new v rests same fields =
     let drawn : None ≡ old.drawn = sym rests.answered in
     fields ∙ ap (λ (l : Lane M). record l { memory = new.memory; drawn = None; last = new.last }) same ∙ (λ i. record old { memory = new.memory; drawn = drawn i; last = new.last })
 
-module _ {M : Type 0} (old : Lane M) (free : old.locks.items ≡ []) where
 -- the lane's memory was another in between
 pub fields_behind : {M : Type 0} (mid later new : Lane M) → later ≡ record mid { memory = later.memory } → new ≡ record later { memory = new.memory; locks = new.locks; drawn = None; last = new.last }
     → new ≡ record mid { memory = new.memory; locks = new.locks; drawn = None; last = new.last }

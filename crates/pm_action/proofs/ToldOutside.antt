@@ -86,6 +86,13 @@ module _ {M : Type 0} (at : M → View → Type 0) (lane : Lane M) (v : View) (i
   pub unharmed : drawn.error ≡ error.None
   unharmed = ap (λ (l : Lane M). l.error) fields ∙ is.unharmed
 
+  told_alone : v.call ++ record { operation = op; reply = reply } ∷ [] ≡ record { operation = op; reply = reply } ∷ []
+  told_alone = ap (λ (told : List Told). told ++ record { operation = op; reply = reply } ∷ []) is.untold
+
+  mid_entries : mid.entries ≡ drawn_more v.entries drawn.last (record { operation = op; reply = reply } ∷ [])
+  unfolding ends_call in_turn one after_all
+  mid_entries = ap (drawn_more v.entries drawn.last) told_alone
+
   -- the locks that the call took go back
   pub closed_at_once : (new : Lane M) → IsClosedBy at new mid (gives drawn.locks.items) → new.last ≡ drawn.last → IsClosedBy at new (after_all v (ends_call op reply new.last v)) (gives lane.locks.items)
   closed_at_once new closed last =

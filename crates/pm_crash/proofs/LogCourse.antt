@@ -86,6 +86,10 @@ carried g g' v v' Retiring same lane records entries among range = subst (λ n. 
 pub all_of : (changes : List Change) → Among changes changes
 all_of changes = record { none = λ e. e; from = λ c there. (c, there, refl) }
 
+marked_word : (line : ℕ) (c : Change) (b : Bool) → (cond b (record c { flushed = true }) c).word ≡ c.word
+marked_word line c true = refl
+marked_word line c false = refl
+
 flushed_of : (line : ℕ) (changes : List Change) → Among (flushed line changes) changes
 flushed_of line changes = record {
   none = λ e. ap (flushed line) e;
@@ -329,6 +333,14 @@ module _ (o : Opening) (mem : Memory) (views : Views) (log : List Entry) (decide
     begun_range n (Applying applied) is may same range = subst (InRange g' v) (sym is) (carried g g' v v (Applying applied) same refl refl refl (all_of v.changes) range)
     begun_range n Clearing is may same range = subst (InRange g' v) (sym is) (carried g g' v v Clearing same refl refl refl (all_of v.changes) range)
     begun_range n Retiring is may same range = subst (InRange g' v) (sym is) (carried g g' v v Retiring same refl refl refl (all_of v.changes) range)
+
+    draw_range : (n : ℕ) (p : Phase) → p ≡ Open [] [] → g' ≡ g → InRange g v p → InRange g' (record (after v (Draw n)) { log = log_drawn p v.log }) (log_drawn p v.log).phase
+    draw_range n p is same range =
+        subst (λ (q : Phase). InRange g' (record (after v (Draw n)) { log = log_drawn q v.log }) (log_drawn q v.log).phase) (sym is)
+        (let open_range : InRange g v (Open [] []) = subst (InRange g v) is range in
+        let drawn : View = record (after v (Draw n)) { log = log_drawn (Open [] []) v.log } in
+        ⊎_elim (λ (low : g < generation_limit). drawn_range g' drawn v.log.records v.log.entries (subst (λ m. m < generation_limit) (sym same) low))
+        (λ (un : IsUnwritten v []). subst (InRange g' drawn) (λ i. phase_drawn (sym un.no_records i) (sym un.no_entries i)) tt) open_range.0)
 
     pub range_after : (s : Step) → IsLawful v s → Moves k s mem new → InRange g v v.log.phase → InRange g' (after v s) (after v s).log.phase
     range_after (Load w found) lawful moves range = still (after v (Load w found)) (moves.0 (PoolWord (area_word k))) refl refl (all_of v.changes) range

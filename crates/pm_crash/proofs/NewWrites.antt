@@ -123,6 +123,19 @@ module _ (v next : View) (id : Oid) (off level : ℕ) (bytes : List ℕ) (some_l
         put_elsewhere pool.objects id.off off m.off bytes (λ same. differ (same ∙ made.place)) ∙ was.new m there ∙ ap (λ (o : Object). Some o) (sym (object_stays v next m (other_stays m there differ))))
         (cases_eq m.off n.off)
 
+    put_changed : IsChanged next base (record pool { objects = put_object id.off off bytes pool.objects })
+    put_changed = record {
+      fixed = (λ j. let p : PoolView = record (was.fixed j) { objects = put_object id.off off bytes pool.objects } in p);
+      rising = subst (λ (offs : List ℕ). IsStrictlyIncreasing offs) (sym (offsets-put id.off off bytes pool.objects)) was.rising;
+      new = λ m there. put_there m (made_before m there);
+      gone = λ other freed.
+          let before : is_freed_in v other ≡ true = ap (λ (b : CallBlocks). is_among b.freed other) (sym blocks_now) ∙ freed in
+          put_elsewhere pool.objects id.off off other bytes (not_gone other before) ∙ was.gone other before;
+      others = λ other not_made kept.
+          let before : is_made_in v other ≡ false = ap (λ (b : CallBlocks). list_any (is_at other) b.made) (sym blocks_now) ∙ not_made in
+          put_elsewhere pool.objects id.off off other bytes (differs other before) ∙ was.others other before (ap (λ (b : CallBlocks). is_among b.freed other) (sym blocks_now) ∙ kept);
+    }
+
 pub new_write_goes_on : (v next : View) (id : Oid) (off level : ℕ) (bytes : List ℕ) → 1 ≤ level → IsUnderWay v level stage.Work error.None → WritesNewBytes v next id off bytes → IsUnderWay next level stage.Work error.None
 new_write_goes_on v next id off level bytes some under_way writes =
     still_under_way v next level level (Write id off bytes) None under_way writes.tells (back v next id off level bytes some under_way writes) (has v next id off level bytes some under_way writes)

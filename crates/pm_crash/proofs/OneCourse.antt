@@ -291,6 +291,41 @@ module _ (o : Opening) (k : ℕ) (header : Header) (pool : PoolView) (m : Moment
         (subst (λ (act : Act). CallStep (state_after reached_all.last m.log) act (state_after step.next longer)) (sym (act_drawn v n m.log own)) (turns_history v n reached_all.last step.next m.log own step.steps))
         (held_by_heap (made_words v words) (λ i. made_final (difference_of v) i (words i)) o.lanes o.zones header step.next made (λ i heap. difference_makes_call v words i))
 
+    goes_drawn : Goes o k header pool (moved k m (record { step = Draw n; memory = memory }))
+    goes_drawn = record {
+      world = world_goes (record { step = Draw n; memory = memory }) makes;
+      in_lanes = g.in_lanes;
+      alone = λ e there. ⊎_elim
+          (λ (old : Contains m.log e). g.alone e old)
+          (λ (new : Contains (entry_of (m.views k) n ∷ []) e). sym (ap (λ (x : Entry). x.lane) (only_member (entry_of (m.views k) n) e new)) ∙ (g.world.each_lane k g.in_lanes).lane.lane)
+          (Contains-append_cases m.log (entry_of (m.views k) n ∷ []) e there);
+      others = others_rest (record { step = Draw n; memory = memory }) makes;
+      of_pool = pool_stays (record { step = Draw n; memory = memory }) makes;
+      newest = λ j e.
+          let same : Some n ≡ Some j = number_here (record { step = Draw n; memory = memory }) makes j e in
+          let is : n ≡ j = cc in
+          let counted : n ≡ m.memory CommitCounter + 1 = makes.moves.1 in
+          let counter = g.world.counter in
+          let long = longer_length in
+          omega arith;
+      front = front_here (record { step = Draw n; memory = memory }) makes;
+      range = range_here (record { step = Draw n; memory = memory }) makes;
+      over = g.over;
+      few = let long = longer_length in let was = g.few in omega (arith, long, was);
+      behind = λ j e low.
+          let same : Some n ≡ Some j = number_here (record { step = Draw n; memory = memory }) makes j e in
+          let is : n ≡ j = cc in
+          let counted : n ≡ m.memory CommitCounter + 1 = makes.moves.1 in
+          let counter = g.world.counter in
+          let was = g.few in
+          absurd (omega (arith, is, counted, counter, was, low));
+      reached = λ j from low. ⊎_elim
+          (λ (more : length m.log < j).
+          let long = longer_length in subst (Reaches o header pool) (sym (take_all j longer (omega arith))) draw_reaches)
+          (λ (few : j ≤ length m.log). subst (Reaches o header pool) (sym (take-append-le j m.log (entry_of (m.views k) n ∷ []) few)) (g.reached j from few))
+          (cases_lt (length m.log) j);
+    }
+
 pub goes_on : (o : Opening) (k : ℕ) (header : Header) (pool : PoolView) (m : Moment) (s : Move) → Goes o k header pool m → Makes o k m s → Goes o k header pool (moved k m s)
 goes_on o k header pool m s g makes = ⊎_elim
     (λ (draw : IsDraw s.step).

@@ -176,10 +176,18 @@ tells_none v refusal.OutOfRange root alone reason = subst (TellsOfRoot root Publ
 tells_none v refusal.NoObject root alone reason = tt
 tells_none v r root alone reason = absurd reason
 
+allocates_none : (v : View) (r : Refusal) → v.call ≡ record { operation = Publish; reply = Some (Refused r) } ∷ [] → allocated_in v ≡ []
+unfolding allocated_told
+allocates_none v r call = ap (allocated_told (pending_before v)) call
+
 -- nor does it make any, be it aborted by the refusal or not
 none_either : (stays : Bool) → cond stays no_blocks no_blocks ≡ no_blocks
 none_either true = refl
 none_either false = refl
+
+makes_none : (v : View) (r : Refusal) → v.call ≡ record { operation = Publish; reply = Some (Refused r) } ∷ [] → blocks_in v ≡ no_blocks
+unfolding blocks_told
+makes_none v r call = ap (blocks_told (pending_before v) no_blocks) call ∙ none_either (changes_nothing r)
 
 -- so from any pool
 pub refused_publish_is_step : (v : View) (r : Refusal) → RefusesOutside v r → pending_before v ≡ only_sets (sets_before v) → IsWholeCall v

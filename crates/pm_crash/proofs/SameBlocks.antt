@@ -199,6 +199,20 @@ module _ (o : Opening) (words : List ℕ) (size : length words ≡ length o.word
       (λ (taken : is_free_chunk opening o.lanes page ≡ false). absurd (false≢true (sym (not-true (is_chunk_taken standing o.lanes (zone_of o.lanes page) (chunk_of o.lanes page - 1)) free) ∙ still_taken page chunk taken)))
       (cases_Bool (is_free_chunk opening o.lanes page))
 
+  -- no guarded word tells of blocks: a bitmap of a new run is in no block
+  apart_now : (line i : ℕ) → Guards o line i → TellsOfBlocks (record o { words = words }) i → ⊥
+  apart_now line i guard (page, (chunk, inl descriptor)) = sound.apart line i guard (page, (chunk, inl descriptor))
+  apart_now line i guard (page, (chunk, inr bitmap)) = ⊎_elim
+      (λ (free : is_free_chunk opening o.lanes page ≡ true).
+      let is = bitmap.0 in
+      let there : i / 512 ≡ page = omega (arith, is) in
+      let taken : is_chunk_taken opening o.lanes (zone_of o.lanes page) (chunk_of o.lanes page - 1) ≡ true =
+      subst (λ p. is_chunk_taken opening o.lanes (zone_of o.lanes p) (chunk_of o.lanes p - 1) ≡ true) there (in_taken_chunk opening o.lanes i (sound.in_blocks line i guard)).1 in
+      false≢true (sym (not-true (is_chunk_taken opening o.lanes (zone_of o.lanes page) (chunk_of o.lanes page - 1)) free) ∙ taken))
+      (λ (taken : is_free_chunk opening o.lanes page ≡ false).
+      sound.apart line i guard (page, (chunk, inr (bitmap.0, ap is_run (sym (kept page (descriptor_word o.lanes page) chunk taken (inl refl))) ∙ bitmap.1))))
+      (cases_Bool (is_free_chunk opening o.lanes page))
+
   -- so the pool is sound
   pub sound_with : IsSound (record o { words = words })
   sound_with = record {

@@ -133,6 +133,10 @@ module _ (o : Opening) (header : Header) (pool : PoolView) (u : View) (n : ℕ) 
 
 -- ---- behind the log's end
 
+drop_none : (k : ℕ) → drop {A = Change} k [] ≡ []
+drop_none zero = refl
+drop_none (suc k) = refl
+
 -- with nothing undrained an image is the words
 pub settled_image : (v : View) (keep : ℕ) (image : List ℕ) → v.changes ≡ [] → IsKeptImage keep v.words (v.changes ∷ []) image → image ≡ v.words
 settled_image v keep image drained left =

@@ -45,6 +45,9 @@ module _ (v : View) (n : ℕ) (lane : v.lane ≡ 0) where
       ∙ (cond-false (eqb k 0) (pending_from none_pending v.entries) none_pending (ne_eqb k 0 other) ∙ sym (cond-false (eqb k 0) (pending_from none_pending (v.entries ++ e ∷ [])) none_pending (ne_eqb k 0 other))))
       (cases_eq k 0)
 
+  state_further : (last : PoolView) → record { pool = last; actions = with_pending pending v.lane (pending_in v) } ≡ state_alone last (v.entries ++ e ∷ [])
+  state_further last = (λ j. let s : State = record { pool = last; actions = λ k. pending_further k j } in s)
+
   act_drawn : act_of v ≡ act_alone v.entries e
   act_drawn = (λ j. let act : Act = record { lane = lane j; actions = pending_from none_pending v.entries; told = told_in v } in act)
 

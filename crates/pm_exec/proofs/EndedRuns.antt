@@ -293,6 +293,13 @@ module _ (o : Opening) (first : View) (names : Names) (all : List (List ScriptLi
         open_fate_is true = refl
         open_fate_is false = refl
 
+        flying_shown : IsShownAs names lines flying (record { number = f.number; call = f.told })
+        flying_shown = record {
+          number = refl;
+          call = refl;
+          entry = λ actions. entry_open names lines (rising_next answered lines behind (subst AreRising are rising)) actions flying f.told decided refl s.halted.unanswered f.done f.gave f.begun refl;
+        }
+
         flying_fates : (k : ℕ) (d : Entry) → k < length (history ++ flying ∷ []) → is_answered (slice_index_or (history ++ flying ∷ []) k d).fate ≡ ltb k (length answered)
         flying_fates k d low = ⊎_elim
             (λ (front : k < length history). ap (λ (e : Entry). is_answered e.fate) (get_or_append_left history (flying ∷ []) d k front) ∙ all_answered answered (lines ∷ behind) are history before.entries s.called.are k d front)

@@ -259,6 +259,14 @@ module _ (names : Names) where
       fate : IsFateOutside reply (settled_fate (answer.Outside r))
       values : (line : ℕ) → stands_outside op ≡ true → values_shown (line ∷ []) (record { operation = op; reply = reply } ∷ []) ≡ values_outside line gave
 
+    no_values : (b : Bool) → cond {A = Values} (b && false) [] [] ≡ []
+    no_values true = refl
+    no_values false = refl
+
+    one_value : (b : Bool) (line off : ℕ) → cond {A = Values} (b && false) [] ((line, Offset off) ∷ []) ≡ (line, Offset off) ∷ []
+    one_value true line off = refl
+    one_value false line off = refl
+
     -- a refusal gives nothing
     refused_outside : (op : Operation) (r : Refusal) → IsShownOutside op (Some r) (Some (Refused r)) None
     refused_outside op r = record { fate = refl; values = λ line outside. ap (λ b. cond (b && true) [] (values_of (line ∷ []) (record { operation = op; reply = Some (Refused r) } ∷ []))) outside }

@@ -64,6 +64,10 @@ one_more lane count changes d first last c there slots = ⊎_elim
 wider : (lane count more : ℕ) (changes : List Change) → count ≤ more → AreFirst lane count changes → AreFirst lane more changes
 wider lane count more changes at first c there slots = let low = first c there slots in omega (arith, low, at)
 
+marked_word : (c : Change) (b : Bool) → (cond b (record c { flushed = true }) c).word ≡ c.word
+marked_word c true = refl
+marked_word c false = refl
+
 flushed_first : (lane count line : ℕ) (changes : List Change) → AreFirst lane count changes → AreFirst lane count (flushed line changes)
 flushed_first lane count line changes first c there slots =
     let d = member_made (mark line) changes c there in

@@ -123,6 +123,9 @@ module _ (v : View) (locks : List HeldLock) (seen : map lock_of locks ≡ v.lock
       (λ k low. goes_one (AreGiven k) (AreGiven (k + 1)) (Give (line_at locks k)) (λ w is. (may k low w is, tt, then k low w is))) v
       (ap (λ locks. record v { locks = locks }) (sym seen))
 
+  none_left : (w : View) → AreGiven (length locks) w → w ≡ record v { locks = []; known = w.known }
+  none_left w is = is ∙ ap (λ (rest : List HeldLock). record v { locks = map lock_of rest; known = w.known }) (drop_all (length locks) locks (omega arith))
+
   pub lawful_gives : Ready v (gives locks v) × (after_all v (gives locks v) ≡ record v { locks = []; known = (after_all v (gives locks v)).known })
   lawful_gives = let t = all_given in (t.0, none_left (after_all v (gives locks v)) t.1)
 

@@ -53,6 +53,10 @@ lost_locks : (v : View) (line : ℕ) (write : Bool) → (after v (takes line wri
 lost_locks v line true = refl
 lost_locks v line false = refl
 
+won_locks : (v : View) (line : ℕ) (write : Bool) → (after v (takes line write true)).locks ≡ v.locks ++ record { line = line; write = write; block = None } ∷ []
+won_locks v line true = refl
+won_locks v line false = refl
+
 tried_seen : (v : View) (line : ℕ) (write won : Bool) → (after v (takes line write won)).seen ≡ v.seen ++ takes line write won ∷ []
 tried_seen v line true won = refl
 tried_seen v line false won = refl

@@ -106,6 +106,10 @@ lists_freed b call f freed lists has is = subst (ListsBlocks (record { made = b.
   dropped = lists.dropped;
 })
   where
+    with_it : with_freed f.off call ≡ record call { freed = call.freed ++ f.off ∷ [] }
+    with_it = ap (λ (t : Bool). cond t (record call { made = filter (λ (n : NewObject). not (is_at f.off n)) call.made; dropped = call.dropped ++ filter (is_at f.off) call.made }) (record call { freed = call.freed ++ f.off ∷ [] }))
+        (sym (made_is b call f.off lists) ∙ has)
+
 -- where an object of the list is, one may be
 pub made_fits : (pages off : ℕ) (ms : List Made) → list_any (begins_at off) ms ≡ true → All (FitsPages pages) ms → IsOffsetIn pages off
 made_fits pages off [] has fit = absurd (false≢true has)

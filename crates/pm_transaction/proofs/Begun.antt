@@ -30,6 +30,22 @@ reserved_for v n (inl run) = inl run.0
 reserved_for v n (inr chunks) = inr chunks
 
 module _ {M : Type 0} (at : M → View → Type 0) (lane : Lane M) (blocks : BlockLists) (v : View) (wants : List Want) (none : ListsBlocks blocks no_blocks) (alone : IsAlone v) where
+  begun_borne_out : (w : View) → w.call ≡ record { operation = Begin wants; reply = None } ∷ [] → All (IsReservedFor w) (reserved_in w) → IsBorneOut w
+  unfolding allocated_told blocks_told
+  begun_borne_out w call pending =
+      let nothing : allocated_in w ≡ [] = ap (allocated_told (pending_before w)) call in
+      let none_made : blocks_in w ≡ no_blocks = ap (blocks_told (pending_before w) no_blocks) call in
+      record {
+        made = subst (λ (b : CallBlocks). All (IsReservedFor w) (b.made ++ b.dropped)) (sym none_made) (All-nil (IsReservedFor w));
+        free = subst (All (LiesFree w)) (sym nothing) (All-nil (LiesFree w));
+        pending = pending;
+        root = first_agrees w (Begin wants) None call (root_in (slice_index w.words)) tt;
+      }
+
+  begun_none : (w : View) → w.call ≡ record { operation = Begin wants; reply = None } ∷ [] → blocks_in w ≡ no_blocks
+  unfolding blocks_told
+  begun_none w call = ap (blocks_told (pending_before w) no_blocks) call
+
   pub begun_with : HasBegun at lane v wants → HasBegunWith at lane blocks v wants
   begun_with begun =
       let same : blocks_in begun.view ≡ no_blocks = begun_none begun.view begun.call in

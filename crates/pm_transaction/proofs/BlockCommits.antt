@@ -129,6 +129,9 @@ module _ {M : Type 0} (o : Opening) (at : M → View → Type 0) (lane : Lane M)
 
         -- where it publishes no change of a block, it is a commit of what it published alone
         module _ (no_block : PublishesNoBlock v) (outer : lane.level ≡ 1) where
+          published_alone : next ≡ record lane { entries = next.entries } × (next.entries.items ≡ lane.entries.items)
+          published_alone = (fields, listed ∙ ap (λ (es : List Redo). lane.entries.items ++ es) (no_entries no_block) ∙ append-nil lane.entries.items)
+
           as_alone : (P : M → List Span → List Redo → Option ℕ → Type 0) → P next.memory next.records.items next.entries.items next.drawn → P lane.memory lane.records.items lane.entries.items lane.drawn
           as_alone P holds = subst (λ (es : List Redo). P lane.memory lane.records.items es lane.drawn) published_alone.1 (subst (λ (l : Lane M). P l.memory l.records.items next.entries.items l.drawn) fields holds)
 

@@ -207,6 +207,42 @@ module _ {M : Type 0} (o : Opening) (header : Header) (pool : PoolView) (at : M 
       }
 
   module _ (new : Lane M) (later : new ≡ record mid { memory = new.memory }) (there : at new.memory x) where
+    at_work_x : IsAtWork o at (record mid { memory = new.memory }) x
+    at_work_x = record {
+      seen = seen_given at mid (record mid { memory = new.memory }) w x at_w.work.seen beside_w refl there;
+      level = at_w.work.level;
+      works = at_w.work.works;
+      unharmed = at_w.work.unharmed;
+      unstopped = at_w.work.unstopped;
+      spans = at_w.work.spans;
+      sound = at_w.work.sound;
+      zones = at_w.work.zones;
+      opening = finds_opening o header pool x (stood o header pool start x (behind_cancel ++ gives) works_x);
+      working = working_in_call o header pool start w behind_cancel mid.shape ns may at_w.work.working;
+      no_entries = unused.entered ∙ at_w.work.no_entries;
+      published = lists_on mid (record mid { memory = new.memory }) w x refl same_lane_x unused.locks (published_same w x unused.entries unused.call) (subst (λ (b : CallBlocks). (b.made ≡ []) × (b.dropped ≡ [])) same_blocks_x) at_w.work.published;
+      under_way = call_x.under_way;
+      may_come = record { found = at_w.work.may_come.found; seen = subst (λ (u : View). Contains u.seen (NumberSeen at_w.work.may_come.found)) (sym beside_w) at_w.work.may_come.seen; below = at_w.work.may_come.below };
+      lines = subst HoldsLines (sym beside_w) (record { inside = at_w.work.lines.inside; once = at_w.work.lines.once });
+      objects = found_still;
+    }
+
+    at_work : IsAtWorkWith o at (record mid { memory = new.memory }) blocks x
+    at_work = record {
+      work = at_work_x;
+      lists = subst (ListsBlocks blocks) (sym same_blocks_x) at_w.lists;
+      pages = (let pages = at_w.pages in let lanes = unused.lanes in let zones = unused.zones in omega (arith, pages, lanes, zones));
+      alone = same_lane_x.table ∙ at_w.alone;
+      not_making = not_making_able x mid.shape call_x.can;
+      borne_out = call_x.borne_out;
+      freed_held = at_w.freed_held;
+      within = λ n made. lies_in_reserved o header pool start (behind_cancel ++ gives) x works_x n
+          (All-contains (IsReservedFor x) ((blocks_in x).made ++ (blocks_in x).dropped) n call_x.borne_out.made (Contains-append_left (blocks_in x).made (blocks_in x).dropped n made));
+      has_reserved = none_reserved x (ap (λ (p : Pending). p.reserved) none_x);
+      reserved_within = subst (All (LiesInReserved x)) (sym none_reserved_x) (All-nil (LiesInReserved x));
+      reserved_free = subst (All (LiesFree x)) (sym none_reserved_x) (All-nil (LiesFree x));
+    }
+
     behind : given_up_view v ≡ x
     unfolding cancels_pending by_view in_turn
     behind = after_all-append v (cancels v) gives

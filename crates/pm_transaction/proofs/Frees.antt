@@ -153,6 +153,15 @@ module _ {M : Type 0} (o : Opening) (at : M → View → Type 0) (lane : Lane M)
     abbrev made_there : Bool
     made_there = list_any (begins_at id.off) blocks.made
 
+    listed_held : (lines : ℕ) → (made_there ≡ false → IsHeldFreed lane.locks.items (record { off = id.off; lines = lines })) → now.freed ≡ cond made_there blocks.freed (blocks.freed ++ record { off = id.off; lines = lines } ∷ [])
+        → All (IsHeldFreed lane.locks.items) now.freed
+    listed_held lines held are = ⊎_elim
+        (λ (there : made_there ≡ true). subst (All (IsHeldFreed lane.locks.items)) (sym (are ∙ cond-true made_there _ _ there)) is.freed_held)
+        (λ (none : made_there ≡ false).
+        subst (All (IsHeldFreed lane.locks.items)) (sym (are ∙ cond-false made_there _ _ none))
+        (All-append (IsHeldFreed lane.locks.items) blocks.freed _ is.freed_held (All-cons (IsHeldFreed lane.locks.items) _ [] (held none) (All-nil (IsHeldFreed lane.locks.items)))))
+        (cases_Bool made_there)
+
     pub has_freed : (next : Lane M) → HasSameFields lane next → next.records ≡ lane.records → at next.memory told → (lines : ℕ) → (made_there ≡ false → IsHeldFreed lane.locks.items (record { off = id.off; lines = lines }))
         → ((call : CallBlocks) → ListsBlocks blocks call → ListsBlocks now (with_freed id.off call))
         → now.freed ≡ cond made_there blocks.freed (blocks.freed ++ record { off = id.off; lines = lines } ∷ []) → length now.dropped ≡ length blocks.dropped → HasFreed o at next now v id

@@ -124,10 +124,27 @@ module _ (v w : View) (same : HasSameHeads v w) where
     pages_still : AreForPool blocks w
     pages_still = let pages = keeps.pages in let lanes = same.lanes in let zones = same.zones in omega (arith, pages, lanes, zones)
 
+    -- what is reserved behind an operation that leaves it was before
+    reserved_told : (op : Operation) (reply : Option Value) → w.entries ≡ v.entries → w.call ≡ v.call ++ record { operation = op; reply = reply } ∷ [] → LeavesReserved op reply (pending_in v) → All (LiesInReserved w) (reserved_in w)
+    reserved_told op reply entries call leaves =
+        All-weaker (Contains (reserved_in w)) (LiesInReserved w)
+        (λ n there. lies_still n
+        (All-contains (LiesInReserved v) (reserved_in v) n keeps.reserved_within
+        (reserved_behind op reply (pending_in v) leaves n (subst (λ (p : Pending). Contains (map reserved_object p.reserved) n) (pending_once_more v w op reply entries call) there))))
+        (reserved_in w) (All-contains_itself (reserved_in w))
+
     reserved_quiet : w.entries ≡ v.entries → w.call ≡ v.call → All (LiesInReserved w) (reserved_in w)
     reserved_quiet entries call =
         subst (λ (p : Pending). All (LiesInReserved w) (map reserved_object p.reserved)) (sym (pending_same v w entries call))
         (All-weaker (LiesInReserved v) (LiesInReserved w) lies_still (reserved_in v) keeps.reserved_within)
+
+    free_told : (op : Operation) (reply : Option Value) → w.entries ≡ v.entries → w.call ≡ v.call ++ record { operation = op; reply = reply } ∷ [] → LeavesReserved op reply (pending_in v) → All (LiesFree w) (reserved_in w)
+    free_told op reply entries call leaves =
+        All-weaker (Contains (reserved_in w)) (LiesFree w)
+        (λ n there. free_still v w same n
+        (All-contains (LiesFree v) (reserved_in v) n keeps.reserved_free
+        (reserved_behind op reply (pending_in v) leaves n (subst (λ (p : Pending). Contains (map reserved_object p.reserved) n) (pending_once_more v w op reply entries call) there))))
+        (reserved_in w) (All-contains_itself (reserved_in w))
 
     free_quiet : w.entries ≡ v.entries → w.call ≡ v.call → All (LiesFree w) (reserved_in w)
     free_quiet entries call =

@@ -87,6 +87,9 @@ module _ {M : Type 0} (o : Opening) (at : M → View → Type 0) (lane : Lane M)
       subst (λ (p : Pending). All (LiesInReserved w) (map reserved_object p.reserved)) (sym now_pending)
       (each_more (LiesInReserved w) (pending_in v).reserved (record { off = n.off; kind = kind; bytes = replicate size 0 }) before (subst (LiesInReserved w) (sym zeros_are) new))
     where
+      zeros_are : reserved_object (record { off = n.off; kind = kind; bytes = replicate size 0 }) ≡ n
+      zeros_are = ap (λ (k : ℕ). let m : NewObject = record { off = n.off; kind = kind; size = k } in m) (length-replicate size 0)
+
   pub still_reserving : (next : Lane M) → HasSameFields lane next → next.records ≡ lane.records → at next.memory w → MayAllocate o at next blocks w
   still_reserving next fields records seen = record {
     works = record {

@@ -24,8 +24,8 @@ ghost use Rattle.pm_transaction.specs.AtWork.{HasLookedWith, IsAtWorkWith, IsLan
 ghost use Rattle.pm_transaction.specs.Publishing.{CanPublish, HasPublishedWith, IsPublishGivenUp, IsPublishRefused, IsPublishStopped};
 
 use crate::freeing::load_root;
-use crate::published_lists::{move_frees, move_reserved};
 use crate::publish_checks::{check_ends, check_left, check_owned, has_object};
+use crate::published_lists::{move_frees, move_reserved};
 use pm_made::CallBlocks;
 use pm_objects::{Oid, Operation, Refusal};
 use pm_pending::{PendingActions, list_entries};
@@ -125,11 +125,7 @@ pub(crate) fn count_made(blocks: &CallBlocks, ids: &[Oid]) -> usize
 
 /// Whether the log has room for the entries of all that is pending, with those that it lists and those of the blocks, and for the one that ends the
 /// generation. An object that the call made and frees takes its entry back.
-fn has_room_for<M: LawfulMem>(
-    lane: &Lane<M>,
-    blocks: &CallBlocks,
-    pending: &PendingActions,
-) -> bool
+fn has_room_for<M: LawfulMem>(lane: &Lane<M>, blocks: &CallBlocks, pending: &PendingActions) -> bool
     ensures yes { IsTrue result → (o : Opening) (v : View) → IsAtWorkWith o M.at lane.now blocks.now v → IsPendingAs pending.now (pending_in v) → (pending_in v).late ≡ false → entries_published v ≤ max_entries }
     ensures no_ { result ≡ false → (o : Opening) (v : View) → IsAtWorkWith o M.at lane.now blocks.now v → IsPendingAs pending.now (pending_in v) → (pending_in v).late ≡ false → max_entries < entries_published v }
 {

@@ -57,6 +57,12 @@ module _ (old : View → Type 0) (spans : List Span) (r : IsDecidable old spans 
     unfolding IsReady decides in_turn
     may_retire = (behind n, (there, ready_right v (ends_call Commit None n v) (retires_any spans (behind n)) (r.1.1.1 n)))
 
+ended_stops : (old mid new : View → Type 0) (spans : List Span) (n : ℕ) (stopped : Stopped) → IsMade old mid (ends_call Commit None n) → Runs {T = Unit {0}} mid new (retires_any spans) (Err stopped) → StopsEnded old new spans [] n
+unfolding Runs decides decides_all completes logs_listed in_turn nothing after_all
+ended_stops old mid new spans n stopped made runs v seen ready =
+    let behind : View = after_all v (ends_call Commit None n v) in
+    runs behind (made v seen (ready_left v (ends_call Commit None n v) (retires_any spans behind) ready)) (ready_right v (ends_call Commit None n v) (retires_any spans behind) ready)
+
 -- the call ended, and its records were not
 pub stops_ended : (old mid new : View → Type 0) (spans : List Span) (n : ℕ) (result : Result (Unit {0}) Stopped) → IsMade old mid (ends_call Commit None n) → Runs mid new (retires_any spans) result → OnErr result (StopsEnded old new spans [] n)
 stops_ended old mid new spans n (Ok done) made runs = tt

@@ -20,10 +20,7 @@ use Rattle.pm_tx.specs.Begins.{HasRefused, HasStoppedRefused}
 use Rattle.pm_tx.specs.Sequences.{ends_call, gives_up, takes_back}
 use Rattle.pm_tx.proofs.NothingUndrained.{ends_at_once, ends_uncounted, uncounted_never_stops}
 
-module _ (v : View) (none : v.changes ≡ []) (operation : Operation) (reply : Option Value) (n : ℕ) where
 -- and leaves what it has reserved
 pub ended_leaves : (v : View) (operation : Operation) (reply : Option Value) (n : ℕ) → DrawEnded v (ends_call operation reply n v) → LeaveBlocks v (ends_call operation reply n v)
 unfolding ends_call in_turn one DrawEnded LeaveBlocks after_all
 ended_leaves v operation reply n draws = ((λ i. v.reserved), ((heap_drawn (after v (Tell operation reply)) n draws.1.0.1).reserved, tt))
-
-module _ {M : Type 0} (at : M → View → Type 0) (lane : Lane M) (v : View) (wants : List Want) (none : v.changes ≡ []) where

@@ -48,5 +48,3 @@ module _ (operation : Operation) (reply : Option Value) (n : ℕ) (v : View) whe
     pub ends_at_once : in_turn settles (ends_call operation reply n) v ≡ ends_call operation reply n v
     unfolding in_turn after_all
     ends_at_once = ap (λ (steps : List Step). steps ++ ends_call operation reply n (after_all v steps)) (settles_nothing v none)
-
-module _ (entries : List Redo) (operation : Operation) (n : ℕ) (v : View) (none : v.changes ≡ []) where

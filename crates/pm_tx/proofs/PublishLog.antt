@@ -87,6 +87,18 @@ module _ {T : Type 0} (old mid behind new : View → Type 0) (entries listed : L
         runs_then old (Knows mid) new (logs entries) (in_turn (ends_call operation None n) (performs_logged entries)) answer result known_logged
         (runs_then (Knows mid) (Knows behind) new (ends_call operation None n) (performs_logged entries) tt result known_ended known_performed)
 
+  stops_behind : (stopped : Stopped) → Runs {T = Unit {0}} behind new (performs listed) (Err stopped) → StopsPublished old new entries operation n
+  unfolding Runs publishes in_turn
+  stops_behind stopped done v seen ready =
+      let first = logs entries v in
+      let m : View = logged_view v entries in
+      let ends = ends_call operation None n m in
+      let d : View = published_view v entries operation n in
+      let rest = ready_right v first (ends ++ performs_logged entries d) ready in
+      let logged = known_logged v seen (ready_left v first (ends ++ performs_logged entries d) ready) in
+      let ended = known_ended m logged (ready_left m ends (performs_logged entries d) rest) in
+      known_performed (Err stopped) done d ended (ready_right m ends (performs_logged entries d) rest)
+
   -- the lane stopped as the log was performed
   pub stops_published : (result : Result (Unit {0}) Stopped) → Runs behind new (performs listed) result → OnErr result (StopsPublished old new entries operation n)
   stops_published (Ok done) ran = tt

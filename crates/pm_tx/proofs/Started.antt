@@ -76,6 +76,19 @@ module _ {M : Type 0} (at : M → View → Type 0) (lane : Lane M) (v : View) (i
   unfolding Runs
   saw mid made = subst mid looks_at.1 (made v is.seen.memory looks_at.0)
 
+  rests_so : (memory : M) → at memory u → IsAtRest at (record lane { memory = memory }) u
+  rests_so memory there = record {
+    seen = record { memory = there; locks = is.seen.locks; records = is.seen.records; drawn = is.seen.drawn; last = is.seen.last; pool = is.seen.pool; shape = (let s = is.seen.shape in record { lanes = s.lanes; zones = s.zones; size = s.size }) };
+    answered = is.answered;
+    unharmed = is.unharmed;
+    unstopped = is.unstopped;
+    unlisted = is.unlisted;
+    fresh = is.fresh;
+    undrained = rest_kept v u refl refl refl refl (λ alone. refl) is.undrained;
+    free = is.free;
+    place = (let p = is.place in record { lane = p.lane; few = p.few; inside = p.inside });
+  }
+
   pub spent_at_once : (memory : M) → IsMade (at lane.memory) (at memory) sees_generation → RestsBehind at (record lane { memory = memory }) v sees_generation
   spent_at_once memory made = record {
     ready = looks_at.0;
