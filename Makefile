@@ -13,7 +13,8 @@ build:
 # writes eight bytes of its root, and stops at some call: a power failure leaves the root unchanged, or changed as a whole. Three more are run one
 # after another: what the first wrote is read, the second is refused a write that it did not record, and the third reads what stands. Then
 # two words are set by one publish: a power failure leaves both or neither. At last a transaction makes an object, and the next frees it and makes
-# another: a power failure leaves each of these calls whole, or not at all.
+# another: a power failure leaves each of these calls whole, or not at all. Then an object is reserved and written, one that is there is to be freed and a
+# word to be set, and one publish does it all: a power failure leaves all of it, or nothing.
 demo: build
 	@rm -f $(POOL) build/damaged.pool build/demo-*.pool
 	@printf 'lane 0\nbegin root\nadd root 0 8\nwrite root 0 0102030405060708\ncommit\n' > build/demo.script
@@ -49,6 +50,15 @@ demo: build
 	  echo "build/pmempool exec $(POOL) .. --stops 0:$$stop --keep $$keep"; \
 	  build/pmempool exec $(POOL) --script build/demo-objects.script --out build/demo-objects-$$stop-$$keep.pool --layout demo --stops 0:$$stop --keep $$keep; \
 	  build/pmempool dump build/demo-objects-$$stop-$$keep.pool; \
+	done; done
+	@printf 'lane 0\nbegin\nalloc x 64 9\ncommit\n' > build/demo-old.script
+	build/pmempool exec $(POOL) --script build/demo-old.script --out build/demo-old.pool --layout demo
+	@printf 'lane 0\nreserve a 64 6\nput $$a 0 ff\ndefer 16640\nset root 8 42\npublish\n' > build/demo-publish.script
+	cat build/demo-publish.script
+	@for stop in 32 33 35 46; do for keep in 0 1; do \
+	  echo "build/pmempool exec build/demo-old.pool .. --stops 0:$$stop --keep $$keep"; \
+	  build/pmempool exec build/demo-old.pool --script build/demo-publish.script --out build/demo-publish-$$stop-$$keep.pool --layout demo --stops 0:$$stop --keep $$keep; \
+	  build/pmempool dump build/demo-publish-$$stop-$$keep.pool; \
 	done; done
 
 # Times beside `cp` of the same file, and the times of ten million stores and of ten thousand blocks reserved by one lane alone.
