@@ -163,6 +163,50 @@ found_is_block words w lanes zones line lines none agree inside found =
     let chunk : (c : ℕ) × IsChunkOf lanes zones page c = chunk_of_page lanes zones page (omega arith) is in
     found_in_chunk w lanes zones line lines chunk.0 none chunk.1 there
 
+-- a block of a run is found at its line, and so is one of whole chunks
+run_found : (w : ℕ → ℕ) (lanes c line lines : ℕ) → (run : IsRunBlock w lanes c (record { place = 64 * line; lines = lines }))
+    → (line / 64 ≡ 2 + 2 * lanes + 65 * (c / 64) + c % 64) × (block_by true (w (descriptor_word lanes c)) (w (chunk_word lanes c)) (line % 64) ≡ Some lines)
+run_found w lanes c line lines run =
+    let d : ℕ = w (descriptor_word lanes c) in
+    let b : ℕ = w (chunk_word lanes c) in
+    let n : ℕ = run.lines in
+    let before : ℕ = n * run.index in
+    let fits : 1 + n * run.index + n ≤ 64 = run_fits n run.index run.inside in
+    let some : 1 ≤ n = run_has_lines n run.index run.inside in
+    let place : 8 * chunk_word lanes c + 64 * (1 + n * run.index) ≡ 64 * line = ap (λ (x : Block). x.place) run.is_block in
+    let count : n ≡ lines = ap (λ (x : Block). x.lines) run.is_block in
+    let in_page : line % 64 ≡ 1 + n * run.index = omega arith in
+    let behind : line % 64 - 1 ≡ n * run.index = omega arith in
+    let class = lines_of_class d n run.is_run in
+    let whole : (line % 64 - 1) % n ≡ 0 = ap (λ (k : ℕ). k % n) behind ∙ mul-mod_right n run.index in
+    let index : (line % 64 - 1) / n ≡ run.index = ap (λ (k : ℕ). k / n) behind ∙ mul-div_cancel_left run.index some in
+    let has : has_block b n (line % 64) ≡ true =
+    and_from (leb 1 (line % 64) && eqb ((line % 64 - 1) % n) 0) (eqb (bit_at b ((line % 64 - 1) / n)) 1)
+    (and_from (leb 1 (line % 64)) (eqb ((line % 64 - 1) % n) 0) (le-leb 1 (line % 64) (omega arith)) (eq-eqb ((line % 64 - 1) % n) 0 whole))
+    (eq-eqb (bit_at b ((line % 64 - 1) / n)) 1 (ap (bit_at b) index ∙ run.is_set)) in
+    let test : (is_run d && has_block b (d / 256) (line % 64)) ≡ true =
+    and_from (is_run d) (has_block b (d / 256) (line % 64)) (eq-eqb (d % 256) 1 class.0) (ap (λ (k : ℕ). has_block b k (line % 64)) class.1 ∙ has) in (
+      omega arith,
+      ap (λ (t : Bool). cond t (Some (d / 256)) (cond (is_huge d && eqb (line % 64) 0) (Some (64 * (d / 256))) None)) test ∙ ap (λ (k : ℕ). Some k) (class.1 ∙ count),
+    )
+
+whole_found : (w : ℕ → ℕ) (lanes c line lines : ℕ) → (whole : IsChunkBlock w lanes c (record { place = 64 * line; lines = lines }))
+    → (line / 64 ≡ 2 + 2 * lanes + 65 * (c / 64) + c % 64) × (block_by true (w (descriptor_word lanes c)) (w (chunk_word lanes c)) (line % 64) ≡ Some lines)
+whole_found w lanes c line lines whole =
+    let d : ℕ = w (descriptor_word lanes c) in
+    let b : ℕ = w (chunk_word lanes c) in
+    let n : ℕ = whole.chunks in
+    let place : 8 * chunk_word lanes c ≡ 64 * line = ap (λ (x : Block). x.place) whole.is_block in
+    let count : 64 * n ≡ lines = ap (λ (x : Block). x.lines) whole.is_block in
+    let in_page : line % 64 ≡ 0 = omega arith in
+    let class = chunks_of_class d n whole.is_first in
+    let low = class.0 in
+    let no_run : (is_run d && has_block b (d / 256) (line % 64)) ≡ false = ap (λ (t : Bool). t && has_block b (d / 256) (line % 64)) (ne_eqb (d % 256) 1 (λ one. omega arith)) in
+    let huge : (is_huge d && eqb (line % 64) 0) ≡ true = and_from (is_huge d) (eqb (line % 64) 0) (eq-eqb (d % 256) 2 low) (eq-eqb (line % 64) 0 in_page) in (
+      omega arith,
+      (λ j. cond (no_run j) (Some (d / 256)) (cond (huge j) (Some (64 * (d / 256))) None)) ∙ ap (λ (k : ℕ). Some k) (ap (λ (k : ℕ). 64 * k) class.1 ∙ count),
+    )
+
 pub block_is_found : (words : List ℕ) (w : ℕ → ℕ) (lanes zones line lines : ℕ) → heap_fault w lanes zones ≡ None → AgreeAtLine words w lanes line
     → Contains (blocks w lanes zones) (record { place = 64 * line; lines = lines }) → block_at lanes words line ≡ Some lines
 block_is_found words w lanes zones line lines none agree there =

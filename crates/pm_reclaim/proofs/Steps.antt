@@ -53,6 +53,14 @@ reclaims_then u v w first second = record {
 
 -- ---- looks
 
+-- of what the lane saw, and of which words it knows, what is taken says nothing
+knows_beside : (v : View) (known : List ℕ) (seen : List Step) → KnowsTaken v → KnowsTaken (record v { known = known; seen = seen })
+knows_beside v known seen knows = record { pages = knows.pages; zone_count = knows.zone_count; bits = knows.bits; apart = knows.apart; once = knows.once }
+
+occ_beside : (v : View) (known : List ℕ) (seen : List Step) (at : Occ) → occ_in (record v { known = known; seen = seen }) at ≡ occ_in v at
+occ_beside v known seen (Run place) = refl
+occ_beside v known seen (Zone zone) = refl
+
 -- a step to a view that is the other but for those
 reclaims_seen : (v w : View) (s : Step) → KnowsTaken v → Leads v (s ∷ []) w → IsReclaiming s → w ≡ record v { known = w.known; seen = w.seen } → Reclaims v w
 reclaims_seen v w s knows leads is same = record {

@@ -89,9 +89,17 @@ left_then u v w first second = record {
   knows = λ n i lies word there. second.knows n i lies word (first.knows n i (lay_before v w second n lies) word there);
 }
 
+-- a view that saw or knows more
+left_seen : (v : View) (known : List ℕ) (seen : List Step) → ((i : ℕ) → Contains v.known i → Contains known i) → IsLeftOf v (record v { known = known; seen = seen })
+left_seen v known seen more = record { lanes = refl; zones = refl; words = refl; less = λ at bit had. had; knows = λ n i lies word there. more i there }
+
 knows_more : (holds : Bool) (w : ℕ) (known : List ℕ) (i : ℕ) → Contains known i → Contains (cond holds (w ∷ known) known) i
 knows_more true w known i there = later_member w known i there
 knows_more false w known i there = there
+
+-- of what the lane saw, and of which words it knows, what is taken says nothing
+taken_seen : (v : View) (known : List ℕ) (seen : List Step) → KnowsTaken v → KnowsTaken (record v { known = known; seen = seen })
+taken_seen v known seen taken = record { pages = taken.pages; zone_count = taken.zone_count; bits = taken.bits; apart = taken.apart; once = taken.once }
 
 -- the lane rests alone with no line locked, and knows what is taken
 record IsAloneTaken (v : View) : Type 0 where
