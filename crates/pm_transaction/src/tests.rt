@@ -112,17 +112,6 @@ fn no_transaction(rt: HostRuntime) -> Result<(), Fail> {
     );
     assert_eq!(rt; alloc(&mut lane, &mut blocks, 64, 1), Err(Refusal::NoTx));
     assert_eq!(rt; blocks.count(), 0);
-    let mut actions = ArrayVec::new();
-    actions.push(SetAction {
-        id: id(16512),
-        off: 8,
-        value: 42,
-    });
-    assert_eq!(rt;
-        publish(&mut lane, &blocks, &mut actions),
-        Err(Refusal::NoTx)
-    );
-    assert_eq!(rt; actions.len(), 1);
     let mut pending = PendingActions {
         sets: ArrayVec::new(),
         frees: ArrayVec::new(),
