@@ -75,7 +75,7 @@ ALLOCS := 24
 
 refuse:
 	@mkdir -p build
-	@for crate in pm_raw pm_shelf pm_objects pm_image pm_recover pm_memory pm_script pm_text pm_pool pmempool; do for n in $$(seq 1 $(ALLOCS)); do \
+	@for crate in pm_raw pm_shelf pm_objects pm_image pm_recover solo_memory solo_script pm_text pm_pool pmempool; do for n in $$(seq 1 $(ALLOCS)); do \
 	  status=0; (cd crates/$$crate && rt try --test --fail-alloc $$n) > build/refuse.log 2>&1 || status=$$?; \
 	  echo "$$crate $$n: status $$status"; grep -E 'left:|error:' build/refuse.log | sort | uniq -c; \
 	  if test $$status -eq 4; then cat build/refuse.log; exit 1; fi; \

@@ -42,15 +42,15 @@ done
 
 # The other two are programs of their own, outside the gate: their files end in .in, so that the gate takes them for no crate's. They are proved and
 # built in a root of their own beside copies of the crates that they use, with the work that the checks of these crates kept.
-(cd crates/pm_runs && rt lib) > build/bench.log 2>&1
+(cd crates/solo_runs && rt lib) > build/bench.log 2>&1
 root="$folder/root"
 mkdir -p "$root/crates"
 cp HANDLES "$root/"
-for crate in pm_words pm_layout pm_raw pm_header pm_record pm_objects pm_image pm_view pm_memory pm_world pm_runs; do
+for crate in pm_words pm_layout pm_raw pm_header pm_record pm_objects pm_image solo_view solo_memory solo_world solo_runs; do
   grep "^$crate:" crates.txt
   cp -a "crates/$crate" "$root/crates/"
 done > "$root/crates.txt"
-printf '%s\n' 'stores: pm_memory pm_view' 'reserve: pm_layout pm_memory pm_runs pm_view pm_world' >> "$root/crates.txt"
+printf '%s\n' 'stores: solo_memory solo_view' 'reserve: pm_layout solo_memory solo_runs solo_view solo_world' >> "$root/crates.txt"
 (cd bench && find stores reserve -name '*.in') | while read -r file; do
   install -D -m 644 "bench/$file" "$root/crates/${file%.in}"
 done

@@ -11,10 +11,10 @@ use Rattle.pm_image.specs.declared.fault.MeansFault.TheVariants.{Image, Memory}
 use Rattle.pm_image.specs.declared.fault.ImageFault.{ImageFault}
 use Rattle.pm_image.proofs.Meanings.{no_meaning_and_fault, one_meaning}
 use Rattle.pm_pool.specs.Created.{Wanted}
-use Rattle.pm_script.proofs.Readings.{not_both as no_script_and_bad_line}
-use Rattle.pm_script.specs.Scripts.{IsBadLine, left}
-use Rattle.pm_script.specs.Words.{lines}
-use Rattle.pm_script.specs.declared.fault.BadLine.{BadLine}
+use Rattle.solo_script.proofs.Readings.{not_both as no_script_and_bad_line}
+use Rattle.solo_script.specs.Scripts.{IsBadLine, left}
+use Rattle.solo_script.specs.Words.{lines}
+use Rattle.solo_script.specs.declared.fault.BadLine.{BadLine}
 use Rattle.pm_shelf.specs.Outside.{Held, Rose, IsMissing, IsThere, IsWhole}
 use Rattle.pmempool.specs.Words.{Create, Exec, IsCreate, IsDump, IsExec}
 use Rattle.pmempool.specs.PoolFiles.{limit, BytesMean, BytesFail, IsFaulty}

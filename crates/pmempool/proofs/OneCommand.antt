@@ -1,7 +1,7 @@
 -- Words are one command at most.
 use Rattle.std.proofs.Common.{◌≡◌, ◌≤◌, ℕ, List, length, Option, Some, inl, inr, codes, sym, ap, ◌∙◌, arith}
-use Rattle.pm_script.specs.Stops.{parts, stop_of}
-use Rattle.pm_script.proofs.StopLists.{stops_once}
+use Rattle.solo_script.specs.Stops.{parts, stop_of}
+use Rattle.solo_script.proofs.StopLists.{stops_once}
 use Rattle.pmempool.specs.Asked.{IsCommand, asked, asked_run}
 use Rattle.pmempool.specs.Words.{Create, Exec, HasKeep, HasOptions, HasStops, IsCreate, IsDump, IsExec, IsNoCommand, IsStopIn, word}
 use Rattle.pmempool.specs.declared.options.Command.{Command}

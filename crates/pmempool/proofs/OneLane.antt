@@ -1,12 +1,12 @@
 -- A script of one lane is of transactions, and calls outside of them, one after another.
 use Rattle.std.proofs.Common.{◌≡◌, ℕ, ◌==◌, All, Bool, true, List, [], ◌∷◌, refl, ◌∙◌, ap, subst, if◌then◌else◌}
 use Rattle.std.proofs.lemmas.List.Elements.{All-head, All-tail, All-weaker}
-use Rattle.pm_script.specs.Scripts.{AreCalls, IsScript, NamesEarlierLines, of_lane, operations}
-use Rattle.pm_script.specs.declared.script.Script.{Script}
-use Rattle.pm_script.specs.declared.script.ScriptLine.{ScriptLine}
-use Rattle.pm_script.proofs.BoundLetters.{NamesLines, letters_named}
-use Rattle.pm_script.proofs.LaneCalls.{lane_calls}
-use Rattle.pm_script.proofs.NamedLanes.{one_lane}
+use Rattle.solo_script.specs.Scripts.{AreCalls, IsScript, NamesEarlierLines, of_lane, operations}
+use Rattle.solo_script.specs.declared.script.Script.{Script}
+use Rattle.solo_script.specs.declared.script.ScriptLine.{ScriptLine}
+use Rattle.solo_script.proofs.BoundLetters.{NamesLines, letters_named}
+use Rattle.solo_script.proofs.LaneCalls.{lane_calls}
+use Rattle.solo_script.proofs.NamedLanes.{one_lane}
 
 -- where each line is of lane 0, that has all lines
 all_of_lane : (lines : List ScriptLine) → All (λ (line : ScriptLine). line.lane ≡ 0) lines → of_lane 0 lines ≡ lines

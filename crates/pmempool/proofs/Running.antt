@@ -2,20 +2,20 @@
 use Rattle.std.proofs.Common.{◌≡◌, ℕ, ◌%◌, List, [], ◌∷◌, length, inr, Option, subst}
 use Rattle.std.specs.Borrow.{Bor}
 use Rattle.pm_words.specs.Words.{bytes_of, words_of}
-use Rattle.pm_exec.specs.declared.outcome.OpenFault.{OpenFault}
-use Rattle.pm_exec.specs.declared.outcome.OpenFault.TheVariants as opening
-use Rattle.pm_exec.specs.Opening.{HasFewerLanes, IsOfOtherLayout, IsOpenCause, IsOpened}
-use Rattle.pm_exec.specs.Letters.{AreGiven, Offsets, resolved}
-use Rattle.pm_exec.specs.Runs.{IsHistoryOf, LeavesReplay, MakesCallsOf}
-use Rattle.pm_exec.specs.Torn.{HasNoTornMatch}
+use Rattle.solo_exec.specs.declared.outcome.OpenFault.{OpenFault}
+use Rattle.solo_exec.specs.declared.outcome.OpenFault.TheVariants as opening
+use Rattle.solo_exec.specs.Opening.{HasFewerLanes, IsOfOtherLayout, IsOpenCause, IsOpened}
+use Rattle.solo_exec.specs.Letters.{AreGiven, Offsets, resolved}
+use Rattle.solo_exec.specs.Runs.{IsHistoryOf, LeavesReplay, MakesCallsOf}
+use Rattle.solo_exec.specs.Torn.{HasNoTornMatch}
 use Rattle.pm_image.specs.Means.{IsImageFault, IsMeaning}
 use Rattle.pm_objects.specs.declared.history.Entry.{Entry}
 use Rattle.pm_objects.specs.declared.pool.PoolView.{PoolView}
 use Rattle.pm_recover.specs.Recovery.{IsRecovered}
-use Rattle.pm_script.specs.Scripts.{IsScript}
-use Rattle.pm_script.specs.Words.{lines}
-use Rattle.pm_script.specs.declared.script.Script.{Script}
-use Rattle.pm_script.specs.declared.script.ScriptLine.{ScriptLine}
+use Rattle.solo_script.specs.Scripts.{IsScript}
+use Rattle.solo_script.specs.Words.{lines}
+use Rattle.solo_script.specs.declared.script.Script.{Script}
+use Rattle.solo_script.specs.declared.script.ScriptLine.{ScriptLine}
 use Rattle.pm_text.specs.Report.{report_text}
 use Rattle.pm_text.specs.declared.report.LaneEnd.{LaneEnd}
 use Rattle.pmempool.specs.Executed.{IsRunFault, IsRunOver, open_failure}

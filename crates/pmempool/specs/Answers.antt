@@ -6,7 +6,7 @@ use Rattle.pm_pool.specs.Created.{created}
 use Rattle.pm_image.specs.declared.fault.ImageFault.{ImageFault}
 use Rattle.pm_shelf.specs.Outside.{Held, Rose, IsThere, IsMissing, Adds, gained, GainedPart}
 use Rattle.pm_text.specs.Lines.{GainedLines}
-use Rattle.pm_script.specs.declared.fault.BadLine.{BadLine}
+use Rattle.solo_script.specs.declared.fault.BadLine.{BadLine}
 use Rattle.pmempool.specs.Executed.{HasBadLine, HasMoreLanes, IsOtherLayout, IsRunOf, IsTooLongScript}
 use Rattle.pmempool.specs.Words.{Create, Exec, IsCreate, IsDump, IsExec, IsNoCommand}
 use Rattle.pmempool.specs.Refusals.{IsGood, IsCause}

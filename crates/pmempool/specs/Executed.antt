@@ -5,20 +5,20 @@ use Rattle.pm_image.specs.Means.{IsMeaning}
 use Rattle.pm_objects.specs.declared.history.Entry.{Entry}
 use Rattle.pm_objects.specs.declared.pool.PoolView.{PoolView}
 use Rattle.pm_recover.specs.Recovery.{IsRecovered}
-use Rattle.pm_script.specs.Scripts.{IsBadLine, IsScript}
-use Rattle.pm_script.specs.Words.{lines}
-use Rattle.pm_script.specs.declared.fault.BadLine.{BadLine}
-use Rattle.pm_script.specs.declared.script.Script.{Script}
+use Rattle.solo_script.specs.Scripts.{IsBadLine, IsScript}
+use Rattle.solo_script.specs.Words.{lines}
+use Rattle.solo_script.specs.declared.fault.BadLine.{BadLine}
+use Rattle.solo_script.specs.declared.script.Script.{Script}
 use Rattle.pm_shelf.specs.Outside.{Held, IsFront, IsMissing, IsThere, IsWhole, MayAddPart, Rose}
 use Rattle.pm_text.specs.Report.{report_text}
 use Rattle.pm_text.specs.declared.report.LaneEnd.{LaneEnd}
 use Rattle.std.specs.Borrow.{Bor}
-use Rattle.pm_exec.specs.declared.outcome.OpenFault.{OpenFault}
-use Rattle.pm_exec.specs.declared.outcome.OpenFault.TheVariants as opening
-use Rattle.pm_exec.specs.Letters.{AreGiven, Offsets, resolved}
-use Rattle.pm_exec.specs.Opening.{HasFewerLanes, IsOfOtherLayout, IsOpened}
-use Rattle.pm_exec.specs.Runs.{IsHistoryOf, LeavesReplay, MakesCallsOf}
-use Rattle.pm_exec.specs.Torn.{HasNoTornMatch}
+use Rattle.solo_exec.specs.declared.outcome.OpenFault.{OpenFault}
+use Rattle.solo_exec.specs.declared.outcome.OpenFault.TheVariants as opening
+use Rattle.solo_exec.specs.Letters.{AreGiven, Offsets, resolved}
+use Rattle.solo_exec.specs.Opening.{HasFewerLanes, IsOfOtherLayout, IsOpened}
+use Rattle.solo_exec.specs.Runs.{IsHistoryOf, LeavesReplay, MakesCallsOf}
+use Rattle.solo_exec.specs.Torn.{HasNoTornMatch}
 use Rattle.pmempool.specs.Failures.{IsTooLong}
 use Rattle.pmempool.specs.PoolFiles.{BytesFail, BytesMean, IsFaulty, limit}
 use Rattle.pmempool.specs.Words.{Exec}

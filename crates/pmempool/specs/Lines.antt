@@ -9,9 +9,9 @@ use Rattle.pmempool.specs.declared.failure.Refusal.{Refusal}
 use Rattle.pmempool.specs.declared.failure.Refusal.TheVariants.{BadShape, BadId, BadLayout, BadSize}
 use Rattle.pmempool.specs.declared.failure.Failure.{Failure}
 use Rattle.pmempool.specs.declared.failure.Failure.TheVariants.{Usage, Refused, Faulty, OtherLayout, FewerLanes, NotRead, TooLong, BadScript, NotWritten, NoMemory}
-use Rattle.pm_script.specs.declared.fault.BadLine.{BadLine}
-use Rattle.pm_script.specs.declared.fault.Why.{Why}
-use Rattle.pm_script.specs.declared.fault.Why.TheVariants as why
+use Rattle.solo_script.specs.declared.fault.BadLine.{BadLine}
+use Rattle.solo_script.specs.declared.fault.Why.{Why}
+use Rattle.solo_script.specs.declared.fault.Why.TheVariants as why
 use Rattle.pmempool.specs.declared.status.Status.{Status}
 use Rattle.pmempool.specs.declared.status.Status.TheVariants as status
 

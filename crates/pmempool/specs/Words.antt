@@ -1,8 +1,8 @@
 -- The words of the command line: docs/COMMANDS.md.
 use Rattle.std.specs.Prelude.{◌≡◌, ◌⊎◌, ◌≤◌, ℕ, List, ◌+◌, [], length, map, Option, None, Some, codes, slice_index_or, string_bytes, String}
 use Rattle.std.specs.declared.alloc.Global.{Global}
-use Rattle.pm_script.specs.Numbers.{number_of}
-use Rattle.pm_script.specs.Stops.{AreStops, stop_of}
+use Rattle.solo_script.specs.Numbers.{number_of}
+use Rattle.solo_script.specs.Stops.{AreStops, stop_of}
 use Rattle.pm_pool.specs.Created.{Wanted}
 
 -- the bytes of each word

@@ -8,12 +8,12 @@ ghost use Rattle.pmempool.specs.Executed.{IsExecCause, IsReadCause, IsRunFault, 
 use crate::failure::Failure;
 use crate::image_bytes::{bytes_of_words, image_of};
 use crate::options::ExecWords;
-use pm_exec::{OpenFault, Outcome, exec};
 use pm_image::ImageFault;
 use pm_layout::{MAX_POOL_BYTES, WORD_BYTES};
-use pm_script::{ScriptFault, parse};
 use pm_shelf::{Shelf, ShelfFault};
 use pm_text::report_text;
+use solo_exec::{OpenFault, Outcome, exec};
+use solo_script::{ScriptFault, parse};
 use std::alloc::{AllocError, Global};
 
 /// Bytes of a script at most.

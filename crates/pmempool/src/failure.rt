@@ -4,7 +4,7 @@ ghost use Rattle.pmempool.specs.Lines.{bad_script_line, refusal_text, refused_li
 use crate::status::Status;
 use pm_image::{ImageFault, text_of_fault};
 use pm_objects::Sequence;
-use pm_script::{BadLine, Why};
+use solo_script::{BadLine, Why};
 use std::alloc::{AllocError, Global};
 
 /// Which value of a command is refused.

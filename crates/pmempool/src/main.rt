@@ -3,7 +3,7 @@
 //! Promises its user that `top` answers each list of words with the status and the lines of docs/COMMANDS.md,
 //! and that a name is put on the shelf exactly as the command says, and no other name changes. `main`
 //! hands `top` the files and the standard output, and ends with its status. It stands on `pm_pool` for
-//! what a pool is, on `pm_exec` for runs, on `pm_shelf` for the outside, and on `pm_script` for scripts.
+//! what a pool is, on `solo_exec` for runs, on `pm_shelf` for the outside, and on `solo_script` for scripts.
 #![tactic(auto)]
 
 mod create_command;

@@ -1,9 +1,9 @@
 ghost use Rattle.std.specs.Prelude.{◌≡◌, ◌≢◌, ℕ, ◌+◌, ◌<◌, ◌≤◌, List, length, Option, Some, IfOk, IfSome, IfNone};
-ghost use Rattle.pm_script.specs.Numbers.{number_of};
+ghost use Rattle.solo_script.specs.Numbers.{number_of};
 ghost use Rattle.pmempool.specs.Words.{texts, word, Create, Exec, HasOptions, HasStops, IsCreate, IsDump, IsExec, IsNoCommand, IsPlainExec};
 ghost use Rattle.pmempool.specs.Asked.{asked, asked_run, IsCommand};
 
-use pm_script::{number, stop_of, stops};
+use solo_script::{number, stop_of, stops};
 use std::alloc::{AllocError, Global};
 
 /// What `create` is asked for.

@@ -1,6 +1,6 @@
 use Rattle.std.proofs.Common.{refl, sym, subst}
-use Rattle.pm_script.proofs.NamedLanes.{some_lane}
-use Rattle.pm_script.proofs.RisingLines.{lines_rise}
+use Rattle.solo_script.proofs.NamedLanes.{some_lane}
+use Rattle.solo_script.proofs.RisingLines.{lines_rise}
 use Rattle.pmempool.specs.Asked.{asked_run}
 use Rattle.pmempool.specs.Executed.{IsRunFault}
 use Rattle.pmempool.proofs.OneLane.{calls_of_one_lane, letters_before}

@@ -1,5 +1,0 @@
-use Rattle.pm_crash.proofs.ActionsOn.{change_keeps_open}
-use Rattle.pm_crash.proofs.actions.a_call_on_actions_keeps_the_call.Goals as goal
-
-pub returns : goal.returns
-returns c = change_keeps_open

@@ -1,5 +1,0 @@
-use Rattle.pm_crash.proofs.GivenUp.{given_up_changes_nothing}
-use Rattle.pm_crash.proofs.calls.a_call_given_up_changes_nothing.Goals as goal
-
-pub returns : goal.returns
-returns c = given_up_changes_nothing

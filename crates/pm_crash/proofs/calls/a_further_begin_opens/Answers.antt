@@ -1,5 +1,0 @@
-use Rattle.pm_crash.proofs.Levels.{further_begin_opens}
-use Rattle.pm_crash.proofs.calls.a_further_begin_opens.Goals as goal
-
-pub returns : goal.returns
-returns c = further_begin_opens

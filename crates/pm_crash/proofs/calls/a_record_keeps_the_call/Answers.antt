@@ -1,5 +1,0 @@
-use Rattle.pm_crash.proofs.AddOn.{add_keeps_open}
-use Rattle.pm_crash.proofs.calls.a_record_keeps_the_call.Goals as goal
-
-pub returns : goal.returns
-returns c = add_keeps_open

@@ -1,5 +1,0 @@
-use Rattle.pm_crash.proofs.GivenUp.{refusal_gives_up}
-use Rattle.pm_crash.proofs.calls.a_refusal_gives_up.Goals as goal
-
-pub returns : goal.returns
-returns c = refusal_gives_up

@@ -1,5 +1,0 @@
-use Rattle.pm_crash.proofs.Runs.{has_run}
-use Rattle.pm_crash.proofs.calls.a_transaction_that_rests_has_run.Goals as goal
-
-pub returns : goal.returns
-returns c = has_run

@@ -1,5 +1,0 @@
-use Rattle.pm_crash.proofs.RisingWants.{rising_wants}
-use Rattle.pm_crash.proofs.calls.rising_wants_are_locks.Goals as goal
-
-pub returns : goal.returns
-returns c = rising_wants

@@ -1,7 +1,0 @@
-use Rattle.std.proofs.Common.{◌≡◌, map, take}
-use Rattle.pm_exec.specs.Calls.{operation_of}
-use Rattle.pm_exec.specs.Letters.{resolved}
-use Rattle.pm_exec.proofs.calls.operations_of.Given as goal
-
-abbrev pub invariant-loop-line : goal.invariant-loop-line
-invariant-loop-line l = l.operations.items ≡ map (λ line. operation_of l.names line.operation) (resolved l.given (take l.line-index l.lines))

@@ -1,6 +1,0 @@
-use Rattle.std.proofs.Common.{◌≡◌, map, take}
-use Rattle.pm_exec.specs.Calls.{want_of}
-use Rattle.pm_exec.proofs.calls.wants_of.Given as goal
-
-abbrev pub invariant-loop-want : goal.invariant-loop-want
-invariant-loop-want l = l.all.items ≡ map (want_of l.names) (take l.want-index l.wants)

@@ -1,5 +1,0 @@
-use Rattle.pm_fresh.proofs.Reservable.{reserved_may}
-use Rattle.pm_fresh.proofs.laws.reserved_words_may_be_filled.Goals as goal
-
-pub returns : goal.returns
-returns c = reserved_may

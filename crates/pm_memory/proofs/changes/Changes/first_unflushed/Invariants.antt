@@ -1,7 +1,0 @@
-use Rattle.std.proofs.Common.{take}
-use Rattle.pm_view.specs.Counts.{IsFirstUnflushed}
-use Rattle.pm_memory.proofs.changes.Changes.first_unflushed.Given as goal
-
--- the first of the changes that were looked at
-abbrev pub invariant-loop-change : goal.invariant-loop-change
-invariant-loop-change l = IsFirstUnflushed (take l.change-index l.self) l.first

@@ -1,7 +1,0 @@
-use Rattle.std.proofs.Common.{◌≡◌, ◌++◌, take, drop}
-use Rattle.pm_view.specs.Changes.{flushed}
-use Rattle.pm_memory.proofs.changes.Changes.flush.Given as goal
-
--- the changes passed are marked
-abbrev pub invariant-loop-change : goal.invariant-loop-change
-invariant-loop-change l = l.change-items ≡ flushed l.line (take l.change-index l.initial.change-items) ++ drop l.change-index l.initial.change-items

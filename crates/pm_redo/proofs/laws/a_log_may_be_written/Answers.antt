@@ -1,5 +1,0 @@
-use Rattle.pm_redo.proofs.Logged.{log_lawful}
-use Rattle.pm_redo.proofs.laws.a_log_may_be_written.Goals as goal
-
-pub returns : goal.returns
-returns c = λ v entries ready few of_pool. log_lawful v entries ready few of_pool

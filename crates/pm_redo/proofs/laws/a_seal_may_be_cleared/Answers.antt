@@ -1,5 +1,0 @@
-use Rattle.pm_redo.proofs.Sealed.{clear_lawful}
-use Rattle.pm_redo.proofs.laws.a_seal_may_be_cleared.Goals as goal
-
-pub returns : goal.returns
-returns c = clear_lawful

@@ -1,9 +1,0 @@
-use Rattle.pm_sealed.proofs.EndedLog.{clean, drained, words}
-use Rattle.pm_sealed.proofs.laws.a_log_at_its_end_is_clean.Goals as goal
-
-pub returns : goal.returns
-returns c = record {
-  words = words;
-  drained = drained;
-  clean = clean;
-}

@@ -1,5 +1,0 @@
-use Rattle.pm_tx.proofs.TakenBack.{take_back_lawful}
-use Rattle.pm_tx.proofs.laws.a_call_may_be_taken_back.Goals as goal
-
-pub returns : goal.returns
-returns c = take_back_lawful

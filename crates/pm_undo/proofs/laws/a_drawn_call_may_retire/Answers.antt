@@ -1,5 +1,0 @@
-use Rattle.pm_undo.proofs.Retired.{retire_drawn}
-use Rattle.pm_undo.proofs.laws.a_drawn_call_may_retire.Goals as goal
-
-pub returns : goal.returns
-returns c = retire_drawn

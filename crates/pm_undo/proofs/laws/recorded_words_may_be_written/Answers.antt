@@ -1,5 +1,0 @@
-use Rattle.pm_undo.proofs.Written.{write_lawful}
-use Rattle.pm_undo.proofs.laws.recorded_words_may_be_written.Goals as goal
-
-pub returns : goal.returns
-returns c = write_lawful

@@ -1,5 +1,0 @@
-use Rattle.pm_undo.proofs.Settled.{room_lawful}
-use Rattle.pm_undo.proofs.laws.room_may_be_made.Goals as goal
-
-pub returns : goal.returns
-returns c = room_lawful

@@ -1,5 +1,0 @@
-use Rattle.pm_undo.proofs.Lockings.{locked_may_be_recorded}
-use Rattle.pm_undo.proofs.laws.words_held_for_writing_may_be_recorded.Goals as goal
-
-pub returns : goal.returns
-returns c = locked_may_be_recorded

@@ -1,5 +1,0 @@
-use Rattle.pm_undo.proofs.Snapshotted.{snapshot_lawful}
-use Rattle.pm_undo.proofs.laws.words_may_be_recorded.Goals as goal
-
-pub returns : goal.returns
-returns c = snapshot_lawful

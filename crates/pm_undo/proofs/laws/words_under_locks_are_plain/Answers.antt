@@ -1,5 +1,0 @@
-use Rattle.pm_undo.proofs.Lockings.{locked_is_plain}
-use Rattle.pm_undo.proofs.laws.words_under_locks_are_plain.Goals as goal
-
-pub returns : goal.returns
-returns c = locked_is_plain

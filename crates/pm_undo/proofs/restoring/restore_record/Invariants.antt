@@ -1,7 +1,0 @@
-use Rattle.pm_world.specs.Sequences.{IsMade, counted}
-use Rattle.pm_undo.specs.Sequences.{restores_word}
-use Rattle.pm_undo.proofs.restoring.restore_record.Given as goal
-
--- the first so many are put back
-abbrev pub invariant-loop-i : goal.invariant-loop-i
-invariant-loop-i g l = IsMade (g.M.LaneMem.at l.fn.mem) (g.M.LaneMem.at l.mem) (counted (restores_word l.lane l.slot l.span.word) l.i)

@@ -1,5 +1,0 @@
-use Rattle.pm_world.proofs.Runs.{keeps_runs}
-use Rattle.pm_world.proofs.laws.a_run_stays_a_run.Goals as goal
-
-pub returns : goal.returns
-returns c = keeps_runs

@@ -1,0 +1,9 @@
+use Rattle.solo_view.specs.Steps.Step.{Drain}
+use Rattle.solo_memory.proofs.Making.{stopped_instead, drained_made}
+use Rattle.solo_memory.proofs.solo_lane.SoloMemLaneMem.drain.Goals as goal
+
+pub returns-in_err-count-clause-made : goal.returns-in_err-count-clause-made
+returns-in_err-count-clause-made c = stopped_instead c.args.self.now c.count.new.self (λ _. Drain) c.from_residual.result c.from_residual.ensures.0 c.in_err-count.ensures.err c.in_err-count.ensures.stop
+
+pub returns-clause-made : goal.returns-clause-made
+returns-clause-made c = drained_made c.args.self.now c.count.new.self _ c.in_ok-count.ensures.more c.in_ok-count.ensures.fits c.in_ok-count.ensures.ok cc

@@ -1,0 +1,5 @@
+use Rattle.solo_memory.proofs.Numbering.{stop_seen_made}
+use Rattle.solo_memory.proofs.solo_sync.SoloMemLaneSync.stop_seen.Goals as goal
+
+pub returns-clause-made : goal.returns-clause-made
+returns-clause-made c = stop_seen_made c.args.self.now c.self.inside.stopped

@@ -1,0 +1,5 @@
+use Rattle.solo_model.proofs.Replaying.{leave_out}
+use Rattle.solo_model.proofs.laws.apart_calls_may_be_left_out.Goals as goal
+
+pub returns : goal.returns
+returns c = leave_out

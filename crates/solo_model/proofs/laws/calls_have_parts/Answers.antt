@@ -1,0 +1,5 @@
+use Rattle.solo_model.proofs.Frames.{framed}
+use Rattle.solo_model.proofs.laws.calls_have_parts.Goals as goal
+
+pub returns : goal.returns
+returns c = framed

@@ -1,0 +1,5 @@
+use Rattle.solo_model.proofs.Replaying.{one_next}
+use Rattle.solo_model.proofs.laws.replies_fix_the_next_state.Goals as goal
+
+pub returns : goal.returns
+returns c = one_next

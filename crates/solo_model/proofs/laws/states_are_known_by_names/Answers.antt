@@ -1,0 +1,5 @@
+use Rattle.solo_model.proofs.Frames.{same_state}
+use Rattle.solo_model.proofs.laws.states_are_known_by_names.Goals as goal
+
+pub returns : goal.returns
+returns c = same_state

@@ -1,0 +1,14 @@
+pub mod Places
+pub mod NewObjects
+pub mod Actions
+pub mod Transaction
+pub mod Bytes
+pub mod Checks
+pub mod Answers
+pub mod Outside
+pub mod Step
+pub mod Framed
+pub mod Names
+pub mod Shown
+pub mod History
+pub mod Alone

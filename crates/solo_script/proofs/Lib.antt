@@ -1,0 +1,15 @@
+pub mod Answering
+pub mod BoundLetters
+pub mod FailedTests
+pub mod Judging
+pub mod LaneCalls
+pub mod LinesInPlace
+pub mod NamedLanes
+pub mod Numerals
+pub mod OpenTransactions
+pub mod Readings
+pub mod RisingLines
+pub mod Statements
+pub mod StopLists
+pub mod Wants
+pub mod WordLists

@@ -1,0 +1,7 @@
+pub mod Contexts
+pub mod Numbers
+pub mod Operands
+pub mod Reading
+pub mod Scripts
+pub mod Stops
+pub mod Words
