@@ -1,3 +1,4 @@
 pub mod Layout
 pub mod Kinds
 pub mod Sizes
+pub mod Areas

@@ -3,10 +3,9 @@
 ghost use Rattle.std.specs.Prelude.{◌≡◌, ℕ, ◌*◌, ◌<◌, ◌≤◌, All, Contains, find, nat_le};
 ghost use Rattle.pm_layout.specs.Sizes.{lines_for, classes, class_of, descriptor_of, IfLines, IfChunks, usable};
 
-use crate::numbers::{CHUNK_BYTES, LINE_BYTES, LINES_PER_CHUNK, MAX_SIZE};
-
-/// The lines of a block, for each class of runs, from the least up.
-const CLASSES: [u64; 8] = [2, 3, 4, 5, 7, 9, 15, 31];
+use crate::numbers::{
+    CHUNK_BYTES, CLASSES, DESCRIPTOR_UNIT, HUGE, LINE_BYTES, LINES_PER_CHUNK, MAX_SIZE, RUN,
+};
 
 /// What an object takes.
 #[derive(Clone, Copy, Debug, PartialEq, Eq)]
@@ -78,7 +77,7 @@ pub fn descriptor_of(class: Class) -> u64
     ensures { result ≡ descriptor_of class }
 {
     match class {
-        Class::Lines(lines) => 1 + 256 * lines,
-        Class::Chunks(chunks) => 2 + 256 * chunks,
+        Class::Lines(lines) => RUN + DESCRIPTOR_UNIT * lines,
+        Class::Chunks(chunks) => HUGE + DESCRIPTOR_UNIT * chunks,
     }
 }

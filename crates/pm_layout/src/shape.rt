@@ -5,19 +5,24 @@ ghost use Rattle.pm_layout.specs.Layout.{IsShape, IsOutside, lane_place, zone_pl
 
 use crate::kind::PlaceKind;
 use crate::numbers::{
-    CHUNK_BYTES, CHUNKS_PER_ZONE, LANE_BYTES, MAX_LANES, MAX_POOL_BYTES, MAX_ZONES, PAGE_BYTES,
-    ROOT_PLACE, WORD_BYTES, ZONE_BYTES,
+    CHUNK_BYTES, CHUNKS_PER_ZONE, ENTRIES_AT, ENTRY_WORDS, GENERATION_AT, LANE_BYTES, LANE_LINES,
+    LANE_WORDS, MAX_LANES, MAX_POOL_BYTES, MAX_ZONES, OLD_WORDS, PAGE_BYTES, PAGE_LINES,
+    PAGE_WORDS, REDO_ENTRIES, ROOT_PLACE, SEAL_AT, SLOT_WORDS, SLOTS_AT, UNDO_SLOTS, VERSION,
+    WORD_BYTES, ZONE_BYTES,
 };
 use std::error::Error;
 use std::fmt;
 
-/// How many lanes and zones a pool has: 1 to 32 of each.
+/// The version of a pool's layout, and how many lanes and zones it has: 1 to 32 of each.
 #[derive(Clone, Copy, Debug, PartialEq, Eq)]
 pub struct Shape {
+    /// The version of the layout: 1 is the only one.
+    pub version: u64,
     /// How many lanes there are.
     pub lanes: u64,
     /// How many zones there are.
     pub zones: u64,
+    pub ghost version_is: { version ≡ 1 },
     pub ghost lanes_from: { 1 ≤ lanes },
     pub ghost lanes_to: { lanes ≤ 32 },
     pub ghost zones_from: { 1 ≤ zones },
@@ -38,6 +43,7 @@ impl Error for BadShape {}
 
 impl Shape {
     ghost use Rattle.pm_layout.specs.Kinds.{IsKind};
+    ghost use Rattle.pm_layout.specs.Areas.{undo_slots, slot_words, old_words, redo_entries, word_of_generation, word_of_seal, word_of_entry, line_of_slot};
 
     /// The shape of these numbers of lanes and zones. `BadShape` says that one of them is outside 1
     /// to 32, and there is no such shape.
@@ -48,7 +54,11 @@ impl Shape {
         ensures zones { IfOk result (λ shape. shape.zones ≡ zones) }
     {
         if (1..=MAX_LANES).contains(&lanes) && (1..=MAX_ZONES).contains(&zones) {
-            Ok(Shape { lanes, zones })
+            Ok(Shape {
+                version: VERSION,
+                lanes,
+                zones,
+            })
         } else {
             Err(BadShape)
         }
@@ -148,5 +158,67 @@ impl Shape {
             let word_in_chunks = word_in_zone - page_words;
             PlaceKind::Chunk(zone, word_in_chunks / (CHUNK_BYTES / WORD_BYTES))
         }
+    }
+
+    /// How many undo slots each lane has.
+    pub fn undo_slots(&self) -> u64
+        ensures { result ≡ undo_slots self.now }
+    {
+        UNDO_SLOTS
+    }
+
+    /// How many words an undo slot has.
+    pub fn slot_words(&self) -> u64
+        ensures { result ≡ slot_words self.now }
+    {
+        SLOT_WORDS
+    }
+
+    /// How many old words an undo record has room for.
+    pub fn old_words(&self) -> u64
+        ensures { result ≡ old_words self.now }
+    {
+        OLD_WORDS
+    }
+
+    /// How many redo entries each lane has room for.
+    pub fn redo_entries(&self) -> u64
+        ensures { result ≡ redo_entries self.now }
+    {
+        REDO_ENTRIES
+    }
+
+    /// The number of the word that has a lane's generation.
+    pub fn word_of_generation(&self, lane: u64) -> u64
+        requires { lane < self.now.lanes }
+        ensures { result ≡ word_of_generation self.now lane }
+    {
+        PAGE_WORDS + LANE_WORDS * lane + GENERATION_AT
+    }
+
+    /// The number of the word that has a lane's seal.
+    pub fn word_of_seal(&self, lane: u64) -> u64
+        requires { lane < self.now.lanes }
+        ensures { result ≡ word_of_seal self.now lane }
+    {
+        PAGE_WORDS + LANE_WORDS * lane + SEAL_AT
+    }
+
+    /// The number of the first word of a lane's redo entry. Entries count from 0.
+    pub fn word_of_entry(&self, lane: u64, entry: u64) -> u64
+        requires lane { lane < self.now.lanes }
+        requires entry { entry < redo_entries self.now }
+        ensures { result ≡ word_of_entry self.now lane entry }
+    {
+        PAGE_WORDS + LANE_WORDS * lane + ENTRIES_AT + ENTRY_WORDS * entry
+    }
+
+    /// The number of the line of a lane's undo slot. Slots count from 0.
+    pub fn line_of_slot(&self, lane: u64, slot: u64) -> u64
+        requires lane { lane < self.now.lanes }
+        requires slot { slot < undo_slots self.now }
+        ensures { result ≡ line_of_slot self.now lane slot }
+    {
+        PAGE_LINES + LANE_LINES * lane + SLOTS_AT + slot
     }
 }
