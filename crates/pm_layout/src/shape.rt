@@ -22,7 +22,8 @@ pub struct Shape {
     pub lanes: u64,
     /// How many zones there are.
     pub zones: u64,
-    pub ghost version_is: { version ≡ 1 },
+    pub ghost version_from: { 1 ≤ version },
+    pub ghost version_to: { version ≤ 1 },
     pub ghost lanes_from: { 1 ≤ lanes },
     pub ghost lanes_to: { lanes ≤ 32 },
     pub ghost zones_from: { 1 ≤ zones },
