@@ -22,7 +22,7 @@ pub use laws::objects_are_a_map;
 pub use pool::{Object, PoolView};
 pub use refusal::Refusal;
 pub use sequence::Sequence;
-pub use stops::{MAX_LANES, Stops};
+pub use stops::Stops;
 
 #[cfg(test)]
 mod tests;
