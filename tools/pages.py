@@ -265,7 +265,7 @@ def wrong():
         if not page.exists():
             continue
         name = page.relative_to(TOP)
-        text = page.read_text()
+        text = re.sub(r"``.+?``", "", page.read_text())
         for target in LINK.findall(text):
             if re.match(r"^[a-z]+:", target):
                 continue
@@ -279,13 +279,14 @@ def wrong():
             fault = cited_wrong(page, title, target, members)
             if fault:
                 yield f"{name}: {fault}"
-        for target, quote in QUOTED.findall(text):
+        for target, quote in QUOTED.findall(page.read_text()):
             fault = quoted_wrong(target, quote)
             if fault:
                 yield f"{name}: {fault}"
         most = MOST_WORDS.get(str(name))
-        if most and len(text.split()) > most:
-            yield f"{name}: {len(text.split())} words, more than {most}"
+        words = len(page.read_text().split())
+        if most and words > most:
+            yield f"{name}: {words} words, more than {most}"
     if parts(PAGE.read_text())[1].strip() != table().strip():
         yield f"{PAGE.relative_to(TOP)}: the table is not that of the sources; `make pages` writes it"
 
