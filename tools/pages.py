@@ -29,6 +29,7 @@ ENSURES = re.compile(r"^\s+ensures\*?(?: (\w+))? \{")
 OWNER = re.compile(r"^(?:pub(?:\([^)]*\))? )?(?:unsafe )?(impl|trait)\b(.*)$")
 CITED = re.compile(r"\[`([^`\]]+)`\]\(([^)\s]+)\)(?::\s+((?:`[^`]+`(?:,\s+|))+))?")
 LINK = re.compile(r"\]\(([^)\s]+)\)")
+SPAN = re.compile(r"(?<!`)``(?!`).+?(?<!`)``(?!`)", re.S)
 QUOTED = re.compile(r"^```\w+ (\S+)\n(.*?)^```$", re.S | re.M)
 UNNAMED = "its one clause"
 
@@ -265,7 +266,7 @@ def wrong():
         if not page.exists():
             continue
         name = page.relative_to(TOP)
-        text = re.sub(r"``.+?``", "", page.read_text())
+        text = SPAN.sub("", page.read_text())
         for target in LINK.findall(text):
             if re.match(r"^[a-z]+:", target):
                 continue
