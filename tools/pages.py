@@ -35,14 +35,24 @@ UNNAMED = "its one clause"
 
 
 class Function:
-    """A function of a source file: its type or trait, if it is a method, and its clauses."""
+    """A function of a source file: its type or trait, if it is a method, what its comment says
+    first, and its clauses."""
 
-    def __init__(self, owner, trait, name, is_public):
+    def __init__(self, owner, trait, name, is_public, comment):
         self.owner, self.trait, self.name, self.is_public = owner, trait, name, is_public
+        self.says = sentence(comment)
         self.clauses = []
 
     def title(self):
         return f"{self.owner}::{self.name}" if self.owner else self.name
+
+
+def sentence(lines):
+    """The first sentence of a comment, as a cell of a table has it."""
+    text = " ".join(line.strip() for line in lines)
+    text = re.sub(r"^A law: ", "", text)
+    text = re.split(r"(?<=\.)\s", text)[0]
+    return (text[:1].upper() + text[1:]).replace("|", "\\|")
 
 
 def owner_of(line):
@@ -70,8 +80,13 @@ def functions_of(path):
     """The functions of a file, each with the names of its `ensures` clauses, and the ghost members
     by which an `impl` says a text or a conversion."""
     found, owner, trait, kind = [], None, None, None
-    current, indent = None, ""
+    current, indent, comment = None, "", []
     for line in path.read_text().splitlines():
+        if line.lstrip().startswith("///"):
+            comment.append(line.strip()[3:])
+            continue
+        if not line.strip().startswith("#["):
+            said, comment = comment, []
         at_edge = line[:1] not in ("", " ", "}")
         if at_edge and OWNER.match(line):
             kind = OWNER.match(line).group(1)
@@ -83,7 +98,7 @@ def functions_of(path):
             continue
         ghost = re.match(r"^    ghost (output|from_gives) = ", line)
         if ghost and owner:
-            made = Function(owner, trait, trait, True)
+            made = Function(owner, trait, trait, True, [])
             made.clauses.append(ghost.group(1))
             found.append(made)
             continue
@@ -91,7 +106,7 @@ def functions_of(path):
         if begins:
             indent, public, name = begins.groups()
             is_public = (public or "").strip() == "pub" or kind == "trait" or trait is not None
-            current = Function(owner, trait, name, is_public)
+            current = Function(owner, trait, name, is_public, said)
             found.append(current)
             if line.rstrip().endswith(("{", "{}", ";")):
                 current = None
@@ -171,9 +186,9 @@ def rows_of(crate):
             if (f.owner or f.name) not in names and path != root:
                 continue
             clauses = ", ".join(c if " " in c else f"`{c}`" for c in f.clauses)
-            row = f"| [`{f.title()}`]({link}) | {clauses} |"
-            if row not in rows:
-                rows.append(row)
+            row = f"| [`{f.title()}`]({link}) | {f.says} | {clauses} |"
+            if all(row != other for other, _ in rows):
+                rows.append((row, sum(not c.startswith("those of") for c in f.clauses)))
     return root, rows
 
 
@@ -183,9 +198,10 @@ def table():
         root, rows = rows_of(crate)
         out.append(f"### {crate}\n\n{subject(root)}\n")
         if rows:
-            out += ["| Function | Clauses |", "|---|---|", *rows, ""]
+            out += ["| Function | What it does, or says as a law | Clauses |", "|---|---|---|"]
+            out += [row for row, _ in rows] + [""]
             functions += len(rows)
-            clauses += sum(row.split(" | ")[-1].count(", ") + 1 for row in rows)
+            clauses += sum(count for _, count in rows)
         else:
             out.append("A program: no function of its own is public.\n")
     head = f"{functions} public functions with {clauses} clauses, lowest crate first.\n"
