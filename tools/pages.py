@@ -9,7 +9,7 @@
 
 A page cites a clause as [`FUNCTION`](FILE.rt): `CLAUSE`, `CLAUSE`, and a definition as
 [`NAME`](FILE.antt), with the fields of a record after a colon in the same way. A method is cited as
-`TYPE::METHOD`. A fenced block whose first line names a file after its language quotes that file; a
+`TYPE::METHOD`; a type or a constant of a file, a crate or a path may be linked as well. A fenced block whose first line names a file after its language quotes that file; a
 line `..` stands for what is left out, and line breaks may differ.
 """
 import re
@@ -31,6 +31,7 @@ CITED = re.compile(r"\[`([^`\]]+)`\]\(([^)\s]+)\)(?::\s+((?:`[^`]+`(?:,\s+|))+))
 LINK = re.compile(r"\]\(([^)\s]+)\)")
 SPAN = re.compile(r"(?<!`)``(?!`).+?(?<!`)``(?!`)", re.S)
 QUOTED = re.compile(r"^```\w+ (\S+)\n(.*?)^```$", re.S | re.M)
+ITEM = "(?:struct|enum|trait|type|const|static)"
 UNNAMED = "its one clause"
 
 
@@ -247,7 +248,11 @@ def cited_wrong(page, name, target, members):
     path = (page.parent / target).resolve()
     if not path.exists():
         return None
+    if "/" in name or "." in name or name == path.parent.parent.name:
+        return None
     members = re.findall(r"`([^`]+)`", members or "")
+    if path.suffix == ".rt" and re.search(rf"\b{ITEM} {re.escape(name)}\b", path.read_text()):
+        return None
     if path.suffix == ".rt":
         fs = [f for f in functions_of(path) if name in (f.title(), f.name)]
         if not fs:
