@@ -1,16 +1,17 @@
 #!/usr/bin/env python3
 """The claims in the pages, made and checked from the sources.
 
-    tools/pages.py            writes the table of claims into docs/VERIFICATION.md
-    tools/pages.py --check    changes nothing; fails where the table is not that of the sources, where a
-                              page links to a file or a heading that is not there, where a page cites a
-                              function, a clause or a definition that its file does not have, where it
-                              quotes what its source does not say, or where a page is too long
+    tools/pages.py            writes the table of claims into docs/VERIFICATION.md, and then checks
+    tools/pages.py --check    changes nothing; fails where the table is not that of the sources, a page
+                              links to a file or a heading that is not there, cites a function, a
+                              clause or a definition that its file does not have, quotes what its
+                              source does not say, or is too long
 
 A page cites a clause as [`FUNCTION`](FILE.rt): `CLAUSE`, `CLAUSE`, and a definition as
-[`NAME`](FILE.antt), with the fields of a record after a colon in the same way. A method is cited as
-`TYPE::METHOD`; a type or a constant of a file, a crate or a path may be linked as well. A fenced block whose first line names a file after its language quotes that file; a
-line `..` stands for what is left out, and line breaks may differ.
+[`NAME`](FILE.antt), with the fields of a record after a colon in the same way. A method is cited
+as `TYPE::METHOD`; a type or a constant of a file, a crate or a path may be linked as well. A fenced
+block whose first line names a file after its language quotes that file: a line `..` stands for what
+is left out, and line breaks may differ.
 """
 import re
 import sys
