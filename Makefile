@@ -1,7 +1,7 @@
 # `make demo` tells the story of the program; `make test` is the gate.
 POOL := build/demo.pool
 
-.PHONY: build demo test bench refuse clean
+.PHONY: build demo test bench refuse pages clean
 
 # The proved program, at build/pmempool. With no words it prints its usage and ends with status 2.
 build:
@@ -80,6 +80,11 @@ refuse:
 	  echo "$$crate $$n: status $$status"; grep -E 'left:|error:' build/refuse.log | sort | uniq -c; \
 	  if test $$status -eq 4; then cat build/refuse.log; exit 1; fi; \
 	done; done
+
+# The table of claims in docs/VERIFICATION.md, made from the sources; and every link, clause and
+# quotation of the pages is checked. It changes no other page; `tools/pages.py --check` changes none.
+pages:
+	tools/pages.py
 
 clean:
 	rm -rf build
