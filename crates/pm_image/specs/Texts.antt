@@ -6,6 +6,7 @@ use Rattle.pm_header.specs.declared.fault.HeaderFault.TheVariants.{NotPool, Head
 use Rattle.pm_image.specs.declared.fault.ImageFault.{ImageFault}
 use Rattle.pm_image.specs.declared.fault.ImageFault.TheVariants.{Size, Header, Shape, Lane, Redo, Undo, Clash, Chunk, Bitmap, Block, Link, Root}
 
+-- the name of a fault of the header page
 abbrev pub header_fault_text : HeaderFault → List ℕ
 header_fault_text NotPool = codes "NotPool"
 header_fault_text HeaderMain = codes "HeaderMain"
@@ -14,6 +15,7 @@ header_fault_text HeaderBoth = codes "HeaderBoth"
 header_fault_text HeaderDiffer = codes "HeaderDiffer"
 header_fault_text (Version version) = codes "Version " ++ decimal version
 
+-- the line that a command prints of a fault
 abbrev pub fault_text : ImageFault → List ℕ
 fault_text (Size bytes) = codes "Size " ++ decimal bytes
 fault_text (Header found) = header_fault_text found
