@@ -10,7 +10,6 @@ mod block;
 mod chunks;
 mod clashes;
 mod fault;
-mod fault_text;
 mod lanes;
 mod laws;
 mod log_faults;
@@ -22,8 +21,7 @@ mod restoring;
 mod targets;
 
 pub use block::Block;
-pub use fault::{ImageFault, MeansFault};
-pub use fault_text::text_of_fault;
+pub use fault::{ImageFault, MeansFault, text_of_fault};
 pub use lanes::{generation, generation_word, is_sealed, record_in_slot, valid_record};
 pub use laws::{
     agreement_goes_back, contents_are_local, heaps_are_local, meanings_are_local,

@@ -35,6 +35,11 @@ pub struct Shape {
 pub struct BadShape;
 
 impl fmt::Display for BadShape {
+    ghost use Rattle.std.specs.Prelude.{Some};
+    ghost use Rattle.pm_layout.specs.Texts.{bad_shape_text};
+
+    ghost output = { λ _. Some bad_shape_text };
+
     fn fmt<W: fmt::Write>(&self, f: &mut fmt::Formatter<W>) -> fmt::Result {
         f.write_str("BadShape")
     }
