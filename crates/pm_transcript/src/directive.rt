@@ -38,9 +38,9 @@ pub enum Directive<'a> {
     },
     /// `names`: answers with the names of all files, in rising order.
     Names,
-    /// `shelf fails N`: the N-th call of the shelf fails in the next command.
+    /// `shelf fails N`: in the next command a call of the shelf fails, after so many others as are told here: N - 1.
     ShelfFails(u64),
-    /// `sink fails N`: the N-th call of the sink fails in the next command.
+    /// `sink fails N`: in the next command a call of the sink fails, after so many others as are told here: N - 1.
     SinkFails(u64),
 }
 
@@ -138,10 +138,10 @@ fn place(word: &str) -> Result<usize, Fault> {
     word.parse::<usize>().map_err(|_| Fault::Number)
 }
 
-/// The number of a call, the first being 1.
+/// How many calls are before the one of this number, the first being 1.
 fn call(word: &str) -> Result<u64, Fault> {
     match word.parse::<u64>() {
-        Ok(number) if number > 0 => Ok(number),
+        Ok(number) if number > 0 => Ok(number - 1),
         _ => Err(Fault::Number),
     }
 }

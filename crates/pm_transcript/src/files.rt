@@ -95,8 +95,8 @@ impl Files {
         Ok(text)
     }
 
-    /// A shelf with those files whose names a command has among its words, and no other is a file of it. The call of this number
-    /// that the command makes fails, if there is one, the first being 1.
+    /// A shelf with those files whose names a command has among its words: it reads and writes no other name. Of its calls the
+    /// one after so many others fails, if there is a number.
     pub fn shelf(
         &self,
         words: &[String],
@@ -105,7 +105,7 @@ impl Files {
         let mut plan = Vec::new(self.alloc);
         if let Some(call) = failing {
             let written = words.iter().filter(|word| self.files.contains_key(word.as_str()));
-            plan.push((written.count() as u64).saturating_add(call) - 1)?;
+            plan.push((written.count() as u64).saturating_add(call))?;
         }
         let mut shelf = FailingShelf::new(self.alloc, plan);
         for word in words {

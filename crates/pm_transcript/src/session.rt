@@ -25,7 +25,7 @@ pub struct Session {
     script: Option<Script>,
     /// Whether an answer came, and lines that are none of another kind are what was expected of it.
     is_answered: bool,
-    /// Which call of the shelf, and of the sink, fails in the next command.
+    /// After how many calls of the shelf, and of the sink, one fails in the next command.
     shelf_fails: Option<u64>,
     sink_fails: Option<u64>,
 }
@@ -97,7 +97,10 @@ impl Session {
         if line != "END" {
             script.text.extend_from_slice(&text)?;
             self.script = Some(script);
-        } else if let Err(fault) = self.files.set(script.name.as_str(), script.text) {
+            return Ok(text);
+        }
+        let Script { name, text: bytes } = script;
+        if let Err(fault) = self.files.set(name.as_str(), bytes) {
             self.say_fault(fault, &mut text)?;
         }
         Ok(text)
@@ -121,7 +124,7 @@ impl Session {
         let mut shelf = self.files.shelf(&words, self.shelf_fails.take())?;
         let mut plan = Vec::new(self.alloc);
         if let Some(call) = self.sink_fails.take() {
-            plan.push(call - 1).map_err(|_| Fault::Memory)?;
+            plan.push(call).map_err(|_| Fault::Memory)?;
         }
         let mut out = FailingSink::new(self.alloc, plan);
         let status = top(self.alloc, &words, &mut shelf, &mut out);
