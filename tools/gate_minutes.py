@@ -1,13 +1,12 @@
 #!/usr/bin/env python3
-"""Runs `rt ci` and adds its minutes to bench/gate.csv: when each crate was proved, how many processor minutes its
-proofs took as far as that is known, and a row for the whole run.
+"""Runs `rt ci` and adds its minutes to bench/gate.csv: a row for each crate, and one for the whole run.
 
-    tools/gate_minutes.py FOLDER [CSV]    runs `rt ci` in FOLDER, a clean clone of this repository
-    tools/gate_minutes.py --log LOG [CSV] reads a log that this script wrote, whose lines begin with seconds
+    tools/gate_minutes.py FOLDER [--anew]   runs `rt ci` in FOLDER, a clean clone of this repository
+    tools/gate_minutes.py --log LOG         adds the rows of a log that such a run wrote, build/gate.log
 
-Each line of the log begins with the seconds since the start, as wall time and as processor time of all that `rt ci`
-started and that has ended. Crates are proved side by side, so the processor minutes of one crate are not known where
-others ran beside it: that column then is empty. A crate that an earlier run on this machine proved has the word `kept`.
+Columns: the date, the machine's processors, the commit, the crate (`all` for the whole run), what came of it, the wall
+minutes from the start to that, and the processor minutes of its proofs, tests and edits together. Processor times are
+looked at each second, so a command that ends sooner is counted in the whole run alone.
 """
 import csv
 import datetime
@@ -15,126 +14,152 @@ import os
 import re
 import subprocess
 import sys
+import threading
 import time
 
 HERE = os.path.dirname(os.path.dirname(os.path.abspath(__file__)))
 HEAD = ["date", "processors", "commit", "crate", "what", "wall_minutes", "processor_minutes"]
+TICK = os.sysconf("SC_CLK_TCK")
+
+LINE = re.compile(r"^(\d+\.\d) (.*)$")
+OUTCOMES = [
+    (re.compile(r"^rt: (\w+) is kept: "), "kept"),
+    (re.compile(r"^rt: (\w+) proved$"), "proved"),
+    (re.compile(r"^rt: (\w+): its tests are proved$"), "tests proved"),
+    (re.compile(r"^rt: (\w+) NOT PROVED"), "not proved"),
+]
+VERDICT = re.compile(r"^(\d+ passed, \d+ failed)")
+PROCESSOR = re.compile(r"^processor (\w+) (\d+\.\d)$")
 
 
-def processor_seconds():
-    """The processor time of all children that have ended."""
-    times = os.times()
-    return times.children_user + times.children_system
+class Processors:
+    """The processor seconds of a group of processes, as a whole and by the crates that they work on."""
+
+    def __init__(self, group):
+        self.group = group
+        self.of_process = {}
+        self.whole = 0.0
+
+    def look(self):
+        """Looks at all processes of the group that run."""
+        whole = 0
+        for pid in filter(str.isdigit, os.listdir("/proc")):
+            try:
+                with open(f"/proc/{pid}/stat", errors="replace") as file:
+                    fields = file.read().rsplit(")", 1)[1].split()
+                if int(fields[2]) != self.group:
+                    continue
+                with open(f"/proc/{pid}/cmdline", errors="replace") as file:
+                    words = file.read().split("\0")
+            except (OSError, IndexError):
+                continue
+            # user and system time of its own, then of its children that have ended
+            whole += sum(map(int, fields[11:15]))
+            if "--crate-name" in words[:-1]:
+                crate = words[words.index("--crate-name") + 1]
+                own = sum(map(int, fields[11:13])) / TICK
+                self.of_process[pid, fields[19]] = (crate, own)
+        self.whole = max(self.whole, whole / TICK)
+
+    def of_crates(self):
+        """The seconds of each crate."""
+        crates = {}
+        for crate, seconds in self.of_process.values():
+            crates[crate] = crates.get(crate, 0) + seconds
+        return crates
 
 
-def group_seconds(group):
-    """The processor time of all processes of a group that run, with their children that have ended."""
-    tick = os.sysconf("SC_CLK_TCK")
-    total = 0
-    for name in os.listdir("/proc"):
-        if not name.isdigit():
-            continue
-        try:
-            with open(f"/proc/{name}/stat", encoding="utf-8", errors="replace") as file:
-                fields = file.read().rsplit(")", 1)[1].split()
-        except OSError:
-            continue
-        if int(fields[2]) == group:
-            total += sum(int(field) for field in fields[11:15])
-    return total / tick
-
-
-def run(folder, log):
-    """Runs `rt ci` in the folder; each of its lines goes to the log with both times before it."""
+def run(folder, flags, log):
+    """Runs `rt ci` in the folder. Each of its lines goes to the log, with the seconds since the start before it, and then
+    the processor seconds of the crates and of the whole run."""
     start = time.time()
+    gate = subprocess.Popen(
+        ["rt", "ci", *flags],
+        cwd=folder,
+        stdout=subprocess.PIPE,
+        stderr=subprocess.STDOUT,
+        text=True,
+        errors="replace",
+        start_new_session=True,
+    )
+    processors = Processors(gate.pid)
+    ended = threading.Event()
+
+    def look():
+        while not ended.wait(1):
+            processors.look()
+
+    looking = threading.Thread(target=look)
+    looking.start()
     with open(log, "w", encoding="utf-8") as out:
-        gate = subprocess.Popen(
-            ["rt", "ci"],
-            cwd=folder,
-            stdout=subprocess.PIPE,
-            stderr=subprocess.STDOUT,
-            text=True,
-            errors="replace",
-            start_new_session=True,
-        )
-        spent = 0.0
-        looked = 0.0
         for line in gate.stdout:
-            now = time.time() - start
-            if now - looked >= 1:
-                spent, looked = max(spent, group_seconds(gate.pid)), now
-            out.write(f"{now:.1f} {spent:.1f} {line}")
+            print(line, end="", flush=True)
+            out.write(f"{time.time() - start:.1f} {line}")
             out.flush()
         status = gate.wait()
-        out.write(f"{time.time() - start:.1f} {processor_seconds():.1f} gate ended with status {status}\n")
+        ended.set()
+        looking.join()
+        seconds = {**processors.of_crates(), "all": max(processors.whole, sum(os.times()[2:4]))}
+        for crate, spent in sorted(seconds.items()):
+            out.write(f"{time.time() - start:.1f} processor {crate} {spent:.1f}\n")
     return status
 
 
-LINE = re.compile(r"^(\d+\.\d) (\d+\.\d) (.*)$")
-EVENTS = [
-    (re.compile(r"^rt: (\w+) is kept: "), "kept"),
-    (re.compile(r"^rt: (\w+) proved$"), "proved"),
-    (re.compile(r"^rt: (\w+) NOT PROVED"), "not proved"),
-    (re.compile(r"^rt: (\w+): (?:its )?edits? "), "edits"),
-    (re.compile(r"^(\d+) passed, (\d+) failed"), "whole run"),
-]
-
-
 def rows_of(log):
-    """A row for each crate that was proved or kept, and one for the whole run."""
-    rows = []
-    ended = None
-    verdict = ""
+    """The rows of a log: crate, what came of it, wall minutes and processor minutes."""
+    outcomes, processor, wall, verdict = {}, {}, 0.0, "no verdict"
     with open(log, encoding="utf-8", errors="replace") as file:
         for line in file:
-            match = LINE.match(line.rstrip("\n"))
-            if match is None:
+            timed = LINE.match(line.rstrip("\n"))
+            if timed is None:
                 continue
-            wall, spent, text = float(match[1]), float(match[2]), match[3]
-            ended = (wall, spent)
-            for form, what in EVENTS:
+            seconds, text = float(timed[1]), timed[2]
+            spent = PROCESSOR.match(text)
+            if spent is not None:
+                processor[spent[1]] = float(spent[2])
+                continue
+            wall = seconds
+            if VERDICT.match(text):
+                verdict = VERDICT.match(text)[1]
+            for form, what in OUTCOMES:
                 found = form.match(text)
-                if found is None:
-                    continue
-                if what == "whole run":
-                    verdict = f"{found[1]} passed, {found[2]} failed"
-                else:
-                    rows.append([found[1], what, f"{wall / 60:.1f}", ""])
-                break
-    if ended is not None:
-        rows.append(["all", verdict or "no verdict", f"{ended[0] / 60:.1f}", f"{ended[1] / 60:.1f}"])
-    return rows
+                if found is not None:
+                    outcomes[found[1]] = (what, seconds)
+    outcomes["all"] = (verdict, wall)
+
+    def minutes(seconds):
+        return "" if seconds is None else f"{seconds / 60:.1f}"
+
+    return [[it, what, minutes(at), minutes(processor.get(it))] for it, (what, at) in outcomes.items()]
 
 
-def add(rows, folder, path):
+def add(rows, folder):
     """Adds the rows to the table, with the date, the processors and the commit before each."""
     commit = subprocess.run(
         ["git", "rev-parse", "--short", "HEAD"], cwd=folder, capture_output=True, text=True, check=False
     ).stdout.strip()
     date = datetime.datetime.now(datetime.timezone.utc).strftime("%Y-%m-%dT%H:%MZ")
-    new = not os.path.exists(path)
+    path = os.path.join(HERE, "bench", "gate.csv")
+    is_new = not os.path.exists(path)
     with open(path, "a", encoding="utf-8", newline="") as file:
         table = csv.writer(file, lineterminator="\n")
-        if new:
+        if is_new:
             table.writerow(HEAD)
-        for row in rows:
-            table.writerow([date, os.cpu_count(), commit] + row)
+        table.writerows([date, os.cpu_count(), commit, *row] for row in rows)
 
 
-def main():
-    arguments = sys.argv[1:]
-    if not arguments:
-        sys.exit(__doc__)
-    status = 0
-    if arguments[0] == "--log":
-        log, rest, folder = arguments[1], arguments[2:], HERE
-    else:
-        folder, rest = arguments[0], arguments[1:]
-        log = os.path.join(HERE, "build", "gate.log")
-        os.makedirs(os.path.dirname(log), exist_ok=True)
-        status = run(folder, log)
-    add(rows_of(log), folder, rest[0] if rest else os.path.join(HERE, "bench", "gate.csv"))
-    sys.exit(status)
+def main(words):
+    if len(words) == 2 and words[0] == "--log":
+        add(rows_of(words[1]), HERE)
+        return 0
+    if not words or words[0].startswith("-"):
+        print(__doc__, file=sys.stderr)
+        return 2
+    log = os.path.join(HERE, "build", "gate.log")
+    os.makedirs(os.path.dirname(log), exist_ok=True)
+    status = run(words[0], words[1:], log)
+    add(rows_of(log), words[0])
+    return status
 
 
-main()
+sys.exit(main(sys.argv[1:]))
