@@ -94,13 +94,15 @@ impl Session {
         let Some(mut script) = self.script.take() else {
             return Ok(text);
         };
-        if line != "END" {
-            script.text.extend_from_slice(&text)?;
+        let taken = if line == "END" {
+            let Script { name, text: bytes } = script;
+            self.files.set(name.as_str(), bytes)
+        } else {
+            let added = add_lines(line, &mut script.text);
             self.script = Some(script);
-            return Ok(text);
-        }
-        let Script { name, text: bytes } = script;
-        if let Err(fault) = self.files.set(name.as_str(), bytes) {
+            added
+        };
+        if let Err(fault) = taken {
             self.say_fault(fault, &mut text)?;
         }
         Ok(text)
@@ -200,4 +202,23 @@ impl Session {
         }
         text.push(b'\n').map_err(|_| Fault::Memory)
     }
+}
+
+/// Appends the lines that a line of a script stands for: `repeat N LINE` is N lines.
+fn add_lines(line: &str, script: &mut Vec<u8>) -> Result<(), Fault> {
+    let Some(repeated) = line.strip_prefix("repeat ") else {
+        return add_line(line, script);
+    };
+    let (count, line) = repeated.split_once(' ').ok_or(Fault::Form)?;
+    let count = count.parse::<u16>().map_err(|_| Fault::Number)?;
+    for _ in 0..count {
+        add_line(line, script)?;
+    }
+    Ok(())
+}
+
+/// Appends a line with its line feed.
+fn add_line(line: &str, script: &mut Vec<u8>) -> Result<(), Fault> {
+    script.extend_from_slice(line.as_bytes())?;
+    script.push(b'\n').map_err(|_| Fault::Memory)
 }
