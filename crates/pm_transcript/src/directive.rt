@@ -23,13 +23,22 @@ pub enum Directive<'a> {
     /// `sums NAME`: both pairs of the pool's header get their sums.
     Sums(&'a str),
     /// `cut NAME COUNT`: the file keeps its first bytes, so many.
-    Cut { name: &'a str, count: usize },
+    Cut {
+        name: &'a str,
+        count: usize,
+    },
     /// `copy FROM TO`: the second file becomes as the first.
-    Copy { from: &'a str, to: &'a str },
+    Copy {
+        from: &'a str,
+        to: &'a str,
+    },
     /// `remove NAME`: the file is there no longer.
     Remove(&'a str),
     /// `same A B`: answers whether two files are equal.
-    Same { first: &'a str, second: &'a str },
+    Same {
+        first: &'a str,
+        second: &'a str,
+    },
     /// `bytes NAME AT COUNT`: answers with bytes of the file.
     Bytes {
         name: &'a str,

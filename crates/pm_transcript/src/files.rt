@@ -104,7 +104,9 @@ impl Files {
     ) -> Result<FailingShelf, AllocError> {
         let mut plan = Vec::new(self.alloc);
         if let Some(call) = failing {
-            let written = words.iter().filter(|word| self.files.contains_key(word.as_str()));
+            let written = words
+                .iter()
+                .filter(|word| self.files.contains_key(word.as_str()));
             plan.push((written.count() as u64).saturating_add(call))?;
         }
         let mut shelf = FailingShelf::new(self.alloc, plan);
