@@ -6,22 +6,23 @@ use Rattle.pm_objects.specs.declared.history.Entry.{Entry}
 use Rattle.pm_objects.specs.declared.history.Fate.{Fate}
 use Rattle.pm_objects.specs.declared.history.Fate.TheVariants as fate
 use Rattle.pm_objects.specs.declared.pool.PoolView.{PoolView}
-use Rattle.pm_model.specs.Actions.{none_pending}
-use Rattle.pm_model.specs.Step.{State, Act}
+use Rattle.pm_model.specs.Items.{plain_pool}
+use Rattle.pm_model.specs.Pending.{none_pending}
+use Rattle.pm_model.specs.CallStep.{State, CallRun}
 use Rattle.pm_model.specs.Names.{Replays}
 use Rattle.pm_model.specs.Shown.{IsEntry}
 
 -- a pool as it is opened: no lane has anything pending
 abbrev pub opened : PoolView → State
-opened pool = record { pool = pool; actions = λ lane. none_pending }
+opened pool = record { pool = plain_pool pool; pending = λ lane. none_pending }
 
 -- the pool after these entries, one whole call after another
 pub record ReplaysEntries (pool : PoolView) (entries : List Entry) (last : PoolView) : Type 0 where
-  pub acts : List Act
-  pub are_entries : AllZip IsEntry entries acts
+  pub runs : List CallRun
+  pub are_entries : AllZip IsEntry entries runs
   pub end : State
-  pub replays : Replays (opened pool) acts end
-  pub ends : end.pool ≡ last
+  pub replays : Replays (opened pool) runs end
+  pub ends : end.pool ≡ plain_pool last
 
 abbrev pub is_lost : Fate → Bool
 is_lost fate.Lost = true

@@ -6,7 +6,7 @@ use Rattle.pm_layout.specs.declared.class.Class.TheVariants.{Lines, Chunks}
 use Rattle.pm_layout.specs.Layout.{zone_place, chunk_place}
 use Rattle.pm_layout.specs.Sizes.{blocks_of, blocks_by_class, block_place}
 use Rattle.pm_objects.specs.declared.ids.Oid.{Oid}
-use Rattle.pm_objects.specs.declared.pool.PoolView.{PoolView}
+use Rattle.pm_model.specs.Items.{PlainPool}
 
 -- a block can begin at this line of a chunk: whole chunks do at line 0, block i of a run of so many lines at line 1 + lines * i
 unfoldable pub can_begin_at_line : ℕ → Bool
@@ -47,5 +47,5 @@ pub record CanHold (lanes zones : ℕ) (class : Class) (off : ℕ) : Type 0 wher
   pub begins : BeginsInChunk class lanes zone chunk off
 
 -- the id has the form of an object's id in this pool
-abbrev pub has_place : PoolView → Oid → Bool
+abbrev pub has_place : PlainPool → Oid → Bool
 has_place pool id = id.pool == pool.id && can_begin pool.lanes pool.zones id.off

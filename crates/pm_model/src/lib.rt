@@ -9,12 +9,6 @@
 mod laws;
 mod stage;
 
-pub use laws::{
-    aborted_calls_change_nothing, answers_alone_are_answers, apart_calls_change_places,
-    apart_calls_come_last, apart_calls_may_be_left_out, blocks_begin_at_chunks_and_in_runs,
-    calls_have_parts, calls_keep_pools, late_calls_stand_earlier, made_and_freed_objects_are_told,
-    objects_are_told_by_their_offsets, replies_fix_the_next_state, states_are_known_by_names,
-};
 pub use stage::Stage;
 
 #[cfg(test)]

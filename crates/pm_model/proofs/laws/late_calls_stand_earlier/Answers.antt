@@ -1,5 +1,0 @@
-use Rattle.pm_model.proofs.Replaying.{stand_earlier}
-use Rattle.pm_model.proofs.laws.late_calls_stand_earlier.Goals as goal
-
-pub returns : goal.returns
-returns c = stand_earlier
