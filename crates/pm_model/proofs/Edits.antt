@@ -24,7 +24,7 @@ mixed_same T there items same = λ i x. at x i where
   at x = ⊎_elim (λ (t : T x ≡ true). mixed_in T there items x t ∙ sym (same x t)) (λ (f : T x ≡ false). mixed_out T there items x f) (cases_Bool (T x))
 
 -- a test that tells two numbers apart
-apart_by : (T : ℕ → Bool) (a b : ℕ) → T a ≡ true → T b ≡ false → eqb a b ≡ false
+pub apart_by : (T : ℕ → Bool) (a b : ℕ) → T a ≡ true → T b ≡ false → eqb a b ≡ false
 apart_by T a b t f = false_from_ne_true (eqb a b) (λ e. false≢true (sym f ∙ (ap T (sym (eqb-true a b e)) ∙ t)))
 
 -- a change inside of T
@@ -86,15 +86,15 @@ unfolding all_edited
 all_edited_lines B first [] items fits has = has
 all_edited_lines B first (e ∷ edits) items fits has = all_edited_lines B first edits (edited e items) fits.1 (edited_lines B first e items fits.0 has)
 
+kept_length : (n a k d whole : ℕ) → a ≡ min whole n → d ≡ n - (whole + k) → min n (a + k + d) ≡ n
+kept_length n a k d whole front back = omega arith
+
 pub put_length : (at : ℕ) (new bytes : List ℕ) → length (put_bytes at new bytes) ≡ length bytes
 put_length at new bytes =
-    let whole : length (take at bytes ++ new ++ drop (at + length new) bytes) ≡ length (take at bytes) + (length new + length (drop (at + length new) bytes)) =
-    length-append (take at bytes) (new ++ drop (at + length new) bytes) ∙ ap (λ (n : ℕ). length (take at bytes) + n) (length-append new (drop (at + length new) bytes)) in
-    let front : length (take at bytes) ≡ min at (length bytes) = length-take at bytes in
-    let back : length (drop (at + length new) bytes) ≡ length bytes - (at + length new) = length-drop (at + length new) bytes in
-    let all : length (put_bytes at new bytes) ≡ min (length bytes) (length (take at bytes ++ new ++ drop (at + length new) bytes)) =
-    length-take (length bytes) (take at bytes ++ new ++ drop (at + length new) bytes) in
-    omega arith
+    length-take (length bytes) (take at bytes ++ new ++ drop (at + length new) bytes)
+    ∙ (ap (min (length bytes)) (length-append (take at bytes ++ new) (drop (at + length new) bytes)
+    ∙ ap (λ (n : ℕ). n + length (drop (at + length new) bytes)) (length-append (take at bytes) new))
+    ∙ kept_length (length bytes) (length (take at bytes)) (length new) (length (drop (at + length new) bytes)) at (length-take at bytes) (length-drop (at + length new) bytes))
 
 pub put_keeps_lines : (off at : ℕ) (new : List ℕ) → KeepsLines (put_into off at new)
 put_keeps_lines off at new l None = refl

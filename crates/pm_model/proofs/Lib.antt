@@ -3,3 +3,5 @@ pub mod Changing
 pub mod Edits
 pub mod Locking
 pub mod Over
+pub mod Beside
+pub mod Frames

@@ -143,3 +143,19 @@ none_applies (x ∷ xs) e = by x.1 refl e (none_applies xs) where
   by : (b : Bool) → x.1 ≡ b → cond b (Some x.0) (first_of xs) ≡ None → (first_of xs ≡ None → NoneApplies xs) → (x.1 ≡ false) × NoneApplies xs
   by true t none rest = absurd cc
   by false f none rest = (f, rest none)
+
+pub first_none : (xs : List Test) → NoneApplies xs → first_of xs ≡ None
+unfolding first_of
+first_none [] none = refl
+first_none (x ∷ xs) none = ap (λ (b : Bool). cond b (Some x.0) (first_of xs)) none.0 ∙ first_none xs none.1
+
+-- with the same tests after them
+pub same_append : (xs ys zs : List Test) → SameTests xs ys → SameTests (xs ++ zs) (ys ++ zs)
+same_append [] [] zs same = same_tests zs
+same_append [] (y ∷ ys) zs same = absurd same
+same_append (x ∷ xs) [] zs same = absurd same
+same_append (x ∷ xs) (y ∷ ys) zs same = (same.0, same.1, λ e. same_append xs ys zs (same.2 e))
+
+pub all_from : {A : Type 0} (q : A → Bool) (xs : List A) → Each (λ x. q x ≡ true) xs → list_all q xs ≡ true
+all_from q [] each = refl
+all_from q (x ∷ xs) each = (λ i. each.0 i && all_from q xs each.1 i)

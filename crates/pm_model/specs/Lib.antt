@@ -12,3 +12,4 @@ pub mod Framed
 pub mod Names
 pub mod Shown
 pub mod History
+pub mod Samples

@@ -1,7 +1,38 @@
-ghost use Rattle.std.specs.Prelude.{◌≡◌, ℕ};
-ghost use Rattle.pm_model.specs.Inside.{Replies};
+ghost use Rattle.std.specs.Prelude.{◌≡◌, ℕ, Bool, not, List, filter};
+ghost use Rattle.pm_model.specs.CallStep.{CallRun, CallStep, State};
+ghost use Rattle.pm_model.specs.Framed.{IsUnwritten, MayBeLeftOut};
+ghost use Rattle.pm_model.specs.Names.{Apart, ApartFromAll, IsFramedCall, Name, Replays, content, touches, writes};
 
-/// A law: a stand-in. No code runs.
-pub fn stand_in()
-    ensures { (n : ℕ) → n ≡ n }
+/// A law: each call changes only what it writes, and goes alike from each state that has the same where it touches it. No code runs.
+pub fn calls_have_parts()
+    ensures { (run : CallRun) → IsFramedCall run }
+{}
+
+/// A law: two neighbours that are apart may change places, with all replies kept. No code runs.
+pub fn apart_calls_change_places()
+    ensures { (a b : CallRun) (s t u : State) → Apart a b → CallStep s a t → CallStep t b u → (m : State) × CallStep s b m × CallStep m a u }
+{}
+
+/// A law: a call that is apart from all later ones may come last. No code runs.
+pub fn apart_calls_come_last()
+    ensures { (a : CallRun) (calls : List CallRun) (s t u : State) → ApartFromAll a calls → CallStep s a t → Replays t calls u
+        → (m : State) × Replays s calls m × CallStep m a u }
+{}
+
+/// A law: a call that came last stands as well before all those from which it is apart. No code runs.
+pub fn late_calls_stand_earlier()
+    ensures { (a : CallRun) (calls : List CallRun) (s m u : State) → ApartFromAll a calls → Replays s calls m → CallStep m a u
+        → (t : State) × CallStep s a t × Replays t calls u }
+{}
+
+/// A law: calls that are apart from all later ones may be left out. What they don't write ends as before. No code runs.
+pub fn apart_calls_may_be_left_out()
+    ensures { (left_out : CallRun → Bool) (calls : List CallRun) (s u : State) → MayBeLeftOut writes touches left_out calls → Replays s calls u
+        → (m : State) × Replays s (filter (λ a. not (left_out a)) calls) m
+        × ((n : Name) → IsUnwritten writes left_out calls n → content m n ≡ content u n) }
+{}
+
+/// A law: a state is known by what it has under each name. No code runs.
+pub fn states_are_known_by_names()
+    ensures { (s t : State) → ((n : Name) → content s n ≡ content t n) → s ≡ t }
 {}

@@ -1,14 +1,15 @@
-//! The plain model of a pool in use: what one call of a lane may answer and what it leaves, one whole call after another.
-//!
-//! Promises whoever proves an engine or a world one definition of a call (`Step`), of the order in which its
-//! refusals are looked for (`first_refusal`), of the pool after a history (`Replays`), and of which names a call
-//! reads and writes (`Apart`), with the laws that follow. No memory and no lane at work stands here, and almost
-//! no code. It stands on `pm_objects` for pools and calls, and on `pm_layout` for places; docs/MODEL.md, "The plain model".
+//! The plain model of a pool in use: what one call of a lane may reply and what it leaves, one whole call after another.
 #![tactic(auto)]
 
+mod examples;
 mod laws;
 mod stage;
 
+pub use examples::{calls_outside_by_example, operations_by_example, refusals_by_example};
+pub use laws::{
+    apart_calls_change_places, apart_calls_come_last, apart_calls_may_be_left_out,
+    calls_have_parts, late_calls_stand_earlier, states_are_known_by_names,
+};
 pub use stage::Stage;
 
 #[cfg(test)]

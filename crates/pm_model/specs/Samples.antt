@@ -1,0 +1,67 @@
+-- Small pools for worked examples.
+use Rattle.std.specs.Prelude.{◌≡◌, ℕ, Bool, true, false, List, [], ◌∷◌, ◌++◌, Option, None, Some, replicate}
+use Rattle.pm_objects.specs.declared.calls.At.{At}
+use Rattle.pm_objects.specs.declared.calls.Dest.{Dest}
+use Rattle.pm_objects.specs.declared.calls.Operation.{Operation}
+use Rattle.pm_objects.specs.declared.calls.Want.{Want}
+use Rattle.pm_objects.specs.declared.history.Value.{Value}
+use Rattle.pm_objects.specs.declared.history.Value.TheVariants.{Offset}
+use Rattle.pm_objects.specs.declared.ids.Oid.{Oid}
+use Rattle.pm_objects.specs.declared.pool.PoolView.{PoolView}
+use Rattle.pm_objects.specs.declared.refusal.Refusal.{Refusal}
+use Rattle.pm_model.specs.Items.{Items, PlainPool, number_bytes, plain_pool}
+use Rattle.pm_model.specs.Pending.{Pending, none_pending, want_to_write}
+use Rattle.pm_model.specs.Transaction.{Transaction, begun, idle}
+use Rattle.pm_model.specs.Refusals.{Seen, refusal_of}
+use Rattle.pm_model.specs.Inside.{after_reply}
+use Rattle.pm_model.specs.Outside.{Outside, after_reply_outside, refusal_outside}
+
+-- Pool 7 of one lane and one zone. The root at 16512 has eight bytes, of the number 5, and one member, the object at 16640.
+-- The one at 16768 is in no list, and that at 16896 holds its id
+abbrev pub sample_view : PoolView
+sample_view = record {
+  id = 7;
+  name = 100 ∷ [];
+  lanes = 1;
+  zones = 1;
+  objects = (16512, record { kind = 0; bytes = number_bytes 5; members = 16640 ∷ [] })
+      ∷ (16640, record { kind = 1; bytes = 1 ∷ 2 ∷ []; members = [] })
+      ∷ (16768, record { kind = 2; bytes = 3 ∷ 4 ∷ []; members = [] })
+      ∷ (16896, record { kind = 3; bytes = number_bytes 7 ++ number_bytes 16768; members = [] })
+      ∷ [];
+  root = Some 16512;
+}
+
+abbrev pub sample : PlainPool
+sample = plain_pool sample_view
+
+abbrev pub id_at : ℕ → Oid
+id_at off = record { pool = 7; off = off }
+
+abbrev pub null_id : Oid
+null_id = record { pool = 0; off = 0 }
+
+abbrev pub root_id : Oid
+root_id = id_at 16512
+
+-- a lane that saw nothing of other lanes
+abbrev pub unhindered : Seen
+unhindered = record { spent = false; busy = false; missing = []; full = false; room = 8 }
+
+-- a transaction at work: it holds the root to write
+abbrev pub at_work : Transaction
+at_work = begun (want_to_write root_id ∷ []) (idle sample none_pending)
+
+-- one that holds all to write
+abbrev pub with_all : Transaction
+with_all = begun (want_to_write root_id ∷ want_to_write (id_at 16640) ∷ want_to_write (id_at 16768) ∷ []) (idle sample none_pending)
+
+abbrev pub outside : Outside
+outside = record { pool = sample; pending = none_pending }
+
+-- what an operation leaves that replies this
+abbrev pub inside_after : Operation → Option Value → Transaction → Transaction
+inside_after op reply tx = after_reply op reply tx
+
+abbrev pub items_after : Operation → Option Value → Items
+items_after op reply = (after_reply_outside op reply outside).pool.items
