@@ -180,6 +180,9 @@ by_transaction run here pending last runs parts =
       root = inr (refl, ap (λ (q : PlainPool). q.root) before);
     }))
 
+with_left : (o : Outside) (left : Pending) → o.pending ≡ left → record { pool = o.pool; pending = left } ≡ o
+with_left o left e = λ i. record o { pending = sym e i }
+
 by_outside : (run : CallRun) (here : PlainPool) (pending : Pending) (ran : Ran) → run.operations ≡ ran ∷ [] → RepliesOutside (record { pool = here; pending = pending }) ran
     → run.parts ≡ parts_outside (record { pool = here; pending = pending }) ran
     → Shows run here pending (after_outside ran (record { pool = here; pending = pending })).pool (after_outside ran (record { pool = here; pending = pending })).pending
@@ -209,7 +212,7 @@ by_outside run here pending ran single replies parts =
       single = single;
       replies = subst (λ (o : Outside). RepliesOutside o ran) to away.replies;
       parts = parts ∙ (sym away.parts ∙ ap (λ (o : Outside). parts_outside o ran) to);
-      leaves = λ i. state_with s run.lane ((λ j. record { pool = next; pending = (sym away.pending) j }) ∙ ap (after_outside ran) to) i;
+      leaves = ap (state_with s run.lane) (with_left (after_outside ran at) (after_outside ran from).pending away.pending ∙ ap (after_outside ran) to);
     }),
     record {
       pool = away.pool ∙ (λ i. record (sym same.fixed i) { items = mixed (touched_of p) other.items (after_outside ran from).pool.items; root = next.root });
