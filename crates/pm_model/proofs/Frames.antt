@@ -10,7 +10,7 @@ use Rattle.pm_model.specs.Transaction.{Transaction, idle, pool_of}
 use Rattle.pm_model.specs.Inside.{Ran}
 use Rattle.pm_model.specs.Outside.{Outside, RepliesOutside, after_outside, after_reply_outside}
 use Rattle.pm_model.specs.Parts.{Parts, parts_inside, parts_outside}
-use Rattle.pm_model.specs.CallStep.{CallRun, CallStep, OutsideStep, Runs, State, TransactionStep, outside_of, state_with, with_pending}
+use Rattle.pm_model.specs.CallStep.{CallRun, CallStep, OutsideStep, Runs, State, TransactionStep, is_transaction, outside_of, state_with, with_pending}
 use Rattle.pm_model.specs.Framed.{Follows, IsFramed, IsUnwritten, MayBeLeftOut}
 use Rattle.pm_model.specs.Names.{Apart, ApartFromAll, Content, IsFramedCall, Name, Replays, content, has_block, locks_object, touches, writes}
 use Rattle.pm_model.specs.Names.Name.{Fixed, RootWord, ObjectAt, LineAt, PendingOf}
@@ -147,9 +147,9 @@ Shows run before pending after left =
     × ((s : State) (other : PlainPool) → SameAt run.parts before other → s.pool ≡ other → s.pending run.lane ≡ pending
     → (next : PlainPool) × CallStep s run (state_with s run.lane (record { pool = next; pending = left })) × Alike run.parts before after other next)
 
-by_transaction : (run : CallRun) (here : PlainPool) (pending : Pending) (last : Transaction) → Runs (idle here pending) run.operations last → run.parts ≡ parts_inside (idle here pending) run.operations
+by_transaction : (run : CallRun) (here : PlainPool) (pending : Pending) (last : Transaction) → is_transaction run.operations ≡ true → Runs (idle here pending) run.operations last → run.parts ≡ parts_inside (idle here pending) run.operations
     → Shows run here pending (pool_of last) last.pending
-by_transaction run here pending last runs parts =
+by_transaction run here pending last begins runs parts =
     let p : Parts = run.parts in
     let within : Within (touched_of p) (written_of p) (lines_of p) (parts_inside (idle here pending) run.operations) =
     subst (Within (touched_of p) (written_of p) (lines_of p)) parts (parts_within p) in
@@ -171,6 +171,7 @@ by_transaction run here pending last runs parts =
     (pool_of end,
     inl (record {
       last = end;
+      begins = begins;
       runs = subst (λ (t : Transaction). Runs t run.operations end) from run_there.0;
       parts = parts ∙ (sym run_there.1 ∙ ap (λ (t : Transaction). parts_inside t run.operations) from);
       leaves = refl;
@@ -230,7 +231,7 @@ shown run s t (inl step) = record {
   after = pool_of step.last;
   left = step.last.pending;
   is = step.leaves;
-  shows = by_transaction run s.pool (s.pending run.lane) step.last step.runs step.parts;
+  shows = by_transaction run s.pool (s.pending run.lane) step.last step.begins step.runs step.parts;
 }
 shown run s t (inr step) = record {
   after = (after_outside step.ran (outside_of s run.lane)).pool;

@@ -5,3 +5,6 @@ pub mod Locking
 pub mod Over
 pub mod Beside
 pub mod Frames
+pub mod Ends
+pub mod Known
+pub mod Beginning

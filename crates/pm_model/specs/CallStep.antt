@@ -3,7 +3,7 @@ use Rattle.std.specs.Prelude.{◌≡◌, ◌⊎◌, ℕ, ◌==◌, Bool, true, f
 use Rattle.pm_model.specs.Items.{PlainPool}
 use Rattle.pm_model.specs.Pending.{Pending}
 use Rattle.pm_model.specs.Transaction.{Transaction, idle, is_working, pool_of}
-use Rattle.pm_model.specs.Inside.{Ran, Replies, after, is_kept}
+use Rattle.pm_model.specs.Inside.{Ran, Replies, after, is_begin, is_kept}
 use Rattle.pm_model.specs.Outside.{Outside, RepliesOutside, after_outside}
 use Rattle.pm_model.specs.Parts.{Parts, parts_inside, parts_outside}
 
@@ -32,6 +32,11 @@ unfoldable pub Runs : Transaction → List Ran → Transaction → Type 0
 Runs tx [] last = ⊥
 Runs tx (ran ∷ rest) last = Replies tx ran (is_kept rest) × RunsOn (after ran tx) rest last
 
+-- a transaction begins with `begin`
+abbrev pub is_transaction : List Ran → Bool
+is_transaction [] = false
+is_transaction (ran ∷ rest) = is_begin ran.operation
+
 -- the state with what a call of the lane leaves
 abbrev pub state_with : State → ℕ → Outside → State
 state_with s lane left = record { pool = left.pool; pending = with_pending s.pending lane left.pending }
@@ -39,6 +44,7 @@ state_with s lane left = record { pool = left.pool; pending = with_pending s.pen
 -- the call is a transaction, which turns one state into the other
 pub record TransactionStep (s : State) (run : CallRun) (next : State) : Type 0 where
   pub last : Transaction
+  pub begins : is_transaction run.operations ≡ true
   pub runs : Runs (idle s.pool (s.pending run.lane)) run.operations last
   pub parts : run.parts ≡ parts_inside (idle s.pool (s.pending run.lane)) run.operations
   pub leaves : next ≡ state_with s run.lane (record { pool = pool_of last; pending = last.pending })

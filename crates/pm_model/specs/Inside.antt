@@ -30,6 +30,10 @@ is_action (SetValue id at value) = true
 is_action Cancel = true
 is_action op = false
 
+abbrev pub is_begin : Operation → Bool
+is_begin (Begin wants) = true
+is_begin op = false
+
 abbrev pub is_inside : Operation → Bool
 is_inside (Begin wants) = true
 is_inside (Lock want) = true

@@ -1,7 +1,13 @@
-ghost use Rattle.std.specs.Prelude.{◌≡◌, ℕ, Bool, not, List, filter};
-ghost use Rattle.pm_model.specs.CallStep.{CallRun, CallStep, State};
+ghost use Rattle.std.specs.Prelude.{◌≡◌, ◌≢◌, ◌↔◌, ℕ, Bool, true, not, List, filter};
+ghost use Rattle.pm_objects.specs.Pool.{IsPool};
+ghost use Rattle.pm_objects.specs.declared.history.TxErr.TheVariants as error;
+ghost use Rattle.pm_objects.specs.declared.pool.PoolView.{PoolView};
+ghost use Rattle.pm_model.specs.Items.{plain_pool};
+ghost use Rattle.pm_model.specs.Places.{can_begin, CanBegin};
+ghost use Rattle.pm_model.specs.CallStep.{CallRun, CallStep, State, TransactionStep};
 ghost use Rattle.pm_model.specs.Framed.{IsUnwritten, MayBeLeftOut};
 ghost use Rattle.pm_model.specs.Names.{Apart, ApartFromAll, IsFramedCall, Name, Replays, content, touches, writes};
+ghost use Rattle.pm_model.specs.Shown.{error_of};
 
 /// A law: each call changes only what it writes, and goes alike from each state that has the same where it touches it. No code runs.
 pub fn calls_have_parts()
@@ -35,4 +41,25 @@ pub fn apart_calls_may_be_left_out()
 /// A law: a state is known by what it has under each name. No code runs.
 pub fn states_are_known_by_names()
     ensures { (s t : State) → ((n : Name) → content s n ≡ content t n) → s ≡ t }
+{}
+
+/// A law: a pool is known by its plain pool. No code runs.
+pub fn pools_are_known_by_their_items()
+    ensures { (v w : PoolView) → IsPool v → IsPool w → plain_pool v ≡ plain_pool w → v ≡ w }
+{}
+
+/// A law: a call's replies fix the next state. No code runs.
+pub fn replies_fix_the_next_state()
+    ensures { (run : CallRun) (s t u : State) → CallStep s run t → CallStep s run u → t ≡ u }
+{}
+
+/// A law: a transaction ends with the error that its operations show, and a call that shows an error changed no pool. No code runs.
+pub fn aborted_calls_change_nothing()
+    ensures error { (run : CallRun) (s t : State) → (step : TransactionStep s run t) → step.last.error ≡ error_of run.operations }
+    ensures unchanged { (run : CallRun) (s t : State) → CallStep s run t → error_of run.operations ≢ error.None → t.pool ≡ s.pool }
+{}
+
+/// A law: a block can begin before an offset exactly where whole chunks or a block of a run can. No code runs.
+pub fn blocks_begin_at_chunks_and_in_runs()
+    ensures { (lanes zones off : ℕ) → (can_begin lanes zones off ≡ true) ↔ CanBegin lanes zones off }
 {}
