@@ -98,10 +98,24 @@ module _ (here : PlainPool) (I : Items) (R : Option ℕ) (T W B : ℕ → Bool)
   unfolding rows listed_as
   target_there dest t asked =
       let id : Oid = id_in here.items dest in
-      subst (λ (other : Oid). SameTests (rows dest other (is_root R other.off) (is_listed I other.off)) (rows dest id (is_root here.root id.off) (is_listed here.items id.off))) (sym (id_there dest t))
-      (refl, refl, λ a. (refl, refl, λ b. (refl, refl, λ c.
-      (refl, named_and (not (is_null id)) (is_root R id.off) (is_root here.root id.off) (λ n. roots id.off (wt id.off (target_in dest id asked n a b c))), λ d.
-      (refl, named_and (not (is_null id)) (is_listed I id.off) (is_listed here.items id.off) (λ n. ap listed_as (same id.off (wt id.off (target_in dest id asked n a b c)))), λ e. tt)))))
+      subst (λ (other : Oid). SameTests (rows dest other (is_root R other.off) (is_listed I other.off)) (rows dest id (is_root here.root id.off) (is_listed here.items id.off))) (sym (id_there dest t)) (
+        refl,
+        refl,
+        λ a. (
+          refl,
+          refl,
+          λ b. (
+            refl,
+            refl,
+            λ c. (
+              refl,
+              named_and (not (is_null id)) (is_root R id.off) (is_root here.root id.off) (λ n. roots id.off (wt id.off (target_in dest id asked n a b c))),
+              λ d.
+                  (refl, named_and (not (is_null id)) (is_listed I id.off) (is_listed here.items id.off) (λ n. ap listed_as (same id.off (wt id.off (target_in dest id asked n a b c)))), λ e. tt),
+            ),
+          ),
+        ),
+      )
 
   -- ---- what is read under the locks
 
@@ -142,28 +156,52 @@ module _ (here : PlainPool) (I : Items) (R : Option ℕ) (T W B : ℕ → Bool)
   late_there : (op : Operation) → Asked (wants_named p op) → Asked (wants_then seen here op) → RootSame op → SameTests (late_tests seen there p op) (late_tests seen here p op)
   unfolding listed_as size_as
   late_there Publish named more root =
-      let frees = pending_frees named in
-      (refl, refl, λ a.
-      (refl, same_any (λ (id : Oid). is_root R id.off) (λ (id : Oid). is_root here.root id.off) p.frees
-      (each_weaker (λ (id : Oid). W id.off ≡ true) (λ (id : Oid). is_root R id.off ≡ is_root here.root id.off) p.frees (λ id w. roots id.off (wt id.off w)) frees), λ b.
-      (refl, same_any (λ (id : Oid). is_listed I id.off) (λ (id : Oid). is_listed here.items id.off) p.frees
-      (each_weaker (λ (id : Oid). W id.off ≡ true) (λ (id : Oid). is_listed I id.off ≡ is_listed here.items id.off) p.frees (λ id w. ap listed_as (same id.off (wt id.off w))) frees), λ c.
-      (refl, same_any (passes_object I) (passes_object here.items) p.sets
-      (each_weaker (λ (a : SetWord). W a.id.off ≡ true) (λ (a : SetWord). passes_object I a ≡ passes_object here.items a) p.sets
-      (λ a w. ap (λ (o : Option Item). ltb (size_as o) (a.off + 8)) (same a.id.off (wt a.id.off w))) (pending_sets named)), λ d. tt))))
+      let frees = pending_frees named in (
+        refl,
+        refl,
+        λ a. (
+          refl,
+          same_any (λ (id : Oid). is_root R id.off) (λ (id : Oid). is_root here.root id.off) p.frees
+              (each_weaker (λ (id : Oid). W id.off ≡ true) (λ (id : Oid). is_root R id.off ≡ is_root here.root id.off) p.frees (λ id w. roots id.off (wt id.off w)) frees),
+          λ b. (
+            refl,
+            same_any (λ (id : Oid). is_listed I id.off) (λ (id : Oid). is_listed here.items id.off) p.frees
+                (each_weaker (λ (id : Oid). W id.off ≡ true) (λ (id : Oid). is_listed I id.off ≡ is_listed here.items id.off) p.frees (λ id w. ap listed_as (same id.off (wt id.off w))) frees),
+            λ c. (
+              refl,
+              same_any (passes_object I) (passes_object here.items) p.sets
+                  (each_weaker (λ (a : SetWord). W a.id.off ≡ true) (λ (a : SetWord). passes_object I a ≡ passes_object here.items a) p.sets
+                  (λ a w. ap (λ (o : Option Item). ltb (size_as o) (a.off + 8)) (same a.id.off (wt a.id.off w))) (pending_sets named)),
+              λ d. tt,
+            ),
+          ),
+        ),
+      )
   late_there (AllocTo dest size kind) named more root = (refl, range_at dest.id.off (dest.off + 16) named.0.0, λ a. (refl, refl, λ b. tt))
-  late_there (ReallocAt dest size kind) named more root =
-      (refl, range_at dest.id.off (dest.off + 16) named.0.0, λ a.
-      same_append (target_tests seen there dest) (target_tests seen here dest) ((refusal.NoSpace, leb 1 size && seen.full) ∷ []) (target_there dest named.0.0 more))
+  late_there (ReallocAt dest size kind) named more root = (
+    refl,
+    range_at dest.id.off (dest.off + 16) named.0.0,
+    λ a.
+        same_append (target_tests seen there dest) (target_tests seen here dest) ((refusal.NoSpace, leb 1 size && seen.full) ∷ []) (target_there dest named.0.0 more),
+  )
   late_there (FreeAt dest) named more root = (refl, range_at dest.id.off (dest.off + 16) named.0.0, λ a. target_there dest named.0.0 more)
-  late_there (Insert head at id) named more root =
-      (refl, ap (is_beside_none at) (members_at head.off named.0.0), λ a.
-      (refl, ap (λ (o : Option Item). option_map_or (λ (h : ℕ). true) (option_map_or (λ (i : Item). i.list) o None) false) (same id.off named.1.0.0), λ b. tt))
+  late_there (Insert head at id) named more root = (
+    refl,
+    ap (is_beside_none at) (members_at head.off named.0.0),
+    λ a.
+        (refl, ap (λ (o : Option Item). option_map_or (λ (h : ℕ). true) (option_map_or (λ (i : Item). i.list) o None) false) (same id.off named.1.0.0), λ b. tt),
+  )
   late_there (InsertNew head at size kind) named more root = (refl, ap (is_beside_none at) (members_at head.off named.0.0), λ a. (refl, refl, λ b. tt))
-  late_there (Remove head id free) named more root =
-      (refl, ap (λ (b : Bool). free && b) (roots id.off named.1.0.0), λ a.
-      (refl, ap (λ (ms : List ℕ). not (is_among ms id.off)) (members_at head.off named.0.0), λ b.
-      (refl, ap (λ (ms : List ℕ). free && leb 1 (length ms)) (members_at id.off named.1.0.0), λ c. tt)))
+  late_there (Remove head id free) named more root = (
+    refl,
+    ap (λ (b : Bool). free && b) (roots id.off named.1.0.0),
+    λ a. (
+      refl,
+      ap (λ (ms : List ℕ). not (is_among ms id.off)) (members_at head.off named.0.0),
+      λ b.
+          (refl, ap (λ (ms : List ℕ). free && leb 1 (length ms)) (members_at id.off named.1.0.0), λ c. tt),
+    ),
+  )
   late_there (MoveTo head new_head at id) named more root =
       (refl, (λ i. not (is_among (members_at head.off named.0.0 i) id.off) || is_beside_none at (taken_out id.off (members_at new_head.off named.1.0.0 i))), λ a. tt)
   late_there (Members head) named more root =
@@ -312,16 +350,19 @@ module _ (here : PlainPool) (I : Items) (R : Option ℕ) (T W B : ℕ → Bool)
   realloc_fit dest size kind reply w ws blocks value has = by (eqb size 0) value has where
     freed : Each Fit (free_target here dest)
     freed = all_freed_fit (target_off here dest) ws blocks
+
     clear : (b : Bool) → Each Fit (cond b [] (id_edit dest 0 0 ∷ free_target here dest))
     clear true = tt
     clear false = (put_fit dest.id.off dest.off (number_bytes 0 ++ number_bytes 0) w, freed)
+
     by : (b : Bool) → MatchOption (cond b None (Some size)) (reply ≡ value_outside here (ReallocAt dest size kind)) (λ n. Makes n reply)
         → Each (WithinB W B) (option_map_or (λ n. record { off = offset_in reply; size = n } ∷ []) (cond b None (Some size)) [])
         → Each Fit (cond b (cond (is_null (id_in here.items dest)) [] (id_edit dest 0 0 ∷ free_target here dest)) (made_item (offset_in reply) (item_moved here dest size kind) ∷ id_edit dest here.id (offset_in reply) ∷ free_target here dest))
     by true value has = clear (is_null (id_in here.items dest))
-    by false value has =
-        (makes_fit size (item_moved here dest size kind) reply (resized_length kind size (cond (is_null (id_in here.items dest)) [] (bytes_of here.items (id_in here.items dest).off))) value has,
-        (put_fit dest.id.off dest.off (number_bytes here.id ++ number_bytes (offset_in reply)) w, freed))
+    by false value has = (
+      makes_fit size (item_moved here dest size kind) reply (resized_length kind size (cond (is_null (id_in here.items dest)) [] (bytes_of here.items (id_in here.items dest).off))) value has,
+      (put_fit dest.id.off dest.off (number_bytes here.id ++ number_bytes (offset_in reply)) w, freed),
+    )
 
   root_fit : (size : ℕ) (reply : Option Value) → Asked (want_root here true) → MatchOption (size_made here (Root size)) (reply ≡ value_outside here (Root size)) (λ n. Makes n reply)
       → Each (WithinB W B) (option_map_or (λ n. record { off = offset_in reply; size = n } ∷ []) (size_made here (Root size)) [])
@@ -332,9 +373,11 @@ module _ (here : PlainPool) (I : Items) (R : Option ℕ) (T W B : ℕ → Bool)
         → Each (λ (off : ℕ). Each (WithinB W B) (blocks_at here.items off)) (option_map_or (λ off. off ∷ []) root [])
         → Each Fit (option_map_or (λ old. freed_item old ∷ made_item (offset_in reply) (resized_item (kind_of here.items old) size (bytes_of here.items old)) ∷ []) root (made_item (offset_in reply) (new_item 0 size None) ∷ []))
     grown None asked makes has freed = (makes_fit size (new_item 0 size None) reply (length-replicate size 0) makes has, tt)
-    grown (Some old) asked makes has freed =
-        (freed_fit old (asked.0.1 refl) freed.0,
-        (makes_fit size (resized_item (kind_of here.items old) size (bytes_of here.items old)) reply (resized_length (kind_of here.items old) size (bytes_of here.items old)) makes has, tt))
+    grown (Some old) asked makes has freed = (
+      freed_fit old (asked.0.1 refl) freed.0,
+      (makes_fit size (resized_item (kind_of here.items old) size (bytes_of here.items old)) reply (resized_length (kind_of here.items old) size (bytes_of here.items old)) makes has, tt),
+    )
+
     by : (b : Bool) → MatchOption (cond b (Some size) None) (reply ≡ value_outside here (Root size)) (λ n. Makes n reply)
         → Each (WithinB W B) (option_map_or (λ n. record { off = offset_in reply; size = n } ∷ []) (cond b (Some size) None) [])
         → Each (λ (off : ℕ). Each (WithinB W B) (blocks_at here.items off)) (cond b (option_map_or (λ off. off ∷ []) here.root []) [])
@@ -362,19 +405,24 @@ module _ (here : PlainPool) (I : Items) (R : Option ℕ) (T W B : ℕ → Bool)
     by false = (put_fit dest.id.off dest.off (number_bytes 0 ++ number_bytes 0) (named.0.1 refl), all_freed_fit (target_off here dest) (target_offs dest more free) freed)
   edits_fit (Insert head at id) reply named more free may value has freed =
       ((named.0.1 refl, inl (members_keep_lines head.off (inserted at id.off (members_of here.items head.off)))), ((named.1.0.1 refl, inl (list_keeps_lines id.off (Some head.off))), tt))
-  edits_fit (InsertNew head at size kind) reply named more free may value has freed =
-      ((named.0.1 refl, inl (members_keep_lines head.off (inserted at (offset_in reply) (members_of here.items head.off)))),
-      (makes_fit size (new_item kind size (Some head.off)) reply (length-replicate size 0) value has, tt))
+  edits_fit (InsertNew head at size kind) reply named more free may value has freed = (
+    (named.0.1 refl, inl (members_keep_lines head.off (inserted at (offset_in reply) (members_of here.items head.off)))),
+    (makes_fit size (new_item kind size (Some head.off)) reply (length-replicate size 0) value has, tt),
+  )
   edits_fit (Remove head id free_too) reply named more free may value has freed =
       each_append Fit (taken_from here head.off id.off) (cond free_too (freed_item id.off ∷ []) [])
       ((named.0.1 refl, inl (members_keep_lines head.off (taken_out id.off (members_of here.items head.off)))), ((named.1.0.1 refl, inl (list_keeps_lines id.off None)), tt))
       (by free_too freed) where
-    by : (b : Bool) → Each (λ (off : ℕ). Each (WithinB W B) (blocks_at here.items off)) (cond b (id.off ∷ []) []) → Each Fit (cond b (freed_item id.off ∷ []) [])
-    by true f = (freed_fit id.off (named.1.0.1 refl) f.0, tt)
-    by false f = tt
-  edits_fit (MoveTo head new_head at id) reply named more free may value has freed =
-      ((named.0.1 refl, inl (members_keep_lines head.off (taken_out id.off (members_of here.items head.off)))), ((named.1.1.0.1 refl, inl (list_keeps_lines id.off None)),
-      ((named.1.0.1 refl, inl (members_keep_lines new_head.off (inserted at id.off (taken_out id.off (members_of here.items new_head.off))))), ((named.1.1.0.1 refl, inl (list_keeps_lines id.off (Some new_head.off))), tt))))
+        by : (b : Bool) → Each (λ (off : ℕ). Each (WithinB W B) (blocks_at here.items off)) (cond b (id.off ∷ []) []) → Each Fit (cond b (freed_item id.off ∷ []) [])
+        by true f = (freed_fit id.off (named.1.0.1 refl) f.0, tt)
+        by false f = tt
+  edits_fit (MoveTo head new_head at id) reply named more free may value has freed = (
+    (named.0.1 refl, inl (members_keep_lines head.off (taken_out id.off (members_of here.items head.off)))),
+    (
+      (named.1.1.0.1 refl, inl (list_keeps_lines id.off None)),
+      ((named.1.0.1 refl, inl (members_keep_lines new_head.off (inserted at id.off (taken_out id.off (members_of here.items new_head.off))))), ((named.1.1.0.1 refl, inl (list_keeps_lines id.off (Some new_head.off))), tt)),
+    ),
+  )
   edits_fit (Root size) reply named more free may value has freed = root_fit size reply more value has freed
   edits_fit op reply named more free may value has freed = tt
 
@@ -418,6 +466,7 @@ module _ (here : PlainPool) (I : Items) (R : Option ℕ) (T W B : ℕ → Bool)
     old : (root : Option ℕ) → Asked (option_map_or (λ off. record { id = record { pool = here.id; off = off }; write = true } ∷ []) root []) → Each (λ (off : ℕ). W off ≡ true) (option_map_or (λ off. off ∷ []) root [])
     old None asked = tt
     old (Some off) asked = (asked.0.1 refl, tt)
+
     by : (b : Bool) → Each (λ (off : ℕ). W off ≡ true) (cond b (option_map_or (λ off. off ∷ []) here.root []) [])
     by true = old here.root looks.1
     by false = tt
@@ -456,6 +505,7 @@ module _ (here : PlainPool) (I : Items) (R : Option ℕ) (T W B : ℕ → Bool)
     old : (root : Option ℕ) → Asked (option_map_or (λ off. record { id = record { pool = here.id; off = off }; write = true } ∷ []) root []) → false ≡ is_root root x
     old None asked = refl
     old (Some off) asked = sym (apart_by W off x (asked.0.1 refl) out)
+
     by : (b : Bool) → Each (WithinB W B) (option_map_or (λ n. record { off = offset_in reply; size = n } ∷ []) (cond b (Some size) None) [])
         → is_root (cond b (Some (offset_in reply)) here.root) x ≡ is_root here.root x
     by true has = apart_by W (offset_in reply) x has.0.0 out ∙ old here.root asked
@@ -479,6 +529,7 @@ module _ (here : PlainPool) (I : Items) (R : Option ℕ) (T W B : ℕ → Bool)
     publishes Publish within may =
         all_free_there B here.items I lines (blocks_reserved p) [] (each_weaker (WithinB W B) (λ (b : Block). (l : ℕ) → covers b l ≡ true → B l ≡ true) (blocks_reserved p) (λ b h. h.1) within) may
     publishes o within may = tt
+
     new_there : (size : ℕ) → Each (WithinB W B) (record { off = offset_in reply; size = size } ∷ []) → Makes size reply
         → (off : ℕ) × IsNewBlock there (blocks_reserved p) (record { off = off; size = size }) × (reply ≡ Some (Offset off))
     new_there size within makes =
@@ -486,9 +537,11 @@ module _ (here : PlainPool) (I : Items) (R : Option ℕ) (T W B : ℕ → Bool)
         let within_off : (l : ℕ) → covers (record { off = makes.0; size = size }) l ≡ true → B l ≡ true =
         subst (λ (off : ℕ). (l : ℕ) → covers (record { off = off; size = size }) l ≡ true → B l ≡ true) e within.0.1 in
         (makes.0, record { place = makes.1.place; free = free_there B here.items I lines (blocks_reserved p) (record { off = makes.0; size = size }) within_off makes.1.free }, makes.2)
+
     not_publish : (o : Operation) (size : ℕ) → size_made here o ≡ Some size → blocks_made s o reply ≡ record { off = offset_in reply; size = size } ∷ []
     not_publish Publish size e = absurd cc
     not_publish o size e = ap (λ (x : Option ℕ). option_map_or (λ n. record { off = offset_in reply; size = n } ∷ []) x []) e
+
     value : (o : Operation) (made : Option ℕ) → size_made here op ≡ made → Each (WithinB W B) (blocks_made s op reply) → IsReplyOutside s op reply → IsReplyOutside s' op reply
     value o None e within reply_is =
         subst (λ (m : Option ℕ). MatchOption m (reply ≡ value_outside there op) (λ size. (off : ℕ) × IsNewBlock there (blocks_reserved p) (record { off = off; size = size }) × (reply ≡ Some (Offset off))))
@@ -639,12 +692,12 @@ module _ (here : PlainPool) (I : Items) (R : Option ℕ) (T W B : ℕ → Bool)
           };
           parts = parts_there (λ e. same_full);
           pool = ap (λ (l : Outside). l.pool) at' ∙ ((λ i. record there { items = (sym (ap (λ (l : Outside). l.pool.items) at') ∙ items) i; root = root_after there op (offset_in reply) })
-          ∙ ap (λ (r : Option ℕ). let q : PlainPool = record there { items = mixed T I left.pool.items; root = r } in q) (sym (ap (λ (l : Outside). l.pool.root) at')));
+              ∙ ap (λ (r : Option ℕ). let q : PlainPool = record there { items = mixed T I left.pool.items; root = r } in q) (sym (ap (λ (l : Outside). l.pool.root) at')));
           pending = ap (λ (l : Outside). l.pending) at' ∙ sym (ap (λ (l : Outside). l.pending) at);
           root_left = ⊎_elim
-          (λ (e : root_after there op (offset_in reply) ≡ root_after here op (offset_in reply)). inl (ap (λ (l : Outside). l.pool.root) at' ∙ (e ∙ sym (ap (λ (l : Outside). l.pool.root) at))))
-          (λ (e : (root_after there op (offset_in reply) ≡ R) × (root_after here op (offset_in reply) ≡ here.root)). inr (ap (λ (l : Outside). l.pool.root) at' ∙ e.0, ap (λ (l : Outside). l.pool.root) at ∙ e.1))
-          (root_there op (offset_in reply) looks);
+              (λ (e : root_after there op (offset_in reply) ≡ root_after here op (offset_in reply)). inl (ap (λ (l : Outside). l.pool.root) at' ∙ (e ∙ sym (ap (λ (l : Outside). l.pool.root) at))))
+              (λ (e : (root_after there op (offset_in reply) ≡ R) × (root_after here op (offset_in reply) ≡ here.root)). inr (ap (λ (l : Outside). l.pool.root) at' ∙ e.0, ap (λ (l : Outside). l.pool.root) at ∙ e.1))
+              (root_there op (offset_in reply) looks);
           fixed = subst (λ (l : Outside). l.pool ≡ record here { items = l.pool.items; root = l.pool.root }) (sym at) refl;
           lines_left = subst (λ (l : Outside). HasLines B here.items l.pool.items) (sym at)
               (all_edited_lines B here.items edits here.items (each_weaker Fit (FitsLines B here.items) edits (λ e f. f.1) fit) (λ l x out. refl));
@@ -662,13 +715,17 @@ module _ (here : PlainPool) (I : Items) (R : Option ℕ) (T W B : ℕ → Bool)
         let at' : left' ≡ s' = ap (λ (v : Option Value). after_reply_outside op v s') refused.replied in
         let same_full : is_under_locks s (ran_so op reply) ≡ true → full s' op reply ≡ full s op reply = λ u.
         let more : wants_then seen there op ≡ wants_then seen here op = then_under u in
-        (λ i. record { locks = wants_named p op ++ more i; reads_root = reads_root_word op; writes_root = writes_root_word op;
-        blocks = (ap (blocks_outside s' op) refused.replied ∙ sym (ap (blocks_outside s op) refused.replied)) i }) in
+        (λ i. record {
+          locks = wants_named p op ++ more i;
+          reads_root = reads_root_word op;
+          writes_root = writes_root_word op;
+          blocks = (ap (blocks_outside s' op) refused.replied ∙ sym (ap (blocks_outside s op) refused.replied)) i;
+        }) in
         record {
           replies = record { outside = known; reply = subst (λ (o : Option Refusal). MatchOption o (IsDoneOutside s' op seen reply) (λ q. IsRefused q reply)) (sym (refusal_there ∙ is)) refused };
           parts = parts_there same_full;
           pool = ap (λ (l : Outside). l.pool) at' ∙ ((λ i. record there { items = sym (mixed_same T I here.items same) i })
-          ∙ (λ i. record there { items = mixed T I ((sym at) i).pool.items; root = ((sym at') i).pool.root }));
+              ∙ (λ i. record there { items = mixed T I ((sym at) i).pool.items; root = ((sym at') i).pool.root }));
           pending = ap (λ (l : Outside). l.pending) at' ∙ sym (ap (λ (l : Outside). l.pending) at);
           root_left = inr (ap (λ (l : Outside). l.pool.root) at', ap (λ (l : Outside). l.pool.root) at);
           fixed = subst (λ (l : Outside). l.pool ≡ record here { items = l.pool.items; root = l.pool.root }) (sym at) refl;

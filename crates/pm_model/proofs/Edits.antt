@@ -77,6 +77,7 @@ pub edited_lines : (B : ℕ → Bool) (first : Items) (e : Edit) (items : Items)
 edited_lines B first e items fits has l x out = by (eqb e.off x) refl where
   here : e.off ≡ x → item_covers e.off (e.change (items e.off)) l ≡ item_covers e.off (first e.off) l
   here same = ⊎_elim (λ (k : KeepsLines e). k l (items e.off) ∙ has l e.off out) (λ (i : InLines B first e). (i l out).1 (items e.off) ∙ sym (i l out).0) fits
+
   by : (b : Bool) → eqb e.off x ≡ b → item_covers x (cond b (e.change (items x)) (items x)) l ≡ item_covers x (first x) l
   by true t = let same : e.off ≡ x = eqb-true e.off x t in subst (λ (y : ℕ). item_covers y (e.change (items y)) l ≡ item_covers y (first y) l) same (here same)
   by false f = has l x out

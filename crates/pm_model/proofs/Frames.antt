@@ -47,10 +47,12 @@ written_touched p x w = ⊎_elim
 parts_within : (p : Parts) → Within (touched_of p) (written_of p) (lines_of p) p
 parts_within p = record {
   locks = each_weaker (IsIn p.locks) (WithinT (touched_of p) (written_of p)) p.locks
-      (λ w is. (or_left (locks_object p w.id.off false) (has_block p w.id.off)
-      (is (λ (want : Want). eqb want.id.off w.id.off && (want.write || not false)) (and_from (eqb w.id.off w.id.off) (w.write || true) (eq-eqb w.id.off w.id.off refl) (or_right w.write true refl))),
-      λ e. or_left (locks_object p w.id.off true) (has_block p w.id.off)
-      (is (λ (want : Want). eqb want.id.off w.id.off && (want.write || not true)) (and_from (eqb w.id.off w.id.off) (w.write || false) (eq-eqb w.id.off w.id.off refl) (or_left w.write false e)))))
+      (λ w is. (
+        or_left (locks_object p w.id.off false) (has_block p w.id.off)
+            (is (λ (want : Want). eqb want.id.off w.id.off && (want.write || not false)) (and_from (eqb w.id.off w.id.off) (w.write || true) (eq-eqb w.id.off w.id.off refl) (or_right w.write true refl))),
+        λ e. or_left (locks_object p w.id.off true) (has_block p w.id.off)
+            (is (λ (want : Want). eqb want.id.off w.id.off && (want.write || not true)) (and_from (eqb w.id.off w.id.off) (w.write || false) (eq-eqb w.id.off w.id.off refl) (or_left w.write false e))),
+      ))
       (each_in p.locks);
   blocks = each_weaker (IsIn p.blocks) (WithinB (written_of p) (lines_of p)) p.blocks
       (λ b is. (or_right (locks_object p b.off true) (has_block p b.off) (is (λ (c : Block). eqb c.off b.off) (eq-eqb b.off b.off refl)), λ l c. is (λ (d : Block). covers d l) c))
@@ -155,31 +157,33 @@ by_transaction run here pending last begins runs parts =
     subst (Within (touched_of p) (written_of p) (lines_of p)) parts (parts_within p) in
     let mine = transaction_there here here.items here.root (touched_of p) (written_of p) (lines_of p) (written_touched p) (λ x t. refl) (λ x t. refl) (λ l x b. refl) run.operations pending last within runs in
     let fits : FitsTx (touched_of p) (written_of p) (lines_of p) here last = mine.2 in
-    let before : last.before ≡ here = mine.3 in
-    (record {
-      fixed = λ i. record (before i) { items = last.items; root = last.before.root };
-      lines = fits.lines;
-      stays = fits.stays;
-      root_stays = λ x out. ap (λ (q : PlainPool). is_root q.root x) before;
-      root_word = λ e. ap (λ (q : PlainPool). q.root) before;
-    },
-    λ s other same is pending_is.
-    let there : PlainPool = record here { items = other.items; root = other.root } in
-    let run_there = transaction_there here other.items other.root (touched_of p) (written_of p) (lines_of p) (written_touched p) same.items same.roots same.lines run.operations pending last within runs in
-    let end : Transaction = record last { before = there; items = mixed (touched_of p) other.items last.items } in
-    let from : idle there pending ≡ idle s.pool (s.pending run.lane) = λ i. idle ((sym same.fixed ∙ sym is) i) (sym pending_is i) in
-    (pool_of end,
-    inl (record {
-      last = end;
-      begins = begins;
-      runs = subst (λ (t : Transaction). Runs t run.operations end) from run_there.0;
-      parts = parts ∙ (sym run_there.1 ∙ ap (λ (t : Transaction). parts_inside t run.operations) from);
-      leaves = refl;
-    }),
-    record {
-      pool = λ i. record (sym same.fixed i) { items = mixed (touched_of p) other.items last.items; root = other.root };
-      root = inr (refl, ap (λ (q : PlainPool). q.root) before);
-    }))
+    let before : last.before ≡ here = mine.3 in (
+      record {
+        fixed = λ i. record (before i) { items = last.items; root = last.before.root };
+        lines = fits.lines;
+        stays = fits.stays;
+        root_stays = λ x out. ap (λ (q : PlainPool). is_root q.root x) before;
+        root_word = λ e. ap (λ (q : PlainPool). q.root) before;
+      },
+      λ s other same is pending_is.
+          let there : PlainPool = record here { items = other.items; root = other.root } in
+          let run_there = transaction_there here other.items other.root (touched_of p) (written_of p) (lines_of p) (written_touched p) same.items same.roots same.lines run.operations pending last within runs in
+          let end : Transaction = record last { before = there; items = mixed (touched_of p) other.items last.items } in
+          let from : idle there pending ≡ idle s.pool (s.pending run.lane) = λ i. idle ((sym same.fixed ∙ sym is) i) (sym pending_is i) in (
+            pool_of end,
+            inl (record {
+              last = end;
+              begins = begins;
+              runs = subst (λ (t : Transaction). Runs t run.operations end) from run_there.0;
+              parts = parts ∙ (sym run_there.1 ∙ ap (λ (t : Transaction). parts_inside t run.operations) from);
+              leaves = refl;
+            }),
+            record {
+              pool = λ i. record (sym same.fixed i) { items = mixed (touched_of p) other.items last.items; root = other.root };
+              root = inr (refl, ap (λ (q : PlainPool). q.root) before);
+            },
+          ),
+    )
 
 with_left : (o : Outside) (left : Pending) → o.pending ≡ left → record { pool = o.pool; pending = left } ≡ o
 with_left o left e = λ i. record o { pending = sym e i }
@@ -192,33 +196,35 @@ by_outside run here pending ran single replies parts =
     let from : Outside = record { pool = here; pending = pending } in
     let within : Within (touched_of p) (written_of p) (lines_of p) (parts_outside from ran) = subst (Within (touched_of p) (written_of p) (lines_of p)) parts (parts_within p) in
     let self : SameAt p here here = same_self p here in
-    let mine = beside here here.items here.root (touched_of p) (written_of p) (lines_of p) (written_touched p) (λ x t. refl) (λ x t. refl) (λ l x b. refl) ran.seen pending ran.operation ran.reply within (λ e. refl) replies in
-    (record {
-      fixed = mine.fixed;
-      lines = mine.lines_left;
-      stays = mine.stays;
-      root_stays = mine.root_stays;
-      root_word = λ e. mine.root_word (sym (ap (λ (q : Parts). q.writes_root) parts) ∙ e);
-    },
-    λ s other same is pending_is.
-    let there : PlainPool = record here { items = other.items; root = other.root } in
-    let away = beside here other.items other.root (touched_of p) (written_of p) (lines_of p) (written_touched p) same.items same.roots same.lines ran.seen pending ran.operation ran.reply within
-    (λ e. same.word (ap (λ (q : Parts). q.writes_root || q.reads_root) parts ∙ e)) replies in
-    let at : Outside = record { pool = there; pending = pending } in
-    let to : at ≡ record { pool = s.pool; pending = s.pending run.lane } = λ i. record { pool = (sym same.fixed ∙ sym is) i; pending = sym pending_is i } in
-    let next : PlainPool = (after_outside ran at).pool in
-    (next,
-    inr (record {
-      ran = ran;
-      single = single;
-      replies = subst (λ (o : Outside). RepliesOutside o ran) to away.replies;
-      parts = parts ∙ (sym away.parts ∙ ap (λ (o : Outside). parts_outside o ran) to);
-      leaves = ap (state_with s run.lane) (with_left (after_outside ran at) (after_outside ran from).pending away.pending ∙ ap (after_outside ran) to);
-    }),
-    record {
-      pool = away.pool ∙ (λ i. record (sym same.fixed i) { items = mixed (touched_of p) other.items (after_outside ran from).pool.items; root = next.root });
-      root = away.root_left;
-    }))
+    let mine = beside here here.items here.root (touched_of p) (written_of p) (lines_of p) (written_touched p) (λ x t. refl) (λ x t. refl) (λ l x b. refl) ran.seen pending ran.operation ran.reply within (λ e. refl) replies in (
+      record {
+        fixed = mine.fixed;
+        lines = mine.lines_left;
+        stays = mine.stays;
+        root_stays = mine.root_stays;
+        root_word = λ e. mine.root_word (sym (ap (λ (q : Parts). q.writes_root) parts) ∙ e);
+      },
+      λ s other same is pending_is.
+          let there : PlainPool = record here { items = other.items; root = other.root } in
+          let away = beside here other.items other.root (touched_of p) (written_of p) (lines_of p) (written_touched p) same.items same.roots same.lines ran.seen pending ran.operation ran.reply within
+          (λ e. same.word (ap (λ (q : Parts). q.writes_root || q.reads_root) parts ∙ e)) replies in
+          let at : Outside = record { pool = there; pending = pending } in
+          let to : at ≡ record { pool = s.pool; pending = s.pending run.lane } = λ i. record { pool = (sym same.fixed ∙ sym is) i; pending = sym pending_is i } in
+          let next : PlainPool = (after_outside ran at).pool in (
+            next,
+            inr (record {
+              ran = ran;
+              single = single;
+              replies = subst (λ (o : Outside). RepliesOutside o ran) to away.replies;
+              parts = parts ∙ (sym away.parts ∙ ap (λ (o : Outside). parts_outside o ran) to);
+              leaves = ap (state_with s run.lane) (with_left (after_outside ran at) (after_outside ran from).pending away.pending ∙ ap (after_outside ran) to);
+            }),
+            record {
+              pool = away.pool ∙ (λ i. record (sym same.fixed i) { items = mixed (touched_of p) other.items (after_outside ran from).pool.items; root = next.root });
+              root = away.root_left;
+            },
+          ),
+    )
 
 record Shown (run : CallRun) (s t : State) : Type 0 where
   pub after : PlainPool
@@ -265,10 +271,13 @@ alike_written run s other after next left keeps at alike (ObjectAt x) w =
 alike_written run s other after next left keeps at alike (LineAt l) w = (λ i. LineIs (λ x. line x i)) where
   T : ℕ → Bool
   T = touched_of run.parts
+
   unwritten : (x : ℕ) → T x ≡ false → written_of run.parts x ≡ false
   unwritten x out = false_from_ne_true (written_of run.parts x) (λ e. false≢true (sym out ∙ written_touched run.parts x e))
+
   there : (x : ℕ) → next.items x ≡ mixed T other.pool.items after.items x
   there x = ap (λ (q : PlainPool). q.items x) alike.pool
+
   line : (x : ℕ) → item_covers x (next.items x) l ≡ item_covers x (after.items x) l
   line x = ⊎_elim
       (λ (t : T x ≡ true). ap (λ (o : Option Item). item_covers x o l) (there x ∙ mixed_in T other.pool.items after.items x t))
@@ -288,9 +297,11 @@ framed run = record {
       let at : Shown run s t = shown run s t step in
       let here : SameAt run.parts s.pool other.pool = same_at run s other same in
       let pending : other.pending run.lane ≡ s.pending run.lane = same_pending (other.pending run.lane) (s.pending run.lane) (same (PendingOf run.lane) (eq-eqb run.lane run.lane refl)) in
-      let end = at.shows.1 other other.pool here refl pending in
-      (state_with other run.lane (record { pool = end.0; pending = at.left }), end.1,
-      λ n w. alike_written run s other at.after end.0 at.left at.shows.0 here end.2 n w ∙ sym (ap (λ (v : State). content v n) at.is));
+      let end = at.shows.1 other other.pool here refl pending in (
+        state_with other run.lane (record { pool = end.0; pending = at.left }),
+        end.1,
+        λ n w. alike_written run s other at.after end.0 at.left at.shows.0 here end.2 n w ∙ sym (ap (λ (v : State). content v n) at.is),
+      );
 }
 
 -- ---- calls that are apart

@@ -149,42 +149,46 @@ less_held T W made locks held =
 more_made : (T W B : ℕ → Bool) → ((x : ℕ) → W x ≡ true → T x ≡ true) → (blocks made : List Block) (locks : List HeldLock) → Each (WithinB W B) blocks → HeldIn T W made locks → HeldIn T W (blocks ++ made) locks
 more_made T W B wt blocks made locks within held =
     (λ x e. by x false e (λ n. wt x (new x n)) (held.0 x), λ x e. by x true e (new x) (held.1 x)) where
-  new : (x : ℕ) → list_any (λ (b : Block). eqb b.off x) blocks ≡ true → W x ≡ true
-  new x = any_from (W x ≡ true) (λ (b : Block). eqb b.off x) blocks
-      (each_weaker (WithinB W B) (λ (b : Block). eqb b.off x ≡ true → W x ≡ true) blocks (λ b w e. ap W (sym (eqb-true b.off x e)) ∙ w.0) within)
-  by : (x : ℕ) (write : Bool) {Q : Type 0} → (list_any (λ (b : Block). eqb b.off x) (blocks ++ made) || is_locked locks x write) ≡ true
-      → (list_any (λ (b : Block). eqb b.off x) blocks ≡ true → Q) → ((list_any (λ (b : Block). eqb b.off x) made || is_locked locks x write) ≡ true → Q) → Q
-  by x write e now old =
-      let q : Block → Bool = λ b. eqb b.off x in
-      ⊎_elim
-      (λ (n : list_any q (blocks ++ made) ≡ true). ⊎_elim now (λ (m : list_any q made ≡ true). old (or_left (list_any q made) (is_locked locks x write) m))
-      (or_cases (list_any q blocks) (list_any q made) (sym (any_append q blocks made) ∙ n)))
-      (λ (l : is_locked locks x write ≡ true). old (or_right (list_any q made) (is_locked locks x write) l))
-      (or_cases (list_any q (blocks ++ made)) (is_locked locks x write) e)
+      new : (x : ℕ) → list_any (λ (b : Block). eqb b.off x) blocks ≡ true → W x ≡ true
+      new x = any_from (W x ≡ true) (λ (b : Block). eqb b.off x) blocks
+          (each_weaker (WithinB W B) (λ (b : Block). eqb b.off x ≡ true → W x ≡ true) blocks (λ b w e. ap W (sym (eqb-true b.off x e)) ∙ w.0) within)
+
+      by : (x : ℕ) (write : Bool) {Q : Type 0} → (list_any (λ (b : Block). eqb b.off x) (blocks ++ made) || is_locked locks x write) ≡ true
+          → (list_any (λ (b : Block). eqb b.off x) blocks ≡ true → Q) → ((list_any (λ (b : Block). eqb b.off x) made || is_locked locks x write) ≡ true → Q) → Q
+      by x write e now old =
+          let q : Block → Bool = λ b. eqb b.off x in
+          ⊎_elim
+          (λ (n : list_any q (blocks ++ made) ≡ true). ⊎_elim now (λ (m : list_any q made ≡ true). old (or_left (list_any q made) (is_locked locks x write) m))
+          (or_cases (list_any q blocks) (list_any q made) (sym (any_append q blocks made) ∙ n)))
+          (λ (l : is_locked locks x write ≡ true). old (or_right (list_any q made) (is_locked locks x write) l))
+          (or_cases (list_any q (blocks ++ made)) (is_locked locks x write) e)
 
 -- with more locks
 more_locks : (T W : ℕ → Bool) (made : List Block) (locks : List HeldLock) (wants : List Want) → Each (WithinT T W) wants → HeldIn T W made locks → HeldIn T W made (all_locked wants locks)
 more_locks T W made locks wants within held =
     (λ x e. by x false e (asked_read x) (held.0 x), λ x e. by x true e (asked_write x) (held.1 x)) where
-  asked_read : (x : ℕ) → list_any (λ (w : Want). eqb w.id.off x && (w.write || not false)) wants ≡ true → T x ≡ true
-  asked_read x = any_from (T x ≡ true) (λ (w : Want). eqb w.id.off x && (w.write || not false)) wants
-      (each_weaker (WithinT T W) (λ (w : Want). (eqb w.id.off x && (w.write || not false)) ≡ true → T x ≡ true) wants
-      (λ w h e. ap T (sym (eqb-true w.id.off x (and_parts (eqb w.id.off x) (w.write || not false) e).0)) ∙ h.0) within)
-  writes_so : (w : Bool) → (w || not true) ≡ true → w ≡ true
-  writes_so true e = refl
-  writes_so false e = absurd (false≢true e)
-  asked_write : (x : ℕ) → list_any (λ (w : Want). eqb w.id.off x && (w.write || not true)) wants ≡ true → W x ≡ true
-  asked_write x = any_from (W x ≡ true) (λ (w : Want). eqb w.id.off x && (w.write || not true)) wants
-      (each_weaker (WithinT T W) (λ (w : Want). (eqb w.id.off x && (w.write || not true)) ≡ true → W x ≡ true) wants
-      (λ w h e. let p = and_parts (eqb w.id.off x) (w.write || not true) e in ap W (sym (eqb-true w.id.off x p.0)) ∙ h.1 (writes_so w.write p.1)) within)
-  by : (x : ℕ) (write : Bool) {Q : Type 0} → (list_any (λ (b : Block). eqb b.off x) made || is_locked (all_locked wants locks) x write) ≡ true
-      → (list_any (λ (w : Want). eqb w.id.off x && (w.write || not write)) wants ≡ true → Q) → ((list_any (λ (b : Block). eqb b.off x) made || is_locked locks x write) ≡ true → Q) → Q
-  by x write e asked old =
-      let new : Bool = list_any (λ (b : Block). eqb b.off x) made in
-      ⊎_elim (λ (n : new ≡ true). old (or_left new (is_locked locks x write) n))
-      (λ (l : is_locked (all_locked wants locks) x write ≡ true). ⊎_elim asked (λ (m : is_locked locks x write ≡ true). old (or_right new (is_locked locks x write) m))
-      (all_locked_from wants locks x write l))
-      (or_cases new (is_locked (all_locked wants locks) x write) e)
+      asked_read : (x : ℕ) → list_any (λ (w : Want). eqb w.id.off x && (w.write || not false)) wants ≡ true → T x ≡ true
+      asked_read x = any_from (T x ≡ true) (λ (w : Want). eqb w.id.off x && (w.write || not false)) wants
+          (each_weaker (WithinT T W) (λ (w : Want). (eqb w.id.off x && (w.write || not false)) ≡ true → T x ≡ true) wants
+          (λ w h e. ap T (sym (eqb-true w.id.off x (and_parts (eqb w.id.off x) (w.write || not false) e).0)) ∙ h.0) within)
+
+      writes_so : (w : Bool) → (w || not true) ≡ true → w ≡ true
+      writes_so true e = refl
+      writes_so false e = absurd (false≢true e)
+
+      asked_write : (x : ℕ) → list_any (λ (w : Want). eqb w.id.off x && (w.write || not true)) wants ≡ true → W x ≡ true
+      asked_write x = any_from (W x ≡ true) (λ (w : Want). eqb w.id.off x && (w.write || not true)) wants
+          (each_weaker (WithinT T W) (λ (w : Want). (eqb w.id.off x && (w.write || not true)) ≡ true → W x ≡ true) wants
+          (λ w h e. let p = and_parts (eqb w.id.off x) (w.write || not true) e in ap W (sym (eqb-true w.id.off x p.0)) ∙ h.1 (writes_so w.write p.1)) within)
+
+      by : (x : ℕ) (write : Bool) {Q : Type 0} → (list_any (λ (b : Block). eqb b.off x) made || is_locked (all_locked wants locks) x write) ≡ true
+          → (list_any (λ (w : Want). eqb w.id.off x && (w.write || not write)) wants ≡ true → Q) → ((list_any (λ (b : Block). eqb b.off x) made || is_locked locks x write) ≡ true → Q) → Q
+      by x write e asked old =
+          let new : Bool = list_any (λ (b : Block). eqb b.off x) made in
+          ⊎_elim (λ (n : new ≡ true). old (or_left new (is_locked locks x write) n))
+          (λ (l : is_locked (all_locked wants locks) x write ≡ true). ⊎_elim asked (λ (m : is_locked locks x write ≡ true). old (or_right new (is_locked locks x write) m))
+          (all_locked_from wants locks x write l))
+          (or_cases new (is_locked (all_locked wants locks) x write) e)
 
 module _ (here : PlainPool) (I : Items) (R : Option ℕ) (T W B : ℕ → Bool)
     (wt : (x : ℕ) → W x ≡ true → T x ≡ true)
@@ -233,27 +237,89 @@ module _ (here : PlainPool) (I : Items) (R : Option ℕ) (T W B : ℕ → Bool)
       (refl, refl, λ a. (refl, refl, λ b. (refl, refl, λ held. (refl, refl, λ c. (refl, range_there tx true id (at + length bytes) fits held, λ d. (refl, refl, λ e. tt))))))
   tests_there seen tx (Read id at len) fits =
       (refl, refl, λ a. (refl, refl, λ b. (refl, refl, λ held. (refl, refl, λ c. (refl, range_there tx false id (at + len) fits held, λ d. tt)))))
-  tests_there seen tx (Increment id at by) fits =
-      (refl, refl, λ a. (refl, refl, λ b. (refl, refl, λ held. (refl, refl, λ c. (refl, range_there tx false id (at + 8) fits held, λ d.
-      (refl, refl, λ e. (refl, refl, λ f. (refl, refl, λ g. (refl, refl, λ h. (refl, range_there tx false id (at + 8) fits held, λ i. (refl, refl, λ j. tt)))))))))))
-  tests_there seen tx (Free id) fits =
-      (refl, refl, λ a. (refl, refl, λ b. (refl, refl, λ held. (refl, refl, λ c. (refl, roots id.off (touches_in tx true id fits held), λ d.
-      (refl, listed_there tx id.off (touches_in tx true id fits held), λ e. (refl, refl, λ f. tt)))))))
-  tests_there seen tx Publish fits =
-      (refl, refl, λ a. (refl, refl, λ b. (refl, refl, λ held.
-      let frees : Each (λ (id : Oid). T id.off ≡ true) tx.pending.frees =
-      each_weaker (λ (id : Oid). is_not_held (mine tx) true id ≡ false) (λ (id : Oid). T id.off ≡ true) tx.pending.frees (λ id e. touches_in tx true id fits e)
-      (none_pass (is_not_held (mine tx) true) tx.pending.frees (or_parts (list_any (is_not_held (mine tx) true) tx.pending.frees) (list_any (λ (a : SetWord). is_not_held (mine tx) true a.id) tx.pending.sets) held).0) in
-      let sets : Each (λ (a : SetWord). T a.id.off ≡ true) tx.pending.sets =
-      each_weaker (λ (a : SetWord). is_not_held (mine tx) true a.id ≡ false) (λ (a : SetWord). T a.id.off ≡ true) tx.pending.sets (λ a e. touches_in tx true a.id fits e)
-      (none_pass (λ (a : SetWord). is_not_held (mine tx) true a.id) tx.pending.sets (or_parts (list_any (is_not_held (mine tx) true) tx.pending.frees) (list_any (λ (a : SetWord). is_not_held (mine tx) true a.id) tx.pending.sets) held).1) in
-      (refl, refl, λ c. (refl, same_any (λ (id : Oid). is_root R id.off) (λ (id : Oid). is_root here.root id.off) tx.pending.frees
-      (each_weaker (λ (id : Oid). T id.off ≡ true) (λ (id : Oid). is_root R id.off ≡ is_root here.root id.off) tx.pending.frees (λ id t. roots id.off t) frees), λ d.
-      (refl, same_any (λ (id : Oid). is_listed (mixed T I tx.items) id.off) (λ (id : Oid). is_listed tx.items id.off) tx.pending.frees
-      (each_weaker (λ (id : Oid). T id.off ≡ true) (λ (id : Oid). is_listed (mixed T I tx.items) id.off ≡ is_listed tx.items id.off) tx.pending.frees (λ id t. listed_there tx id.off t) frees), λ e.
-      (refl, same_any (passes_object (mixed T I tx.items)) (passes_object tx.items) tx.pending.sets
-      (each_weaker (λ (a : SetWord). T a.id.off ≡ true) (λ (a : SetWord). passes_object (mixed T I tx.items) a ≡ passes_object tx.items a) tx.pending.sets
-      (λ a t. ap (λ (o : Option Item). ltb (size_as o) (a.off + 8)) (item_there tx a.id.off t)) sets), λ f. (refl, refl, λ g. tt))))))))
+  tests_there seen tx (Increment id at by) fits = (
+    refl,
+    refl,
+    λ a. (
+      refl,
+      refl,
+      λ b. (
+        refl,
+        refl,
+        λ held. (
+          refl,
+          refl,
+          λ c. (
+            refl,
+            range_there tx false id (at + 8) fits held,
+            λ d.
+                (refl, refl, λ e. (refl, refl, λ f. (refl, refl, λ g. (refl, refl, λ h. (refl, range_there tx false id (at + 8) fits held, λ i. (refl, refl, λ j. tt)))))),
+          ),
+        ),
+      ),
+    ),
+  )
+  tests_there seen tx (Free id) fits = (
+    refl,
+    refl,
+    λ a. (
+      refl,
+      refl,
+      λ b. (
+        refl,
+        refl,
+        λ held. (
+          refl,
+          refl,
+          λ c. (
+            refl,
+            roots id.off (touches_in tx true id fits held),
+            λ d.
+                (refl, listed_there tx id.off (touches_in tx true id fits held), λ e. (refl, refl, λ f. tt)),
+          ),
+        ),
+      ),
+    ),
+  )
+  tests_there seen tx Publish fits = (
+    refl,
+    refl,
+    λ a. (
+      refl,
+      refl,
+      λ b. (
+        refl,
+        refl,
+        λ held.
+            let frees : Each (λ (id : Oid). T id.off ≡ true) tx.pending.frees =
+            each_weaker (λ (id : Oid). is_not_held (mine tx) true id ≡ false) (λ (id : Oid). T id.off ≡ true) tx.pending.frees (λ id e. touches_in tx true id fits e)
+            (none_pass (is_not_held (mine tx) true) tx.pending.frees (or_parts (list_any (is_not_held (mine tx) true) tx.pending.frees) (list_any (λ (a : SetWord). is_not_held (mine tx) true a.id) tx.pending.sets) held).0) in
+            let sets : Each (λ (a : SetWord). T a.id.off ≡ true) tx.pending.sets =
+            each_weaker (λ (a : SetWord). is_not_held (mine tx) true a.id ≡ false) (λ (a : SetWord). T a.id.off ≡ true) tx.pending.sets (λ a e. touches_in tx true a.id fits e)
+            (none_pass (λ (a : SetWord). is_not_held (mine tx) true a.id) tx.pending.sets (or_parts (list_any (is_not_held (mine tx) true) tx.pending.frees) (list_any (λ (a : SetWord). is_not_held (mine tx) true a.id) tx.pending.sets) held).1) in (
+              refl,
+              refl,
+              λ c. (
+                refl,
+                same_any (λ (id : Oid). is_root R id.off) (λ (id : Oid). is_root here.root id.off) tx.pending.frees
+                    (each_weaker (λ (id : Oid). T id.off ≡ true) (λ (id : Oid). is_root R id.off ≡ is_root here.root id.off) tx.pending.frees (λ id t. roots id.off t) frees),
+                λ d. (
+                  refl,
+                  same_any (λ (id : Oid). is_listed (mixed T I tx.items) id.off) (λ (id : Oid). is_listed tx.items id.off) tx.pending.frees
+                      (each_weaker (λ (id : Oid). T id.off ≡ true) (λ (id : Oid). is_listed (mixed T I tx.items) id.off ≡ is_listed tx.items id.off) tx.pending.frees (λ id t. listed_there tx id.off t) frees),
+                  λ e. (
+                    refl,
+                    same_any (passes_object (mixed T I tx.items)) (passes_object tx.items) tx.pending.sets
+                        (each_weaker (λ (a : SetWord). T a.id.off ≡ true) (λ (a : SetWord). passes_object (mixed T I tx.items) a ≡ passes_object tx.items a) tx.pending.sets
+                        (λ a t. ap (λ (o : Option Item). ltb (size_as o) (a.off + 8)) (item_there tx a.id.off t)) sets),
+                    λ f. (refl, refl, λ g. tt),
+                  ),
+                ),
+              ),
+            ),
+      ),
+    ),
+  )
   tests_there seen tx op fits = same_tests (tests seen (mine tx) op)
 
   refusal_there : (seen : Seen) (tx : Transaction) (op : Operation) → FitsHere tx → refusal_of seen (over tx) op ≡ refusal_of seen (mine tx) op
@@ -266,19 +332,21 @@ module _ (here : PlainPool) (I : Items) (R : Option ℕ) (T W B : ℕ → Bool)
 
   publish_held : (seen : Seen) (tx : Transaction) → FitsHere tx → NoneApplies (tests seen (mine tx) Publish) → PublishHeld tx
   publish_held seen tx fits none =
-      let p = or_parts (list_any (is_not_held (mine tx) true) tx.pending.frees) (list_any (λ (a : SetWord). is_not_held (mine tx) true a.id) tx.pending.sets) none.1.1.0 in
-      (each_weaker (λ (id : Oid). is_not_held (mine tx) true id ≡ false) (λ (id : Oid). W id.off ≡ true) tx.pending.frees (λ id e. writes_in tx id fits e)
-      (none_pass (is_not_held (mine tx) true) tx.pending.frees p.0),
-      each_weaker (λ (a : SetWord). is_not_held (mine tx) true a.id ≡ false) (λ (a : SetWord). W a.id.off ≡ true) tx.pending.sets (λ a e. writes_in tx a.id fits e)
-      (none_pass (λ (a : SetWord). is_not_held (mine tx) true a.id) tx.pending.sets p.1))
+      let p = or_parts (list_any (is_not_held (mine tx) true) tx.pending.frees) (list_any (λ (a : SetWord). is_not_held (mine tx) true a.id) tx.pending.sets) none.1.1.0 in (
+        each_weaker (λ (id : Oid). is_not_held (mine tx) true id ≡ false) (λ (id : Oid). W id.off ≡ true) tx.pending.frees (λ id e. writes_in tx id fits e)
+            (none_pass (is_not_held (mine tx) true) tx.pending.frees p.0),
+        each_weaker (λ (a : SetWord). is_not_held (mine tx) true a.id ≡ false) (λ (a : SetWord). W a.id.off ≡ true) tx.pending.sets (λ a e. writes_in tx a.id fits e)
+            (none_pass (λ (a : SetWord). is_not_held (mine tx) true a.id) tx.pending.sets p.1),
+      )
 
   -- the blocks that a publish makes are of its part
   publish_blocks : (kept : Bool) (tx : Transaction) → Within T W B (part_by (mine tx) Publish kept None)
       → Each (WithinB W B) (blocks_reserved tx.pending) × Each (λ (id : Oid). Each (WithinB W B) (blocks_at tx.items id.off)) tx.pending.frees
   publish_blocks kept tx within =
-      let freed : Oid → List Block = λ id. blocks_at tx.items id.off in
-      (each_left (WithinB W B) (blocks_reserved tx.pending) (flat_map freed tx.pending.frees) within.blocks,
-      each_flat (WithinB W B) freed tx.pending.frees (each_right (WithinB W B) (blocks_reserved tx.pending) (flat_map freed tx.pending.frees) within.blocks))
+      let freed : Oid → List Block = λ id. blocks_at tx.items id.off in (
+        each_left (WithinB W B) (blocks_reserved tx.pending) (flat_map freed tx.pending.frees) within.blocks,
+        each_flat (WithinB W B) freed tx.pending.frees (each_right (WithinB W B) (blocks_reserved tx.pending) (flat_map freed tx.pending.frees) within.blocks),
+      )
 
   -- its changes are among W
   publish_inside : (kept : Bool) (tx : Transaction) → PublishHeld tx → Within T W B (part_by (mine tx) Publish kept None) → Inside W (block_edits tx.pending)
@@ -377,9 +445,11 @@ module _ (here : PlainPool) (I : Items) (R : Option ℕ) (T W B : ℕ → Bool)
   fits_ended tx fits = by (leb tx.level 1) where
     edits : Inside W (set_edits tx.sets)
     edits = sets_inside tx.sets fits.published
+
     keep : Each (FitsLines B here.items) (set_edits tx.sets)
     keep = each_map (FitsLines B here.items) set_edit tx.sets (each_weaker (λ (a : SetWord). W a.id.off ≡ true) (λ (a : SetWord). FitsLines B here.items (set_edit a)) tx.sets
         (λ a w. inl (put_keeps_lines a.id.off a.off (number_bytes a.value))) fits.published)
+
     by : (b : Bool) → FitsHere (cond b (record (idle here tx.pending) { items = all_edited (set_edits tx.sets) tx.items })
         (record (committed (mine tx)) { level = tx.level - 1; stage = cond (is_none tx.error) Rattle.pm_model.specs.declared.stage.Stage.TheVariants.Work Rattle.pm_model.specs.declared.stage.Stage.TheVariants.OnAbort }))
     by true = record {
@@ -393,11 +463,13 @@ module _ (here : PlainPool) (I : Items) (R : Option ℕ) (T W B : ℕ → Bool)
   -- a new object has lines of its block alone, and nothing stood at its offset
   pub new_lines : (off size : ℕ) (item : Item) → length item.bytes ≡ size → IsFree here.items [] (record { off = off; size = size }) → WithinB W B (record { off = off; size = size })
       → InLines B here.items (made_item off item)
-  new_lines off size item long free within l out =
-      (free_first (here.items off) refl,
-      λ o. ap (λ (n : ℕ). covers (record { off = off; size = n }) l) long ∙ false_from_ne_true (covers (record { off = off; size = size }) l) (λ c. false≢true (sym out ∙ within.1 l c))) where
+  new_lines off size item long free within l out = (
+    free_first (here.items off) refl,
+    λ o. ap (λ (n : ℕ). covers (record { off = off; size = n }) l) long ∙ false_from_ne_true (covers (record { off = off; size = size }) l) (λ c. false≢true (sym out ∙ within.1 l c)),
+  ) where
     b : Block
     b = record { off = off; size = size }
+
     free_first : (o : Option Item) → here.items off ≡ o → item_covers off (here.items off) l ≡ false
     free_first None is = ap (λ (x : Option Item). item_covers off x l) is
     free_first (Some i) is =
@@ -564,19 +636,21 @@ module _ (here : PlainPool) (I : Items) (R : Option ℕ) (T W B : ℕ → Bool)
   step_mine : (tx : Transaction) (ran : Ran) (kept : Bool) → FitsHere tx → Within T W B (part_of (mine tx) ran kept) → Replies (mine tx) ran kept → StepThere (mine tx) ran kept
   step_mine tx ran kept fits within replies =
       by (refusal_of ran.seen (mine tx) ran.operation) (refusal_of ran.seen (over tx) ran.operation) refl (refusal_there ran.seen tx ran.operation fits) replies.reply refl where
-    by : (one other : Option Refusal) → refusal_of ran.seen (mine tx) ran.operation ≡ one → other ≡ one → MatchOption one (IsDone (mine tx) ran.operation kept ran.reply) (λ r. IsRefused r ran.reply)
-        → refusal_of ran.seen (over tx) ran.operation ≡ other → StepThere (mine tx) ran kept
-    by None other is same_one done at =
-        let none : NoneApplies (tests ran.seen (mine tx) ran.operation) = none_applies (tests ran.seen (mine tx) ran.operation) is in
-        (record { inside = replies.inside; reply = subst (λ (o : Option Refusal). MatchOption o (IsDone (over tx) ran.operation kept ran.reply) (λ r. IsRefused r ran.reply)) (sym (at ∙ same_one)) (done_there ran.seen ran.operation kept ran.reply tx fits none done within) },
-        left_there ran.seen ran.operation kept ran.reply tx fits none done.value within,
-        fits_left ran.seen ran.operation kept ran.reply tx fits none done within,
-        part_there ran.seen ran.operation kept ran.reply tx fits none done.value)
-    by (Some r) other is same_one refused at =
-        (record { inside = replies.inside; reply = subst (λ (o : Option Refusal). MatchOption o (IsDone (over tx) ran.operation kept ran.reply) (λ s. IsRefused s ran.reply)) (sym (at ∙ same_one)) refused },
-        left_by ran.operation tx ran.reply (Some (Refused r)) refused.replied (refused_there ran.operation r tx),
-        fits_by ran.operation tx ran.reply (Some (Refused r)) refused.replied (fits_refused ran.operation r tx fits),
-        subst (λ (v : Option Value). part_by (over tx) ran.operation kept v ≡ part_by (mine tx) ran.operation kept v) (sym refused.replied) refl)
+        by : (one other : Option Refusal) → refusal_of ran.seen (mine tx) ran.operation ≡ one → other ≡ one → MatchOption one (IsDone (mine tx) ran.operation kept ran.reply) (λ r. IsRefused r ran.reply)
+            → refusal_of ran.seen (over tx) ran.operation ≡ other → StepThere (mine tx) ran kept
+        by None other is same_one done at =
+            let none : NoneApplies (tests ran.seen (mine tx) ran.operation) = none_applies (tests ran.seen (mine tx) ran.operation) is in (
+              record { inside = replies.inside; reply = subst (λ (o : Option Refusal). MatchOption o (IsDone (over tx) ran.operation kept ran.reply) (λ r. IsRefused r ran.reply)) (sym (at ∙ same_one)) (done_there ran.seen ran.operation kept ran.reply tx fits none done within) },
+              left_there ran.seen ran.operation kept ran.reply tx fits none done.value within,
+              fits_left ran.seen ran.operation kept ran.reply tx fits none done within,
+              part_there ran.seen ran.operation kept ran.reply tx fits none done.value,
+            )
+        by (Some r) other is same_one refused at = (
+          record { inside = replies.inside; reply = subst (λ (o : Option Refusal). MatchOption o (IsDone (over tx) ran.operation kept ran.reply) (λ s. IsRefused s ran.reply)) (sym (at ∙ same_one)) refused },
+          left_by ran.operation tx ran.reply (Some (Refused r)) refused.replied (refused_there ran.operation r tx),
+          fits_by ran.operation tx ran.reply (Some (Refused r)) refused.replied (fits_refused ran.operation r tx fits),
+          subst (λ (v : Option Value). part_by (over tx) ran.operation kept v ≡ part_by (mine tx) ran.operation kept v) (sym refused.replied) refl,
+        )
 
   step_there : (tx : Transaction) (ran : Ran) (kept : Bool) → tx.before ≡ here → FitsHere tx → Within T W B (part_of tx ran kept) → Replies tx ran kept → StepThere tx ran kept
   step_there tx ran kept is =
@@ -595,10 +669,12 @@ module _ (here : PlainPool) (I : Items) (R : Option ℕ) (T W B : ℕ → Bool)
       let first : Within T W B (part_of tx ran kept) = within_first T W B (part_of tx ran kept) (parts_inside (after ran tx) rest) within in
       let later : Within T W B (parts_inside (after ran tx) rest) = within_rest T W B (part_of tx ran kept) (parts_inside (after ran tx) rest) within in
       let step : StepThere tx ran kept = step_there tx ran kept is fits first runs.1 in
-      let next : RunThere (after ran tx) rest last = run_there rest (after ran tx) last (before_after ran.operation ran.reply tx ∙ is) step.2 later runs.2 in
-      ((runs.0, step.0, subst (λ (t : Transaction). RunsOn t rest (over last)) (sym step.1) next.0),
-      (λ i. joined (step.3 i) ((ap (λ (t : Transaction). parts_inside t rest) step.1 ∙ next.1) i)),
-      next.2, next.3)
+      let next : RunThere (after ran tx) rest last = run_there rest (after ran tx) last (before_after ran.operation ran.reply tx ∙ is) step.2 later runs.2 in (
+        (runs.0, step.0, subst (λ (t : Transaction). RunsOn t rest (over last)) (sym step.1) next.0),
+        (λ i. joined (step.3 i) ((ap (λ (t : Transaction). parts_inside t rest) step.1 ∙ next.1) i)),
+        next.2,
+        next.3,
+      )
 
   pub transaction_there : (operations : List Ran) (pending : Pending) (last : Transaction) → Within T W B (parts_inside (idle here pending) operations) → Runs (idle here pending) operations last
       → Runs (idle there pending) operations (over last) × (parts_inside (idle there pending) operations ≡ parts_inside (idle here pending) operations) × FitsHere last × (last.before ≡ here)
@@ -615,7 +691,9 @@ module _ (here : PlainPool) (I : Items) (R : Option ℕ) (T W B : ℕ → Bool)
       let next : RunThere (after ran tx) rest last = run_there rest (after ran tx) last (before_after ran.operation ran.reply tx) step.2 later runs.1 in
       let replies : Replies (idle there pending) ran kept = subst (λ (t : Transaction). Replies t ran kept) start step.0 in
       let left : after ran (idle there pending) ≡ over (after ran tx) = ap (after ran) (sym start) ∙ step.1 in
-      let part : part_of (idle there pending) ran kept ≡ part_of tx ran kept = ap (λ (t : Transaction). part_of t ran kept) (sym start) ∙ step.3 in
-      ((replies, subst (λ (t : Transaction). RunsOn t rest (over last)) (sym left) next.0),
-      (λ i. joined (part i) ((ap (λ (t : Transaction). parts_inside t rest) left ∙ next.1) i)),
-      next.2, next.3)
+      let part : part_of (idle there pending) ran kept ≡ part_of tx ran kept = ap (λ (t : Transaction). part_of t ran kept) (sym start) ∙ step.3 in (
+        (replies, subst (λ (t : Transaction). RunsOn t rest (over last)) (sym left) next.0),
+        (λ i. joined (part i) ((ap (λ (t : Transaction). parts_inside t rest) left ∙ next.1) i)),
+        next.2,
+        next.3,
+      )

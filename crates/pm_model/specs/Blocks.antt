@@ -7,7 +7,8 @@ use Rattle.pm_objects.specs.Pool.{block_lines}
 use Rattle.pm_model.specs.Items.{Item, Items, PlainPool}
 use Rattle.pm_model.specs.Places.{CanHold}
 
--- the block of an object: it begins one line before the object's offset, and its size says how many lines it has
+-- the block of an object: it begins one line before the object's offset, and its size says how
+-- many lines it has
 pub record Block : Type 0 where
   pub off : ℕ
   pub size : ℕ
@@ -21,14 +22,16 @@ covers b l = nat_le (first_line b) l && nat_lt l (first_line b + block_lines (cl
 
 -- it is one of the block of what stands at the offset, if anything does
 abbrev pub item_covers : ℕ → Option Item → ℕ → Bool
-item_covers off item l = option_map_or (λ (i : Item). covers (record { off = off; size = length i.bytes }) l) item false
+item_covers off item l =
+    option_map_or (λ (i : Item). covers (record { off = off; size = length i.bytes }) l) item false
 
 abbrev pub are_covered : List Block → ℕ → Bool
 are_covered blocks l = list_any (λ (b : Block). covers b l) blocks
 
 -- the block of what stands at an offset, none where nothing does
 abbrev pub blocks_at : Items → ℕ → List Block
-blocks_at items off = option_map_or (λ (i : Item). record { off = off; size = length i.bytes } ∷ []) (items off) []
+blocks_at items off =
+    option_map_or (λ (i : Item). record { off = off; size = length i.bytes } ∷ []) (items off) []
 
 -- no line of the block is one of an object's, nor of these blocks
 pub record IsFree (items : Items) (taken : List Block) (b : Block) : Type 0 where

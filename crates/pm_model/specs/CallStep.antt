@@ -25,7 +25,8 @@ with_pending pending lane p k = if k == lane then p else pending k
 -- the transaction goes on with these operations to its end, where it is committed or aborted
 unfoldable pub RunsOn : Transaction → List Ran → Transaction → Type 0
 RunsOn tx [] last = (is_working tx.stage ≡ false) × (last ≡ tx)
-RunsOn tx (ran ∷ rest) last = (is_working tx.stage ≡ true) × Replies tx ran (is_kept rest) × RunsOn (after ran tx) rest last
+RunsOn tx (ran ∷ rest) last =
+    (is_working tx.stage ≡ true) × Replies tx ran (is_kept rest) × RunsOn (after ran tx) rest last
 
 -- a transaction of these operations leads from an idle lane to this end
 unfoldable pub Runs : Transaction → List Ran → Transaction → Type 0
@@ -39,7 +40,8 @@ is_transaction (ran ∷ rest) = is_begin ran.operation
 
 -- the state with what a call of the lane leaves
 abbrev pub state_with : State → ℕ → Outside → State
-state_with s lane left = record { pool = left.pool; pending = with_pending s.pending lane left.pending }
+state_with s lane left =
+    record { pool = left.pool; pending = with_pending s.pending lane left.pending }
 
 -- the call is a transaction, which turns one state into the other
 pub record TransactionStep (s : State) (run : CallRun) (next : State) : Type 0 where

@@ -38,19 +38,26 @@ is_answered f = true
 abbrev pub without_lost : List Entry → List Entry
 without_lost entries = filter (λ (entry : Entry). not (is_lost entry.fate)) entries
 
--- the entries have the numbers 1, 2 and so on, each once, and a lane's later entries come only after an answered one
+-- the entries have the numbers 1, 2 and so on, each once, and a lane's later entries come only
+-- after an answered one
 pub record IsHistory (entries : List Entry) : Type 0 where
-  pub numbered : (k : ℕ) (d : Entry) → k < length entries → (slice_index_or entries k d).number ≡ k + 1
-  pub answered : (j k : ℕ) (d : Entry) → j < k → k < length entries → (slice_index_or entries j d).call.lane ≡ (slice_index_or entries k d).call.lane
+  pub numbered : (k : ℕ) (d : Entry) → k < length entries
+      → (slice_index_or entries k d).number ≡ k + 1
+  pub answered : (j k : ℕ) (d : Entry) → j < k → k < length entries
+      → (slice_index_or entries j d).call.lane ≡ (slice_index_or entries k d).call.lane
       → IsTrue (is_answered (slice_index_or entries j d).fate)
 
--- why an entry may answer that no object stands at an offset: after the entries up to some number, those lost left out, none stood there. The
--- number is not below that of the lane's last entry before
-pub record IsMissedBefore (pool : PoolView) (entries : List Entry) (entry : Entry) (off : ℕ) : Type 0 where
+-- why an entry may answer that no object stands at an offset: after the entries up to some
+-- number, those lost left out, none stood there. The number is not below that of the lane's last
+-- entry before
+pub record IsMissedBefore (pool : PoolView) (entries : List Entry) (entry : Entry)
+    (off : ℕ) : Type 0 where
   pub number : ℕ
   pub earlier : number < entry.number
-  pub since : (k : ℕ) (d : Entry) → k < length entries → (slice_index_or entries k d).call.lane ≡ entry.call.lane
-      → (slice_index_or entries k d).number < entry.number → (slice_index_or entries k d).number ≤ number
+  pub since : (k : ℕ) (d : Entry) → k < length entries
+      → (slice_index_or entries k d).call.lane ≡ entry.call.lane
+      → (slice_index_or entries k d).number < entry.number
+      → (slice_index_or entries k d).number ≤ number
   pub then_pool : PoolView
   pub replays : ReplaysEntries pool (without_lost (take number entries)) then_pool
   pub none : object_at then_pool.objects off ≡ None

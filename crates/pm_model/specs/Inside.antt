@@ -11,11 +11,12 @@ use Rattle.pm_objects.specs.declared.refusal.Refusal.{Refusal}
 use Rattle.pm_objects.specs.declared.refusal.Refusal.TheVariants as refusal
 use Rattle.pm_model.specs.Items.{bytes_at, bytes_of, new_item, number_at, number_bytes}
 use Rattle.pm_model.specs.Blocks.{AreAllFree, Block, CanBeIn, IsFree}
-use Rattle.pm_model.specs.Pending.{Pending, Reservation, blocks_reserved, none_pending, with_free, with_put, with_reservation, with_set}
+use Rattle.pm_model.specs.Pending.{blocks_reserved, new_reservation, none_pending, with_free, with_put, with_reservation, with_set}
 use Rattle.pm_model.specs.Transaction.{Transaction, aborted, allocated, begun, committed, ended, freed_at, published, with_locks, with_range, written}
 use Rattle.pm_model.specs.Refusals.{Seen, is_first_lock, refusal_of}
 
--- an operation as it ran: what the lane saw, and the reply, a refusal among them. None where it is just done
+-- an operation as it ran: what the lane saw, and the reply, a refusal among them. None where it
+-- is just done
 pub record Ran : Type 0 where
   pub operation : Operation
   pub seen : Seen
@@ -69,8 +70,9 @@ value_of tx (Read id at len) = Some (Bytes (bytes_at at len (bytes_of tx.items i
 value_of tx (Increment id at by) = Some (Number (incremented tx id.off at by))
 value_of tx op = None
 
--- the blocks that a new object may not overlap, beside those of the pool as the call began: of the objects that the
--- transaction made, and of what is reserved. Each block of the copy is one of all these
+-- the blocks that a new object may not overlap, beside those of the pool as the call began: of
+-- the objects that the transaction made, and of what is reserved. Each block of the copy is one
+-- of all these
 abbrev pub taken_by : Transaction → List Block
 taken_by tx = tx.made ++ blocks_reserved tx.pending
 
@@ -81,7 +83,8 @@ IsPlaced tx false b = CanBeIn tx.before b
 
 -- the reply is the offset of a new object of this size
 abbrev pub IsOffset : Transaction → Bool → ℕ → Option Value → Type 0
-IsOffset tx kept size reply = (off : ℕ) × IsPlaced tx kept (record { off = off; size = size }) × (reply ≡ Some (Offset off))
+IsOffset tx kept size reply = (off : ℕ) × IsPlaced tx kept (record { off = off; size = size })
+    × (reply ≡ Some (Offset off))
 
 -- A reservation that the call itself cancels may have any place of its class
 abbrev pub IsReply : Transaction → Operation → Bool → Option Value → Type 0
@@ -91,7 +94,8 @@ IsReply tx op kept reply = reply ≡ value_of tx op
 
 -- each object of which a first lock is taken is there
 abbrev pub AreThere : Transaction → List Want → Type 0
-AreThere tx wants = All (λ (want : Want). is_first_lock tx want ≡ true → IsSome (tx.items want.id.off)) wants
+AreThere tx wants =
+    All (λ (want : Want). is_first_lock tx want ≡ true → IsSome (tx.items want.id.off)) wants
 
 -- what is reserved is still free where it is published
 abbrev pub MayBePublished : Transaction → Operation → Type 0
@@ -99,7 +103,8 @@ MayBePublished tx Publish = AreAllFree tx.before.items tx.made (blocks_reserved 
 MayBePublished tx op = Unit {0}
 
 -- the operation is done
-pub record IsDone (tx : Transaction) (op : Operation) (kept : Bool) (reply : Option Value) : Type 0 where
+pub record IsDone (tx : Transaction) (op : Operation) (kept : Bool)
+    (reply : Option Value) : Type 0 where
   pub there : AreThere tx (wants_of op)
   pub publishes : MayBePublished tx op
   pub value : IsReply tx op kept reply
@@ -118,11 +123,13 @@ pub record IsRefused (r : Refusal) (reply : Option Value) : Type 0 where
   pub traced : is_untraced r ≡ false
   pub replied : reply ≡ Some (Refused r)
 
--- What an operation of a call replies: it is done, or has the first refusal that applies. What other lanes do is not known
--- here, so a lock may be busy, an object not found and no block free whatever the pool is
+-- What an operation of a call replies: it is done, or has the first refusal that applies. What
+-- other lanes do is not known here, so a lock may be busy, an object not found and no block free
+-- whatever the pool is
 pub record Replies (tx : Transaction) (ran : Ran) (kept : Bool) : Type 0 where
   pub inside : is_inside ran.operation ≡ true
-  pub reply : MatchOption (refusal_of ran.seen tx ran.operation) (IsDone tx ran.operation kept ran.reply) (λ r. IsRefused r ran.reply)
+  pub reply : MatchOption (refusal_of ran.seen tx ran.operation)
+      (IsDone tx ran.operation kept ran.reply) (λ r. IsRefused r ran.reply)
 
 -- ---- what it leaves
 
@@ -136,14 +143,17 @@ performed (Begin wants) tx = begun wants tx
 performed (Lock want) tx = with_locks (want ∷ []) tx
 performed (AddRange id at len) tx = with_range id.off at len tx
 performed (Write id at bytes) tx = written id.off at bytes tx
-performed (Increment id at by) tx = written id.off at (number_bytes (incremented tx id.off at by)) tx
+performed (Increment id at by) tx =
+    written id.off at (number_bytes (incremented tx id.off at by)) tx
 performed (Free id) tx = freed_at id.off tx
 performed Publish tx = published tx
 performed Commit tx = ended (committed tx)
 performed (Abort errnum) tx = aborted (error_for errnum) tx
-performed (WriteReserved id at bytes) tx = record tx { pending = with_put id.off at bytes tx.pending }
+performed (WriteReserved id at bytes) tx =
+    record tx { pending = with_put id.off at bytes tx.pending }
 performed (DeferFree id) tx = record tx { pending = with_free id tx.pending }
-performed (SetValue id at value) tx = record tx { pending = with_set (record { id = id; off = at; value = value }) tx.pending }
+performed (SetValue id at value) tx =
+    record tx { pending = with_set (record { id = id; off = at; value = value }) tx.pending }
 performed Cancel tx = record tx { pending = none_pending }
 performed op tx = tx
 
@@ -155,7 +165,7 @@ abbrev pub after_reply : Operation → Option Value → Transaction → Transact
 after_reply op (Some (Refused r)) tx = refused op r tx
 after_reply (Alloc size kind) (Some (Offset off)) tx = allocated off (new_item kind size None) tx
 after_reply (Reserve size kind) (Some (Offset off)) tx =
-    record tx { pending = with_reservation (record { off = off; kind = kind; bytes = (new_item kind size None).bytes }) tx.pending }
+    record tx { pending = with_reservation (new_reservation off kind size) tx.pending }
 after_reply op reply tx = performed op tx
 
 abbrev pub after : Ran → Transaction → Transaction

@@ -1,4 +1,5 @@
--- The objects of a plain pool: a map from offsets. An item is an object with the list that it is in.
+-- The objects of a plain pool: a map from offsets. An item is an object with the list that it is
+-- in.
 use Rattle.std.specs.Prelude.{◌≡◌, ℕ, ◌+◌, ◌-◌, ◌*◌, ◌/◌, ◌%◌, ◌^◌, ◌==◌, Bool, true, false, if◌then◌else◌, List, [], ◌∷◌, ◌++◌, length, take, drop, map, find, replicate, Option, None, Some}
 use Rattle.std.specs.List.{list_any, range_with_len}
 use Rattle.std.specs.Option.{option_map, option_map_or}
@@ -35,17 +36,26 @@ is_among numbers n = list_any (λ other. other == n) numbers
 
 -- the head whose list has the object at the offset as a member
 abbrev pub head_of : Objects → ℕ → Option ℕ
-head_of objects off = option_map (λ entry. entry.0) (find (λ entry. is_among entry.1.members off) objects)
+head_of objects off =
+    option_map (λ entry. entry.0) (find (λ entry. is_among entry.1.members off) objects)
 
 abbrev pub item_of : Option ℕ → Object → Item
-item_of head object = record { kind = object.kind; bytes = object.bytes; members = object.members; list = head }
+item_of head object =
+    record { kind = object.kind; bytes = object.bytes; members = object.members; list = head }
 
 abbrev pub items_of : Objects → Items
 items_of objects off = option_map (item_of (head_of objects off)) (object_at objects off)
 
 abbrev pub plain_pool : PoolView → PlainPool
 plain_pool pool =
-    record { id = pool.id; name = pool.name; lanes = pool.lanes; zones = pool.zones; items = items_of pool.objects; root = pool.root }
+    record {
+      id = pool.id;
+      name = pool.name;
+      lanes = pool.lanes;
+      zones = pool.zones;
+      items = items_of pool.objects;
+      root = pool.root;
+    }
 
 -- ---- what is read of them
 
@@ -114,20 +124,31 @@ freed_item off = record { off = off; change = λ old. None }
 
 -- bytes are put into it
 abbrev pub put_into : ℕ → ℕ → List ℕ → Edit
-put_into off at new = record { off = off; change = option_map (λ (i : Item). record i { bytes = put_bytes at new i.bytes }) }
+put_into off at new = record {
+  off = off;
+  change = option_map (λ (i : Item). record i { bytes = put_bytes at new i.bytes });
+}
 
 -- its list has these members, or it is a member of this head's list
 abbrev pub with_members : ℕ → List ℕ → Edit
-with_members off members = record { off = off; change = option_map (λ (i : Item). record i { members = members }) }
+with_members off members =
+    record { off = off; change = option_map (λ (i : Item). record i { members = members }) }
 
 abbrev pub in_list : ℕ → Option ℕ → Edit
-in_list off head = record { off = off; change = option_map (λ (i : Item). record i { list = head }) }
+in_list off head =
+    record { off = off; change = option_map (λ (i : Item). record i { list = head }) }
 
 -- a new object: of zeros, without members
 abbrev pub new_item : ℕ → ℕ → Option ℕ → Item
-new_item kind size head = record { kind = kind; bytes = replicate size 0; members = []; list = head }
+new_item kind size head =
+    record { kind = kind; bytes = replicate size 0; members = []; list = head }
 
 -- a copy of some bytes in another size: cut off, or with zeros at the end
 abbrev pub resized_item : ℕ → ℕ → List ℕ → Item
 resized_item kind size bytes =
-    record { kind = kind; bytes = take size bytes ++ replicate (size - length bytes) 0; members = []; list = None }
+    record {
+      kind = kind;
+      bytes = take size bytes ++ replicate (size - length bytes) 0;
+      members = [];
+      list = None;
+    }

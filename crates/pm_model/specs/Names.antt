@@ -38,13 +38,15 @@ content s (PendingOf lane) = PendingIs (s.pending lane)
 
 -- the call locks the object at the offset, for writing if so asked
 abbrev pub locks_object : Parts → ℕ → Bool → Bool
-locks_object p off write = list_any (λ (want : Want). want.id.off == off && (want.write || not write)) p.locks
+locks_object p off write =
+    list_any (λ (want : Want). want.id.off == off && (want.write || not write)) p.locks
 
 -- a block of its parts is that of an object at the offset
 abbrev pub has_block : Parts → ℕ → Bool
 has_block p off = list_any (λ (b : Block). b.off == off) p.blocks
 
--- the written part: what it locks for writing, the root word, its blocks with the objects there, and its lane's pending list
+-- the written part: what it locks for writing, the root word, its blocks with the objects there,
+-- and its lane's pending list
 abbrev pub writes : CallRun → Name → Bool
 writes run Fixed = false
 writes run RootWord = run.parts.writes_root

@@ -1,6 +1,7 @@
--- A call outside of a transaction: one operation on a pool and on what its lane has pending (pmemobj_publish(3),
--- pmemobj_alloc(3), pmemobj_list_insert(3), pmemobj_root(3)). It names some objects and locks them, each where its id has a
--- place and an object is found there. Then it may lock one more, and has its tests under the locks.
+-- A call outside of a transaction: one operation on a pool and on what its lane has pending
+-- (pmemobj_publish(3), pmemobj_alloc(3), pmemobj_list_insert(3), pmemobj_root(3)). It names some
+-- objects and locks them, each where its id has a place and an object is found there. Then it may
+-- lock one more, and has its tests under the locks.
 use Rattle.std.specs.Prelude.{◌≡◌, ℕ, ◌+◌, ◌%◌, ◌==◌, ◌&&◌, ◌||◌, not, nat_lt, nat_le, Bool, true, false, IsSome, All, if◌then◌else◌, List, [], ◌∷◌, ◌++◌, length, map, filter, Option, None, Some, MatchOption}
 use Rattle.std.specs.List.{list_any}
 use Rattle.std.specs.Option.{option_map_or}
@@ -18,7 +19,7 @@ use Rattle.pm_objects.specs.declared.refusal.Refusal.{Refusal}
 use Rattle.pm_objects.specs.declared.refusal.Refusal.TheVariants as refusal
 use Rattle.pm_model.specs.Items.{Edit, Item, Items, PlainPool, all_edited, bytes_of, freed_item, in_list, is_among, is_root, kind_of, list_of, made_item, members_of, new_item, number_at, number_bytes, put_into, resized_item, size_of, with_members}
 use Rattle.pm_model.specs.Blocks.{AreAllFree, Block, IsNewBlock}
-use Rattle.pm_model.specs.Pending.{Pending, Reservation, block_edits, blocks_reserved, none_pending, passes_object, set_edits, want_to_write, wants_pending, with_free, with_put, with_reservation, with_set}
+use Rattle.pm_model.specs.Pending.{Pending, block_edits, blocks_reserved, new_reservation, none_pending, passes_object, set_edits, want_to_write, wants_pending, with_free, with_put, with_reservation, with_set}
 use Rattle.pm_model.specs.Places.{has_place}
 use Rattle.pm_model.specs.Refusals.{Seen, Test, first_of, has_members, is_listed, is_member, is_size, max_size, pending_tests}
 use Rattle.pm_model.specs.Inside.{IsRefused, Ran, is_action}
@@ -64,7 +65,8 @@ id_edit dest pool off = put_into dest.id.off dest.off (number_bytes pool ++ numb
 abbrev pub inserted_beside : ℕ → Bool → ℕ → List ℕ → List ℕ
 inserted_beside dest before off [] = []
 inserted_beside dest before off (m ∷ rest) =
-    if m == dest then (if before then off ∷ m ∷ rest else m ∷ off ∷ rest) else m ∷ inserted_beside dest before off rest
+    if m == dest then (if before then off ∷ m ∷ rest else m ∷ off ∷ rest)
+    else m ∷ inserted_beside dest before off rest
 
 abbrev pub inserted : At → ℕ → List ℕ → List ℕ
 inserted at off members =
@@ -97,24 +99,29 @@ wants_named p (TypeNumber id) = want_to_read id ∷ []
 wants_named p (Insert head at id) = want_to_write head ∷ want_to_write id ∷ want_dest at
 wants_named p (InsertNew head at size kind) = want_to_write head ∷ want_dest at
 wants_named p (Remove head id free) = want_to_write head ∷ want_to_write id ∷ []
-wants_named p (MoveTo head new_head at id) = want_to_write head ∷ want_to_write new_head ∷ want_to_write id ∷ want_dest at
+wants_named p (MoveTo head new_head at id) =
+    want_to_write head ∷ want_to_write new_head ∷ want_to_write id ∷ want_dest at
 wants_named p (Members head) = want_to_read head ∷ []
 wants_named p op = []
 
 abbrev pub is_found : Seen → PlainPool → Want → Bool
 is_found seen pool want = has_place pool want.id && not (is_among seen.missing want.id.off)
 
--- the object that a destination names is locked by one try. That of the destination's own object is held already
+-- the object that a destination names is locked by one try. That of the destination's own object
+-- is held already
 abbrev pub is_busy : Seen → Dest → Oid → Bool
 is_busy seen dest id = not (id.off == dest.id.off) && seen.busy
 
 abbrev pub want_target : Seen → PlainPool → Dest → List Want
 want_target seen pool dest =
     let id = id_in pool.items dest in
-    if not (is_null id) && is_found seen pool (want_to_write id) && not (is_busy seen dest id) then want_to_write id ∷ [] else []
+    if not (is_null id) && is_found seen pool (want_to_write id) && not (is_busy seen dest id)
+    then want_to_write id ∷ [] else []
 
 abbrev pub want_root : PlainPool → Bool → List Want
-want_root pool write = option_map_or (λ off. record { id = record { pool = pool.id; off = off }; write = write } ∷ []) pool.root []
+want_root pool write =
+    option_map_or (λ off. record { id = record { pool = pool.id; off = off }; write = write } ∷ [])
+    pool.root []
 
 -- the object that a call locks after those: what a destination names, or the root
 abbrev pub wants_then : Seen → PlainPool → Operation → List Want
@@ -129,12 +136,17 @@ wants_then seen pool op = []
 -- the tests before any lock
 abbrev pub early_tests : Seen → PlainPool → Pending → Operation → List Test
 early_tests seen pool p (AllocTo dest size kind) =
-    (refusal.Spent, seen.spent) ∷ (refusal.Unaligned, not (dest.off % 8 == 0)) ∷ (refusal.BadSize, not (is_size size)) ∷ []
+    (refusal.Spent, seen.spent) ∷ (refusal.Unaligned, not (dest.off % 8 == 0))
+    ∷ (refusal.BadSize, not (is_size size)) ∷ []
 early_tests seen pool p (ReallocAt dest size kind) =
-    (refusal.Spent, seen.spent) ∷ (refusal.Unaligned, not (dest.off % 8 == 0)) ∷ (refusal.BadSize, nat_lt max_size size) ∷ []
-early_tests seen pool p (FreeAt dest) = (refusal.Spent, seen.spent) ∷ (refusal.Unaligned, not (dest.off % 8 == 0)) ∷ []
-early_tests seen pool p (InsertNew head at size kind) = (refusal.Spent, seen.spent) ∷ (refusal.BadSize, not (is_size size)) ∷ []
-early_tests seen pool p (Root size) = (refusal.Spent, seen.spent) ∷ (refusal.BadSize, not (is_size size)) ∷ []
+    (refusal.Spent, seen.spent) ∷ (refusal.Unaligned, not (dest.off % 8 == 0))
+    ∷ (refusal.BadSize, nat_lt max_size size) ∷ []
+early_tests seen pool p (FreeAt dest) =
+    (refusal.Spent, seen.spent) ∷ (refusal.Unaligned, not (dest.off % 8 == 0)) ∷ []
+early_tests seen pool p (InsertNew head at size kind) =
+    (refusal.Spent, seen.spent) ∷ (refusal.BadSize, not (is_size size)) ∷ []
+early_tests seen pool p (Root size) =
+    (refusal.Spent, seen.spent) ∷ (refusal.BadSize, not (is_size size)) ∷ []
 early_tests seen pool p op = (refusal.Spent, seen.spent) ∷ pending_tests seen pool.id p op
 
 -- ids without a place, and those under whose lock no object was found
@@ -152,8 +164,10 @@ abbrev pub target_tests : Seen → PlainPool → Dest → List Test
 target_tests seen pool dest =
     let id = id_in pool.items dest in
     let named = not (is_null id) in
-    (refusal.NoObject, named && not (has_place pool id)) ∷ (refusal.Busy, named && is_busy seen dest id)
-    ∷ (refusal.NoObject, named && is_among seen.missing id.off) ∷ (refusal.RootKept, named && is_root pool.root id.off)
+    (refusal.NoObject, named && not (has_place pool id))
+    ∷ (refusal.Busy, named && is_busy seen dest id)
+    ∷ (refusal.NoObject, named && is_among seen.missing id.off)
+    ∷ (refusal.RootKept, named && is_root pool.root id.off)
     ∷ (refusal.Listed, named && is_listed pool.items id.off) ∷ []
 
 -- `root` makes a new object where there is none, or a smaller one
@@ -166,17 +180,22 @@ root_is_listed pool = option_map_or (is_listed pool.items) pool.root false
 -- the tests under the locks
 abbrev pub late_tests : Seen → PlainPool → Pending → Operation → List Test
 late_tests seen pool p Publish =
-    (refusal.NoObject, p.late) ∷ (refusal.RootKept, list_any (λ (id : Oid). is_root pool.root id.off) p.frees)
+    (refusal.NoObject, p.late)
+    ∷ (refusal.RootKept, list_any (λ (id : Oid). is_root pool.root id.off) p.frees)
     ∷ (refusal.Listed, list_any (λ (id : Oid). is_listed pool.items id.off) p.frees)
     ∷ (refusal.OutOfRange, list_any (passes_object pool.items) p.sets) ∷ []
-late_tests seen pool p (AllocTo dest size kind) = dest_test pool dest ∷ (refusal.NoSpace, seen.full) ∷ []
+late_tests seen pool p (AllocTo dest size kind) =
+    dest_test pool dest ∷ (refusal.NoSpace, seen.full) ∷ []
 late_tests seen pool p (ReallocAt dest size kind) =
-    dest_test pool dest ∷ target_tests seen pool dest ++ (refusal.NoSpace, nat_le 1 size && seen.full) ∷ []
+    dest_test pool dest ∷ target_tests seen pool dest
+    ++ (refusal.NoSpace, nat_le 1 size && seen.full) ∷ []
 late_tests seen pool p (FreeAt dest) = dest_test pool dest ∷ target_tests seen pool dest
 late_tests seen pool p (Insert head at id) =
-    (refusal.NotInList, is_beside_none at (members_of pool.items head.off)) ∷ (refusal.Listed, is_member pool.items id.off) ∷ []
+    (refusal.NotInList, is_beside_none at (members_of pool.items head.off))
+    ∷ (refusal.Listed, is_member pool.items id.off) ∷ []
 late_tests seen pool p (InsertNew head at size kind) =
-    (refusal.NotInList, is_beside_none at (members_of pool.items head.off)) ∷ (refusal.NoSpace, seen.full) ∷ []
+    (refusal.NotInList, is_beside_none at (members_of pool.items head.off))
+    ∷ (refusal.NoSpace, seen.full) ∷ []
 late_tests seen pool p (Remove head id free) =
     (refusal.RootKept, free && is_root pool.root id.off)
     ∷ (refusal.NotInList, not (is_among (members_of pool.items head.off) id.off))
@@ -186,14 +205,17 @@ late_tests seen pool p (MoveTo head new_head at id) =
     let second = taken_out id.off (members_of pool.items new_head.off) in
     (refusal.NotInList, not (is_among first id.off) || is_beside_none at second) ∷ []
 late_tests seen pool p (Members head) =
-    let count = length (members_of pool.items head.off) in (refusal.Short count, nat_lt seen.room count) ∷ []
+    let count = length (members_of pool.items head.off) in
+    (refusal.Short count, nat_lt seen.room count) ∷ []
 late_tests seen pool p (Root size) =
-    (refusal.Listed, root_grows pool size && root_is_listed pool) ∷ (refusal.NoSpace, root_grows pool size && seen.full) ∷ []
+    (refusal.Listed, root_grows pool size && root_is_listed pool)
+    ∷ (refusal.NoSpace, root_grows pool size && seen.full) ∷ []
 late_tests seen pool p op = []
 
 abbrev pub tests_outside : Seen → Outside → Operation → List Test
 tests_outside seen s op =
-    early_tests seen s.pool s.pending op ++ found_tests seen s.pool (wants_named s.pending op) ++ late_tests seen s.pool s.pending op
+    early_tests seen s.pool s.pending op ++ found_tests seen s.pool (wants_named s.pending op)
+    ++ late_tests seen s.pool s.pending op
 
 abbrev pub refusal_outside : Seen → Outside → Operation → Option Refusal
 refusal_outside seen s op = first_of (tests_outside seen s op)
@@ -228,7 +250,8 @@ offs_freed pool p Publish = map (λ (id : Oid). id.off) p.frees
 offs_freed pool p (ReallocAt dest size kind) = target_off pool dest
 offs_freed pool p (FreeAt dest) = target_off pool dest
 offs_freed pool p (Remove head id free) = if free then id.off ∷ [] else []
-offs_freed pool p (Root size) = if root_grows pool size then option_map_or (λ off. off ∷ []) pool.root [] else []
+offs_freed pool p (Root size) =
+    if root_grows pool size then option_map_or (λ off. off ∷ []) pool.root [] else []
 offs_freed pool p op = []
 
 -- what becomes of which objects, where `off` is the offset of the new object
@@ -237,32 +260,44 @@ free_target pool dest = map freed_item (target_off pool dest)
 
 abbrev pub item_moved : PlainPool → Dest → ℕ → ℕ → Item
 item_moved pool dest size kind =
-    let id = id_in pool.items dest in resized_item kind size (if is_null id then [] else bytes_of pool.items id.off)
+    let id = id_in pool.items dest in
+    resized_item kind size (if is_null id then [] else bytes_of pool.items id.off)
 
 abbrev pub taken_from : PlainPool → ℕ → ℕ → List Edit
-taken_from pool head off = with_members head (taken_out off (members_of pool.items head)) ∷ in_list off None ∷ []
+taken_from pool head off =
+    with_members head (taken_out off (members_of pool.items head)) ∷ in_list off None ∷ []
 
 abbrev pub root_edits : PlainPool → ℕ → ℕ → List Edit
 root_edits pool size off =
-    option_map_or (λ old. freed_item old ∷ made_item off (resized_item (kind_of pool.items old) size (bytes_of pool.items old)) ∷ [])
+    option_map_or (λ old. freed_item old
+        ∷ made_item off (resized_item (kind_of pool.items old) size (bytes_of pool.items old))
+        ∷ [])
     pool.root (made_item off (new_item 0 size None) ∷ [])
 
 abbrev pub edits_of : PlainPool → Pending → Operation → ℕ → List Edit
 edits_of pool p Publish off = block_edits p ++ set_edits p.sets
-edits_of pool p (AllocTo dest size kind) off = made_item off (new_item kind size None) ∷ id_edit dest pool.id off ∷ []
+edits_of pool p (AllocTo dest size kind) off =
+    made_item off (new_item kind size None) ∷ id_edit dest pool.id off ∷ []
 edits_of pool p (ReallocAt dest size kind) off =
-    if size == 0 then (if is_null (id_in pool.items dest) then [] else id_edit dest 0 0 ∷ free_target pool dest)
-    else made_item off (item_moved pool dest size kind) ∷ id_edit dest pool.id off ∷ free_target pool dest
-edits_of pool p (FreeAt dest) off = if is_null (id_in pool.items dest) then [] else id_edit dest 0 0 ∷ free_target pool dest
+    if size == 0
+    then (if is_null (id_in pool.items dest) then [] else id_edit dest 0 0 ∷ free_target pool dest)
+    else made_item off (item_moved pool dest size kind) ∷ id_edit dest pool.id off
+    ∷ free_target pool dest
+edits_of pool p (FreeAt dest) off =
+    if is_null (id_in pool.items dest) then [] else id_edit dest 0 0 ∷ free_target pool dest
 edits_of pool p (Insert head at id) off =
-    with_members head.off (inserted at id.off (members_of pool.items head.off)) ∷ in_list id.off (Some head.off) ∷ []
+    with_members head.off (inserted at id.off (members_of pool.items head.off))
+    ∷ in_list id.off (Some head.off) ∷ []
 edits_of pool p (InsertNew head at size kind) off =
-    with_members head.off (inserted at off (members_of pool.items head.off)) ∷ made_item off (new_item kind size (Some head.off)) ∷ []
-edits_of pool p (Remove head id free) off = taken_from pool head.off id.off ++ (if free then freed_item id.off ∷ [] else [])
+    with_members head.off (inserted at off (members_of pool.items head.off))
+    ∷ made_item off (new_item kind size (Some head.off)) ∷ []
+edits_of pool p (Remove head id free) off =
+    taken_from pool head.off id.off ++ (if free then freed_item id.off ∷ [] else [])
 edits_of pool p (MoveTo head new_head at id) off =
     let second = taken_out id.off (members_of pool.items new_head.off) in
     taken_from pool head.off id.off
-    ++ with_members new_head.off (inserted at id.off second) ∷ in_list id.off (Some new_head.off) ∷ []
+    ++ with_members new_head.off (inserted at id.off second)
+    ∷ in_list id.off (Some new_head.off) ∷ []
 edits_of pool p (Root size) off = if root_grows pool size then root_edits pool size off else []
 edits_of pool p op off = []
 
@@ -272,10 +307,11 @@ root_after pool op off = pool.root
 
 abbrev pub pending_after : Pending → Operation → ℕ → Pending
 pending_after p (Reserve size kind) off =
-    with_reservation (record { off = off; kind = kind; bytes = (new_item kind size None).bytes }) p
+    with_reservation (new_reservation off kind size) p
 pending_after p (WriteReserved id at bytes) off = with_put id.off at bytes p
 pending_after p (DeferFree id) off = with_free id p
-pending_after p (SetValue id at value) off = with_set (record { id = id; off = at; value = value }) p
+pending_after p (SetValue id at value) off =
+    with_set (record { id = id; off = at; value = value }) p
 pending_after p Publish off = none_pending
 pending_after p Cancel off = none_pending
 pending_after p op off = p
@@ -290,13 +326,16 @@ AreNamedThere pool wants = All (λ (want : Want). IsSome (pool.items want.id.off
 abbrev pub IsReplyOutside : Outside → Operation → Option Value → Type 0
 IsReplyOutside s op reply =
     MatchOption (size_made s.pool op) (reply ≡ value_outside s.pool op)
-    (λ size. (off : ℕ) × IsNewBlock s.pool (blocks_reserved s.pending) (record { off = off; size = size }) × (reply ≡ Some (Offset off)))
+    (λ size. (off : ℕ)
+        × IsNewBlock s.pool (blocks_reserved s.pending) (record { off = off; size = size })
+        × (reply ≡ Some (Offset off)))
 
 abbrev pub MayPublishOutside : Outside → Operation → Type 0
 MayPublishOutside s Publish = AreAllFree s.pool.items [] (blocks_reserved s.pending)
 MayPublishOutside s op = Unit {0}
 
-pub record IsDoneOutside (s : Outside) (op : Operation) (seen : Seen) (reply : Option Value) : Type 0 where
+pub record IsDoneOutside (s : Outside) (op : Operation) (seen : Seen)
+    (reply : Option Value) : Type 0 where
   pub there : AreNamedThere s.pool (wants_named s.pending op ++ wants_then seen s.pool op)
   pub publishes : MayPublishOutside s op
   pub value : IsReplyOutside s op reply
@@ -304,7 +343,8 @@ pub record IsDoneOutside (s : Outside) (op : Operation) (seen : Seen) (reply : O
 -- what the call replies: it is done, or has the first refusal that applies
 pub record RepliesOutside (s : Outside) (ran : Ran) : Type 0 where
   pub outside : is_outside ran.operation ≡ true
-  pub reply : MatchOption (refusal_outside ran.seen s ran.operation) (IsDoneOutside s ran.operation ran.seen ran.reply) (λ r. IsRefused r ran.reply)
+  pub reply : MatchOption (refusal_outside ran.seen s ran.operation)
+      (IsDoneOutside s ran.operation ran.seen ran.reply) (λ r. IsRefused r ran.reply)
 
 -- the offset that a reply gives
 abbrev pub offset_in : Option Value → ℕ
@@ -313,7 +353,13 @@ offset_in reply = 0
 
 abbrev pub done_outside : Operation → ℕ → Outside → Outside
 done_outside op off s =
-    record { pool = record s.pool { items = all_edited (edits_of s.pool s.pending op off) s.pool.items; root = root_after s.pool op off }; pending = pending_after s.pending op off }
+    record {
+      pool = record s.pool {
+        items = all_edited (edits_of s.pool s.pending op off) s.pool.items;
+        root = root_after s.pool op off;
+      };
+      pending = pending_after s.pending op off;
+    }
 
 -- what it leaves: a refused call changes nothing
 abbrev pub after_reply_outside : Operation → Option Value → Outside → Outside

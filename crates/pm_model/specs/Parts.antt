@@ -1,4 +1,5 @@
--- The parts of a call: the objects that it locks, the root word, and the blocks that it makes, reserves or frees.
+-- The parts of a call: the objects that it locks, the root word, and the blocks that it makes,
+-- reserves or frees.
 use Rattle.std.specs.Prelude.{◌≡◌, ℕ, ◌+◌, ◌==◌, ◌&&◌, ◌||◌, not, Bool, true, false, if◌then◌else◌, List, [], ◌∷◌, ◌++◌, map, filter, Option, None, Some}
 use Rattle.std.specs.List.{flat_map, list_all, list_any}
 use Rattle.std.specs.Option.{option_map_or}
@@ -31,7 +32,12 @@ no_parts = record { locks = []; reads_root = false; writes_root = false; blocks 
 
 abbrev pub joined : Parts → Parts → Parts
 joined a b =
-    record { locks = a.locks ++ b.locks; reads_root = a.reads_root || b.reads_root; writes_root = a.writes_root || b.writes_root; blocks = a.blocks ++ b.blocks }
+    record {
+      locks = a.locks ++ b.locks;
+      reads_root = a.reads_root || b.reads_root;
+      writes_root = a.writes_root || b.writes_root;
+      blocks = a.blocks ++ b.blocks;
+    }
 
 abbrev pub of_locks : List Want → Parts
 of_locks wants = record no_parts { locks = wants }
@@ -41,16 +47,20 @@ of_blocks blocks = record no_parts { blocks = blocks }
 
 -- ---- of a transaction
 
--- the part that an operation adds. A refused one adds none, and a reservation that the call itself cancels is in none
+-- the part that an operation adds. A refused one adds none, and a reservation that the call
+-- itself cancels is in none
 abbrev pub part_by : Transaction → Operation → Bool → Option Value → Parts
 part_by tx op kept (Some (Refused r)) = no_parts
 part_by tx (Begin wants) kept reply = of_locks (wants_of_old tx wants)
 part_by tx (Lock want) kept reply = of_locks (wants_of_old tx (want ∷ []))
-part_by tx (Alloc size kind) kept reply = of_blocks (record { off = offset_in reply; size = size } ∷ [])
-part_by tx (Reserve size kind) kept reply = if kept then of_blocks (record { off = offset_in reply; size = size } ∷ []) else no_parts
+part_by tx (Alloc size kind) kept reply =
+    of_blocks (record { off = offset_in reply; size = size } ∷ [])
+part_by tx (Reserve size kind) kept reply =
+    if kept then of_blocks (record { off = offset_in reply; size = size } ∷ []) else no_parts
 part_by tx (Free id) kept reply = of_blocks (blocks_at tx.items id.off)
 part_by tx Publish kept reply =
-    of_blocks (blocks_reserved tx.pending ++ flat_map (λ (id : Oid). blocks_at tx.items id.off) tx.pending.frees)
+    of_blocks (blocks_reserved tx.pending
+        ++ flat_map (λ (id : Oid). blocks_at tx.items id.off) tx.pending.frees)
 part_by tx op kept reply = no_parts
 
 abbrev pub part_of : Transaction → Ran → Bool → Parts
@@ -58,7 +68,8 @@ part_of tx ran kept = part_by tx ran.operation kept ran.reply
 
 unfoldable pub parts_inside : Transaction → List Ran → Parts
 parts_inside tx [] = no_parts
-parts_inside tx (ran ∷ rest) = joined (part_of tx ran (is_kept rest)) (parts_inside (after ran tx) rest)
+parts_inside tx (ran ∷ rest) =
+    joined (part_of tx ran (is_kept rest)) (parts_inside (after ran tx) rest)
 
 -- ---- of a call outside of a transaction
 
@@ -79,14 +90,22 @@ writes_root_word op = false
 -- the block that it makes or reserves, and those of what it frees or publishes
 abbrev pub blocks_made : Outside → Operation → Option Value → List Block
 blocks_made s Publish reply = blocks_reserved s.pending
-blocks_made s op reply = option_map_or (λ size. record { off = offset_in reply; size = size } ∷ []) (size_made s.pool op) []
+blocks_made s op reply =
+    option_map_or (λ size. record { off = offset_in reply; size = size }
+        ∷ []) (size_made s.pool op) []
 
 abbrev pub blocks_outside : Outside → Operation → Option Value → List Block
 blocks_outside s op (Some (Refused r)) = []
-blocks_outside s op reply = blocks_made s op reply ++ flat_map (blocks_at s.pool.items) (offs_freed s.pool s.pending op)
+blocks_outside s op reply =
+    blocks_made s op reply ++ flat_map (blocks_at s.pool.items) (offs_freed s.pool s.pending op)
 
 abbrev pub parts_outside : Outside → Ran → Parts
 parts_outside s ran =
     if is_under_locks s ran
-    then record { locks = wants_named s.pending ran.operation ++ wants_then ran.seen s.pool ran.operation; reads_root = reads_root_word ran.operation; writes_root = writes_root_word ran.operation; blocks = blocks_outside s ran.operation ran.reply }
+    then record {
+      locks = wants_named s.pending ran.operation ++ wants_then ran.seen s.pool ran.operation;
+      reads_root = reads_root_word ran.operation;
+      writes_root = writes_root_word ran.operation;
+      blocks = blocks_outside s ran.operation ran.reply;
+    }
     else no_parts

@@ -1,5 +1,5 @@
--- Pending actions: what a lane asked for, to be done at once by a later publish (pmemobj_reserve(3),
--- pmemobj_defer_free(3), pmemobj_set_value(3), pmemobj_publish(3)).
+-- Pending actions: what a lane asked for, to be done at once by a later publish
+-- (pmemobj_reserve(3), pmemobj_defer_free(3), pmemobj_set_value(3), pmemobj_publish(3)).
 use Rattle.std.specs.Prelude.{ℕ, ◌+◌, ◌==◌, ◌||◌, nat_lt, Bool, true, false, if◌then◌else◌, List, [], ◌∷◌, ◌++◌, length, map, find, replicate, None, Some}
 use Rattle.std.specs.List.{list_any}
 use Rattle.std.specs.Option.{option_map_or}
@@ -49,13 +49,18 @@ with_set a p = record p { sets = p.sets ++ a ∷ []; late = is_to_be_freed p a.i
 abbrev pub with_free : Oid → Pending → Pending
 with_free id p = record p { frees = p.frees ++ id ∷ []; late = is_to_be_freed p id.off || p.late }
 
+-- of zeros
+abbrev pub new_reservation : ℕ → ℕ → ℕ → Reservation
+new_reservation off kind size = record { off = off; kind = kind; bytes = replicate size 0 }
+
 abbrev pub with_reservation : Reservation → Pending → Pending
 with_reservation r p = record p { reserved = p.reserved ++ r ∷ [] }
 
 -- with new bytes in the reservation at an offset
 abbrev pub with_put : ℕ → ℕ → List ℕ → Pending → Pending
 with_put off at bytes p =
-    record p { reserved = map (λ (r : Reservation). if r.off == off then record r { bytes = put_bytes at bytes r.bytes } else r) p.reserved }
+    record p { reserved = map (λ (r : Reservation). if r.off == off
+        then record r { bytes = put_bytes at bytes r.bytes } else r) p.reserved }
 
 -- ---- what is asked of it
 
@@ -64,7 +69,9 @@ is_reserved p off = list_any (λ (r : Reservation). r.off == off) p.reserved
 
 -- how many bytes are reserved at an offset
 abbrev pub size_reserved : Pending → ℕ → ℕ
-size_reserved p off = option_map_or (λ (r : Reservation). length r.bytes) (find (λ (r : Reservation). r.off == off) p.reserved) 0
+size_reserved p off =
+    option_map_or (λ (r : Reservation). length r.bytes)
+    (find (λ (r : Reservation). r.off == off) p.reserved) 0
 
 abbrev pub block_of : Reservation → Block
 block_of r = record { off = r.off; size = length r.bytes }
@@ -94,7 +101,8 @@ item_reserved r = record { kind = r.kind; bytes = r.bytes; members = []; list = 
 -- objects are freed, and what is reserved comes to be
 abbrev pub block_edits : Pending → List Edit
 block_edits p =
-    map (λ (id : Oid). freed_item id.off) p.frees ++ map (λ (r : Reservation). made_item r.off (item_reserved r)) p.reserved
+    map (λ (id : Oid). freed_item id.off) p.frees
+    ++ map (λ (r : Reservation). made_item r.off (item_reserved r)) p.reserved
 
 -- words are set
 abbrev pub set_edits : List SetWord → List Edit

@@ -16,8 +16,8 @@ use Rattle.pm_model.specs.Refusals.{Seen, refusal_of}
 use Rattle.pm_model.specs.Inside.{after_reply}
 use Rattle.pm_model.specs.Outside.{Outside, after_reply_outside, refusal_outside}
 
--- Pool 7 of one lane and one zone. The root at 16512 has eight bytes, of the number 5, and one member, the object at 16640.
--- The one at 16768 is in no list, and that at 16896 holds its id
+-- Pool 7 of one lane and one zone. The root at 16512 has eight bytes, of the number 5, and one
+-- member, the object at 16640. The one at 16768 is in no list, and that at 16896 holds its id
 abbrev pub sample_view : PoolView
 sample_view = record {
   id = 7;
@@ -54,7 +54,9 @@ at_work = begun (want_to_write root_id ∷ []) (idle sample none_pending)
 
 -- one that holds all to write
 abbrev pub with_all : Transaction
-with_all = begun (want_to_write root_id ∷ want_to_write (id_at 16640) ∷ want_to_write (id_at 16768) ∷ []) (idle sample none_pending)
+with_all =
+    begun (want_to_write root_id ∷ want_to_write (id_at 16640) ∷ want_to_write (id_at 16768)
+        ∷ []) (idle sample none_pending)
 
 abbrev pub outside : Outside
 outside = record { pool = sample; pending = none_pending }

@@ -16,8 +16,8 @@ use Rattle.pm_model.specs.Inside.{Ran, error_for, is_action, is_refusal}
 use Rattle.pm_model.specs.Outside.{is_outside}
 use Rattle.pm_model.specs.CallStep.{CallRun}
 
--- the error of a transaction that begins with this operation and its reply, if the rest of it has that error. A refusal of
--- an operation on the pending list alone is none
+-- the error of a transaction that begins with this operation and its reply, if the rest of it has
+-- that error. A refusal of an operation on the pending list alone is none
 abbrev pub error_by : Operation → Option Value → TxErr → TxErr
 error_by op (Some (Refused r)) rest = if is_action op then rest else error.Refused r
 error_by (Abort errnum) reply rest = error_for errnum
@@ -42,7 +42,8 @@ values_at line op (Some value) = (line, value) ∷ []
 unfoldable pub values_of : List ℕ → List Ran → List (ℕ × Value)
 values_of [] rest = []
 values_of lines [] = []
-values_of (line ∷ lines) (ran ∷ rest) = values_at line ran.operation ran.reply ++ values_of lines rest
+values_of (line ∷ lines) (ran ∷ rest) =
+    values_at line ran.operation ran.reply ++ values_of lines rest
 
 -- the call is one operation outside of a transaction
 abbrev pub is_single : List Ran → Bool
@@ -54,9 +55,11 @@ abbrev pub answer_of : List Ran → Option Value
 answer_of [] = None
 answer_of (ran ∷ rest) = ran.reply
 
--- the values of a call on these lines. One outside of a transaction has none where it is refused: its fate tells that
+-- the values of a call on these lines. One outside of a transaction has none where it is refused:
+-- its fate tells that
 abbrev pub values_shown : List ℕ → List Ran → List (ℕ × Value)
-values_shown lines rest = if is_single rest && is_refusal (answer_of rest) then [] else values_of lines rest
+values_shown lines rest =
+    if is_single rest && is_refusal (answer_of rest) then [] else values_of lines rest
 
 -- the operation aborted the transaction
 abbrev pub aborts : Ran → Bool
@@ -68,8 +71,8 @@ line_of_abort [] rest = 0
 line_of_abort lines [] = 0
 line_of_abort (line ∷ lines) (ran ∷ rest) = if aborts ran then line else line_of_abort lines rest
 
--- a call of a script with its reply shows what ran: its operations up to the one that aborted, else all of them. Each stands
--- on a line of its own
+-- a call of a script with its reply shows what ran: its operations up to the one that aborted,
+-- else all of them. Each stands on a line of its own
 pub record IsShown (call : Call) (reply : Reply) (run : CallRun) : Type 0 where
   pub lines : List ℕ
   pub one_each : length lines ≡ length call.operations
@@ -78,12 +81,14 @@ pub record IsShown (call : Call) (reply : Reply) (run : CallRun) : Type 0 where
   pub last : slice_index lines (length lines - 1) ≡ call.last
   pub lane : run.lane ≡ call.lane
   pub passed_over : List Operation
-  pub operations : map (λ (ran : Ran). ran.operation) run.operations ++ passed_over ≡ call.operations
+  pub operations : map (λ (ran : Ran). ran.operation) run.operations
+      ++ passed_over ≡ call.operations
   pub whole : error_of run.operations ≡ error.None → passed_over ≡ []
   pub values : reply.values ≡ values_shown lines run.operations
   pub at : reply.at ≡ (if is_single run.operations then 0 else line_of_abort lines run.operations)
 
--- a call that ended with this error may have this fate. One that was aborted is never lost, since it changed nothing
+-- a call that ended with this error may have this fate. One that was aborted is never lost, since
+-- it changed nothing
 abbrev pub IsFateOf : TxErr → Fate → Type 0
 IsFateOf e fate.Done = e ≡ error.None
 IsFateOf e fate.Kept = Unit {0}
