@@ -270,8 +270,8 @@ taken_from pool head off =
 abbrev pub root_edits : PlainPool → ℕ → ℕ → List Edit
 root_edits pool size off =
     option_map_or (λ old. freed_item old
-        ∷ made_item off (resized_item (kind_of pool.items old) size (bytes_of pool.items old))
-        ∷ [])
+    ∷ made_item off (resized_item (kind_of pool.items old) size (bytes_of pool.items old))
+    ∷ [])
     pool.root (made_item off (new_item 0 size None) ∷ [])
 
 abbrev pub edits_of : PlainPool → Pending → Operation → ℕ → List Edit
@@ -327,8 +327,8 @@ abbrev pub IsReplyOutside : Outside → Operation → Option Value → Type 0
 IsReplyOutside s op reply =
     MatchOption (size_made s.pool op) (reply ≡ value_outside s.pool op)
     (λ size. (off : ℕ)
-        × IsNewBlock s.pool (blocks_reserved s.pending) (record { off = off; size = size })
-        × (reply ≡ Some (Offset off)))
+    × IsNewBlock s.pool (blocks_reserved s.pending) (record { off = off; size = size })
+    × (reply ≡ Some (Offset off)))
 
 abbrev pub MayPublishOutside : Outside → Operation → Type 0
 MayPublishOutside s Publish = AreAllFree s.pool.items [] (blocks_reserved s.pending)

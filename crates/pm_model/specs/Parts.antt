@@ -60,7 +60,7 @@ part_by tx (Reserve size kind) kept reply =
 part_by tx (Free id) kept reply = of_blocks (blocks_at tx.items id.off)
 part_by tx Publish kept reply =
     of_blocks (blocks_reserved tx.pending
-        ++ flat_map (λ (id : Oid). blocks_at tx.items id.off) tx.pending.frees)
+    ++ flat_map (λ (id : Oid). blocks_at tx.items id.off) tx.pending.frees)
 part_by tx op kept reply = no_parts
 
 abbrev pub part_of : Transaction → Ran → Bool → Parts
@@ -92,7 +92,7 @@ abbrev pub blocks_made : Outside → Operation → Option Value → List Block
 blocks_made s Publish reply = blocks_reserved s.pending
 blocks_made s op reply =
     option_map_or (λ size. record { off = offset_in reply; size = size }
-        ∷ []) (size_made s.pool op) []
+    ∷ []) (size_made s.pool op) []
 
 abbrev pub blocks_outside : Outside → Operation → Option Value → List Block
 blocks_outside s op (Some (Refused r)) = []

@@ -59,8 +59,10 @@ with_reservation r p = record p { reserved = p.reserved ++ r ∷ [] }
 -- with new bytes in the reservation at an offset
 abbrev pub with_put : ℕ → ℕ → List ℕ → Pending → Pending
 with_put off at bytes p =
-    record p { reserved = map (λ (r : Reservation). if r.off == off
-        then record r { bytes = put_bytes at bytes r.bytes } else r) p.reserved }
+    record p {
+      reserved = map (λ (r : Reservation). if r.off == off
+          then record r { bytes = put_bytes at bytes r.bytes } else r) p.reserved;
+    }
 
 -- ---- what is asked of it
 

@@ -15,8 +15,8 @@ unfoldable pub can_begin_at_line : ℕ → Bool
 can_begin_at_line line =
     line == 0
     || (nat_le 1 line
-        && list_any (λ class. (line - 1) % class.0 == 0
-        && nat_lt ((line - 1) / class.0) class.1) blocks_by_class)
+    && list_any (λ class. (line - 1) % class.0 == 0
+    && nat_lt ((line - 1) / class.0) class.1) blocks_by_class)
 
 -- the bytes from the first zone on to the block of an object at this offset: its header line
 -- comes before it
@@ -40,7 +40,7 @@ pub record CanBegin (lanes zones off : ℕ) : Type 0 where
   pub chunk_in_range : chunk < 64
   pub begins : (off ≡ chunk_place lanes zone chunk + 64)
       ⊎ ((lines : ℕ) × (index : ℕ) × (index < blocks_of lines)
-          × (off ≡ block_place (chunk_place lanes zone chunk) lines index + 64))
+      × (off ≡ block_place (chunk_place lanes zone chunk) lines index + 64))
 
 -- a block of this class can begin 64 bytes before the offset, in this chunk of a zone: whole
 -- chunks that all lie in the zone, or a block of a run

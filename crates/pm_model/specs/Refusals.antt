@@ -102,8 +102,11 @@ abbrev pub lock_tests : Seen → Transaction → List Want → List Test
 lock_tests seen tx wants =
     (refusal.NoObject, list_any (λ (want : Want). not (has_place tx.before want.id)) wants)
     ∷ (refusal.Busy, nat_le 1 tx.level && list_any (is_tried tx) wants && seen.busy)
-    ∷ (refusal.NoObject, list_any (λ (want : Want). is_first_lock tx want
-        && is_among seen.missing want.id.off) wants)
+    ∷ (
+      refusal.NoObject,
+      list_any (λ (want : Want). is_first_lock tx want
+          && is_among seen.missing want.id.off) wants,
+    )
     ∷ (refusal.NoObject, list_any (λ (want : Want). is_gone tx want.id.off) wants)
     ∷ []
 
@@ -137,11 +140,16 @@ has_no_entry tx = nat_lt max_entries (entries_of tx + 2)
 abbrev pub publish_tests : Transaction → List Test
 publish_tests tx =
     let frees = tx.pending.frees in
-    let sets = tx.pending.sets in
-    (refusal.NotLocked, list_any (is_not_held tx true) frees
-        || list_any (λ (a : SetWord). is_not_held tx true a.id) sets)
-    ∷ (refusal.NoObject, tx.pending.late || list_any (λ (id : Oid). is_gone tx id.off) frees
-        || list_any (λ (a : SetWord). is_gone tx a.id.off) sets)
+    let sets = tx.pending.sets in (
+      refusal.NotLocked,
+      list_any (is_not_held tx true) frees
+          || list_any (λ (a : SetWord). is_not_held tx true a.id) sets,
+    )
+    ∷ (
+      refusal.NoObject,
+      tx.pending.late || list_any (λ (id : Oid). is_gone tx id.off) frees
+          || list_any (λ (a : SetWord). is_gone tx a.id.off) sets,
+    )
     ∷ (refusal.RootKept, list_any (λ (id : Oid). is_root tx.before.root id.off) frees)
     ∷ (refusal.Listed, list_any (λ (id : Oid). is_listed tx.items id.off) frees)
     ∷ (refusal.OutOfRange, list_any (passes_object tx.items) sets)

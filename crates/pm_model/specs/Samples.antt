@@ -56,7 +56,7 @@ at_work = begun (want_to_write root_id ∷ []) (idle sample none_pending)
 abbrev pub with_all : Transaction
 with_all =
     begun (want_to_write root_id ∷ want_to_write (id_at 16640) ∷ want_to_write (id_at 16768)
-        ∷ []) (idle sample none_pending)
+    ∷ []) (idle sample none_pending)
 
 abbrev pub outside : Outside
 outside = record { pool = sample; pending = none_pending }
