@@ -1,14 +1,13 @@
 -- A call outside of a transaction over other objects: where they are the same at what it touches, it runs alike.
-use Rattle.std.proofs.Common.{◌≡◌, ⊎_elim, ◌⊎◌, inl, inr, ℕ, ◌+◌, ◌<◌, ◌≤◌, All, List, [], ◌∷◌, ◌++◌, map, length, Bool, true, false, not, cond, eqb, leb, ltb, ◌&&◌, ◌||◌, Option, Some, None, IsSome, MatchOption, refl, sym, ◌∙◌, ap, subst, arith, take, replicate, min, ◌-◌, length-append, length-take}
+use Rattle.std.proofs.Common.{◌≡◌, ⊎_elim, ◌⊎◌, inl, inr, ℕ, ◌+◌, List, [], ◌∷◌, ◌++◌, map, length, Bool, true, false, not, cond, eqb, leb, ltb, ◌&&◌, ◌||◌, Option, Some, None, IsSome, MatchOption, refl, sym, ◌∙◌, ap, subst, arith, take, replicate, min, ◌-◌, length-append, length-take}
 use Rattle.std.proofs.lemmas.List.{length-replicate}
-use Rattle.std.specs.Option.{option_map, option_map_or}
-use Rattle.std.specs.List.{flat_map, list_all, list_any}
-use Rattle.std.proofs.lemmas.Bool.{cases_Bool, false≢true, and_parts, and_from, or_parts}
+use Rattle.std.specs.Option.{option_map_or}
+use Rattle.std.specs.List.{flat_map, list_all}
+use Rattle.std.proofs.lemmas.Bool.{false≢true}
 use Rattle.pm_layout.specs.Sizes.{usable}
-use Rattle.pm_objects.specs.declared.calls.At.{At}
 use Rattle.pm_objects.specs.declared.calls.Dest.{Dest}
 use Rattle.pm_objects.specs.declared.calls.Operation.{Operation}
-use Rattle.pm_objects.specs.declared.calls.Operation.TheVariants.{Reserve, WriteReserved, DeferFree, SetValue, Publish, Cancel, AllocTo, ReallocAt, FreeAt, UsableSize, TypeNumber, Insert, InsertNew, Remove, MoveTo, Members, Root, RootSize}
+use Rattle.pm_objects.specs.declared.calls.Operation.TheVariants.{Publish, AllocTo, ReallocAt, FreeAt, UsableSize, TypeNumber, Insert, InsertNew, Remove, MoveTo, Members, Root, RootSize}
 use Rattle.pm_objects.specs.declared.calls.Want.{Want}
 use Rattle.pm_objects.specs.declared.history.Value.{Value}
 use Rattle.pm_objects.specs.declared.history.Value.TheVariants.{Offset, Number, Refused}
@@ -20,12 +19,12 @@ use Rattle.pm_model.specs.Items.{Edit, Item, Items, PlainPool, all_edited, bytes
 use Rattle.pm_model.specs.Blocks.{AreAllFree, Block, IsFree, IsNewBlock, blocks_at, covers, item_covers}
 use Rattle.pm_model.specs.Places.{has_place}
 use Rattle.pm_model.specs.Pending.{Pending, Reservation, SetWord, block_edits, block_of, blocks_reserved, item_reserved, passes_object, set_edit, set_edits, want_to_write, wants_pending}
-use Rattle.pm_model.specs.Refusals.{Seen, Test, first_of, is_listed, is_member, has_members}
+use Rattle.pm_model.specs.Refusals.{Seen, Test, first_of, is_listed}
 use Rattle.pm_model.specs.Inside.{IsRefused, Ran, is_refusal}
-use Rattle.pm_model.specs.Outside.{AreNamedThere, IsDoneOutside, IsReplyOutside, MayPublishOutside, Outside, RepliesOutside, after_outside, after_reply_outside, dest_test, done_outside, early_tests, edits_of, found_tests, free_target, id_edit, id_in, inserted, is_beside_none, is_busy, is_found, is_null, is_outside, item_moved, late_tests, offs_freed, offset_in, pending_after, refusal_outside, root_after, root_edits, root_grows, root_is_listed, size_made, taken_from, taken_out, target_off, target_tests, tests_outside, value_outside, want_dest, want_root, want_target, wants_named, wants_then}
+use Rattle.pm_model.specs.Outside.{AreNamedThere, IsDoneOutside, IsReplyOutside, MayPublishOutside, Outside, RepliesOutside, after_reply_outside, done_outside, early_tests, edits_of, found_tests, free_target, id_edit, id_in, inserted, is_beside_none, is_busy, is_found, is_null, is_outside, item_moved, late_tests, offs_freed, offset_in, refusal_outside, root_after, root_edits, root_grows, size_made, taken_from, taken_out, target_off, target_tests, tests_outside, value_outside, want_root, want_target, wants_named, wants_then}
 use Rattle.pm_model.specs.Parts.{Parts, blocks_made, blocks_outside, is_under_locks, no_parts, parts_outside, reads_root_word, writes_root_word}
 use Rattle.pm_model.proofs.Lists.{Each, NoneApplies, SameTests, all_from, all_of_each, each_append, each_both, each_flat, each_left, each_map, each_of_all, each_right, each_unmap, each_weaker, first_none, none_applies, none_pass, same_any, same_append, same_behind, same_first, same_flat, same_tests}
-use Rattle.pm_model.proofs.Edits.{FitsLines, HasLines, InLines, Inside, all_edited_keeps, all_edited_lines, all_edited_mixed, apart_by, freed_in_lines, list_keeps_lines, members_keep_lines, mixed, mixed_in, mixed_same, put_keeps_lines}
+use Rattle.pm_model.proofs.Edits.{FitsLines, HasLines, all_edited_keeps, all_edited_lines, all_edited_mixed, apart_by, freed_in_lines, list_keeps_lines, members_keep_lines, mixed, mixed_same, put_keeps_lines}
 use Rattle.pm_model.proofs.Over.{Within, WithinB, WithinT, all_free_there, each_free, free_there, listed_as, new_lines, size_as}
 
 bytes_as : Option Item → List ℕ

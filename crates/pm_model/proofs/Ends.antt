@@ -2,7 +2,7 @@
 use Rattle.std.proofs.Common.{◌≡◌, ◌≢◌, ⊎_elim, ◌⊎◌, inl, inr, ℕ, ◌-◌, List, [], ◌∷◌, Bool, true, false, cond, leb, Option, Some, None, MatchOption, refl, sym, ◌∙◌, ap, subst}
 use Rattle.std.proofs.lemmas.Bool.{false≢true}
 use Rattle.pm_objects.specs.declared.calls.Operation.{Operation}
-use Rattle.pm_objects.specs.declared.calls.Operation.TheVariants.{Begin, Lock, AddRange, Write, Read, Increment, Alloc, Free, Reserve, WriteReserved, DeferFree, SetValue, Publish, Cancel, Commit, Abort}
+use Rattle.pm_objects.specs.declared.calls.Operation.TheVariants.{Begin, Read, Alloc, Reserve, Commit, Abort}
 use Rattle.pm_objects.specs.declared.history.TxErr.{TxErr}
 use Rattle.pm_objects.specs.declared.history.TxErr.TheVariants as error
 use Rattle.pm_objects.specs.declared.history.Value.{Value}
@@ -10,7 +10,7 @@ use Rattle.pm_objects.specs.declared.history.Value.TheVariants.{Offset, Refused}
 use Rattle.pm_objects.specs.declared.refusal.Refusal.{Refusal}
 use Rattle.pm_model.specs.Items.{PlainPool, all_edited}
 use Rattle.pm_model.specs.Pending.{set_edits}
-use Rattle.pm_model.specs.Transaction.{Transaction, aborted, committed, ended, idle, is_none, is_working, pool_of}
+use Rattle.pm_model.specs.Transaction.{Transaction, aborted, committed, idle, is_none, pool_of}
 use Rattle.pm_model.specs.Refusals.{refusal_of}
 use Rattle.pm_model.specs.Inside.{IsDone, IsRefused, IsReply, Ran, Replies, after, after_reply, error_for, is_action, is_begin, is_kept, is_refusal, performed, value_of}
 use Rattle.pm_model.specs.Outside.{Outside, after_outside, after_reply_outside, is_outside}
@@ -22,7 +22,7 @@ use Rattle.pm_model.proofs.Over.{before_after}
 
 same_end_on : (rest : List Ran) (tx last other : Transaction) → RunsOn tx rest last → RunsOn tx rest other → last ≡ other
 unfolding RunsOn
-same_end_on [] tx last other one two = one.1 ∙ sym two.1
+same_end_on [] tx last other one two = one ∙ sym two
 same_end_on (ran ∷ rest) tx last other one two = same_end_on rest (after ran tx) last other one.2 two.2
 
 one_end : (operations : List Ran) (tx last other : Transaction) → Runs tx operations last → Runs tx operations other → last ≡ other
@@ -60,8 +60,8 @@ record EndsWith (e : TxErr) (before : PlainPool) (last : Transaction) : Type 0 w
 aborted_ends : (e : TxErr) (rest : List Ran) (tx last : Transaction) (before : PlainPool) → tx.before ≡ before → RunsOn (aborted e tx) rest last → EndsWith e before last
 unfolding RunsOn
 aborted_ends e [] tx last before from runs = record {
-  is = ap (λ (t : Transaction). t.error) runs.1;
-  change = inr (ap pool_of runs.1 ∙ from);
+  is = ap (λ (t : Transaction). t.error) runs;
+  change = inr (ap pool_of runs ∙ from);
 }
 aborted_ends e (ran ∷ rest) tx last before from runs = absurd (false≢true runs.0)
 
@@ -133,7 +133,7 @@ module _ (before : PlainPool) where
 
   ends_on : (rest : List Ran) (tx last : Transaction) → EndsSo tx rest last
   unfolding RunsOn error_of
-  ends_on [] tx last from none runs = record { is = ap (λ (t : Transaction). t.error) runs.1 ∙ none; change = inl (ap (λ (t : Transaction). t.error) runs.1 ∙ none) }
+  ends_on [] tx last from none runs = record { is = ap (λ (t : Transaction). t.error) runs ∙ none; change = inl (ap (λ (t : Transaction). t.error) runs ∙ none) }
   ends_on (ran ∷ rest) tx last from none runs = step_ends ran (is_kept rest) rest tx last from none runs.1 (λ next. ends_on rest next last) runs.2
 
   ends : (operations : List Ran) (tx last : Transaction) → tx.before ≡ before → tx.error ≡ error.None → Runs tx operations last → EndsWith (error_of operations) before last

@@ -1,26 +1,26 @@
 -- A call reads and changes its parts alone, and a state is known name by name.
-use Rattle.std.proofs.Common.{◌≡◌, ⊎_elim, ◌⊎◌, inl, inr, ℕ, List, [], ◌∷◌, ◌++◌, Bool, true, false, not, cond, eqb, ◌&&◌, ◌||◌, Option, Some, None, refl, sym, ◌∙◌, ap, subst, eq-eqb}
-use Rattle.std.specs.List.{filter, list_any}
-use Rattle.std.proofs.lemmas.Bool.{and_from, and_parts, cases_Bool, eqb-true, false≢true, false_from_ne_true, or_cases, or_left, or_right}
+use Rattle.std.proofs.Common.{◌≡◌, ⊎_elim, ◌⊎◌, inl, inr, ℕ, List, [], ◌∷◌, Bool, true, false, not, cond, eqb, ◌&&◌, ◌||◌, Option, refl, sym, ◌∙◌, ap, subst, eq-eqb}
+use Rattle.std.specs.List.{filter}
+use Rattle.std.proofs.lemmas.Bool.{and_from, and_parts, cases_Bool, false≢true, false_from_ne_true, or_cases, or_left, or_right}
 use Rattle.pm_objects.specs.declared.calls.Want.{Want}
-use Rattle.pm_model.specs.Items.{Item, Items, PlainPool, is_root}
+use Rattle.pm_model.specs.Items.{Item, PlainPool, is_root}
 use Rattle.pm_model.specs.Blocks.{Block, are_covered, covers, item_covers}
 use Rattle.pm_model.specs.Pending.{Pending}
-use Rattle.pm_model.specs.Transaction.{Transaction, idle, pool_of}
+use Rattle.pm_model.specs.Transaction.{Transaction, idle, is_working, pool_of}
 use Rattle.pm_model.specs.Inside.{Ran}
-use Rattle.pm_model.specs.Outside.{Outside, RepliesOutside, after_outside, after_reply_outside}
+use Rattle.pm_model.specs.Outside.{Outside, RepliesOutside, after_outside}
 use Rattle.pm_model.specs.Parts.{Parts, parts_inside, parts_outside}
-use Rattle.pm_model.specs.CallStep.{CallRun, CallStep, OutsideStep, Runs, State, TransactionStep, is_transaction, outside_of, state_with, with_pending}
-use Rattle.pm_model.specs.Framed.{Follows, IsFramed, IsUnwritten, MayBeLeftOut}
-use Rattle.pm_model.specs.Names.{Apart, ApartFromAll, Content, IsFramedCall, Name, Replays, content, has_block, locks_object, touches, writes}
+use Rattle.pm_model.specs.CallStep.{CallRun, CallStep, Runs, State, is_transaction, outside_of, state_with, with_pending}
+use Rattle.pm_model.specs.Framed.{IsUnwritten, MayBeLeftOut}
+use Rattle.pm_model.specs.Names.{Apart, ApartFromAll, IsFramedCall, Name, Replays, content, has_block, locks_object, touches, writes}
 use Rattle.pm_model.specs.Names.Name.{Fixed, RootWord, ObjectAt, LineAt, PendingOf}
 use Rattle.pm_model.specs.Names.Content.{FixedIs, RootIs, ObjectIs, LineIs, PendingIs}
 use Rattle.pm_model.proofs.Changing as changing
-use Rattle.pm_model.proofs.Lists.{Each, IsIn, each_in, each_weaker}
+use Rattle.pm_model.proofs.Lists.{IsIn, each_in, each_weaker}
 use Rattle.pm_model.proofs.Edits.{HasLines, mixed, mixed_in, mixed_out}
 use Rattle.pm_model.proofs.Locking.{list_any_weaker}
 use Rattle.pm_model.proofs.Over.{FitsTx, Within, WithinB, WithinT, transaction_there}
-use Rattle.pm_model.proofs.Beside.{Beside, beside}
+use Rattle.pm_model.proofs.Beside.{beside}
 
 -- ---- what a call's parts say of objects and lines
 
@@ -149,9 +149,9 @@ Shows run before pending after left =
     × ((s : State) (other : PlainPool) → SameAt run.parts before other → s.pool ≡ other → s.pending run.lane ≡ pending
     → (next : PlainPool) × CallStep s run (state_with s run.lane (record { pool = next; pending = left })) × Alike run.parts before after other next)
 
-by_transaction : (run : CallRun) (here : PlainPool) (pending : Pending) (last : Transaction) → is_transaction run.operations ≡ true → Runs (idle here pending) run.operations last → run.parts ≡ parts_inside (idle here pending) run.operations
+by_transaction : (run : CallRun) (here : PlainPool) (pending : Pending) (last : Transaction) → is_transaction run.operations ≡ true → is_working last.stage ≡ false → Runs (idle here pending) run.operations last → run.parts ≡ parts_inside (idle here pending) run.operations
     → Shows run here pending (pool_of last) last.pending
-by_transaction run here pending last begins runs parts =
+by_transaction run here pending last begins over runs parts =
     let p : Parts = run.parts in
     let within : Within (touched_of p) (written_of p) (lines_of p) (parts_inside (idle here pending) run.operations) =
     subst (Within (touched_of p) (written_of p) (lines_of p)) parts (parts_within p) in
@@ -174,6 +174,7 @@ by_transaction run here pending last begins runs parts =
             inl (record {
               last = end;
               begins = begins;
+              over = over;
               runs = subst (λ (t : Transaction). Runs t run.operations end) from run_there.0;
               parts = parts ∙ (sym run_there.1 ∙ ap (λ (t : Transaction). parts_inside t run.operations) from);
               leaves = refl;
@@ -237,7 +238,7 @@ shown run s t (inl step) = record {
   after = pool_of step.last;
   left = step.last.pending;
   is = step.leaves;
-  shows = by_transaction run s.pool (s.pending run.lane) step.last step.begins step.runs step.parts;
+  shows = by_transaction run s.pool (s.pending run.lane) step.last step.begins step.over step.runs step.parts;
 }
 shown run s t (inr step) = record {
   after = (after_outside step.ran (outside_of s run.lane)).pool;

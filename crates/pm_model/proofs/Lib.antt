@@ -8,3 +8,4 @@ pub mod Frames
 pub mod Ends
 pub mod Known
 pub mod Beginning
+pub mod Growing

@@ -1,9 +1,8 @@
 -- Facts of each element of a list, and the first of a list of tests.
-use Rattle.std.proofs.Common.{◌≡◌, ⊎_elim, ◌⊎◌, inl, inr, ℕ, All, List, [], ◌∷◌, ◌++◌, map, Bool, true, false, not, cond, ◌&&◌, ◌||◌, Option, Some, None, refl, sym, ◌∙◌, ap, subst}
+use Rattle.std.proofs.Common.{◌≡◌, ⊎_elim, All, List, [], ◌∷◌, ◌++◌, map, Bool, true, false, cond, ◌&&◌, ◌||◌, Some, None, refl, sym, ◌∙◌, ap}
 use Rattle.std.specs.List.{filter, flat_map, list_all, list_any}
-use Rattle.std.proofs.lemmas.Bool.{cases_Bool, false≢true, or_cases, or_left, or_right, or_parts, and_parts}
+use Rattle.std.proofs.lemmas.Bool.{false≢true, or_cases, or_left, or_right, and_parts}
 use Rattle.std.proofs.lemmas.List.Elements.{All-cons, All-head, All-nil, All-tail}
-use Rattle.pm_objects.specs.declared.refusal.Refusal.{Refusal}
 use Rattle.pm_model.specs.Refusals.{Test, first_of}
 
 -- P of each element

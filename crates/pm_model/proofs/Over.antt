@@ -1,16 +1,16 @@
 -- A transaction over other objects: where they are the same at what it touches, it runs alike.
-use Rattle.std.proofs.Common.{◌≡◌, ⊎_elim, ◌⊎◌, inl, inr, ℕ, ◌+◌, ◌-◌, ◌%◌, ◌^◌, ◌<◌, ◌≤◌, All, List, [], ◌∷◌, ◌++◌, map, length, Bool, true, false, not, cond, eqb, leb, ltb, ◌&&◌, ◌||◌, Option, Some, None, IsSome, MatchOption, refl, sym, ◌∙◌, ap, subst, arith, eq-eqb}
+use Rattle.std.proofs.Common.{◌≡◌, ⊎_elim, inl, inr, ℕ, ◌+◌, ◌-◌, ◌%◌, ◌^◌, ◌≤◌, List, [], ◌∷◌, ◌++◌, map, length, Bool, true, false, not, cond, eqb, leb, ltb, ◌&&◌, ◌||◌, Option, Some, None, IsSome, MatchOption, refl, sym, ◌∙◌, ap, subst, arith}
 use Rattle.std.proofs.lemmas.List.{length-replicate}
-use Rattle.std.specs.Option.{option_map, option_map_or}
+use Rattle.std.specs.Option.{option_map_or}
 use Rattle.std.specs.Int.{div_ceil}
-use Rattle.std.specs.List.{filter, find, flat_map, list_any}
-use Rattle.std.proofs.lemmas.Bool.{cases_Bool, eqb-true, false≢true, false_from_ne_true, or_cases, or_left, or_right, or_parts, and_parts, and_from, leb-true, le-leb, lt-ltb}
+use Rattle.std.specs.List.{find, flat_map, list_any}
+use Rattle.std.proofs.lemmas.Bool.{eqb-true, false≢true, false_from_ne_true, or_cases, or_left, or_right, or_parts, and_parts, and_from, leb-true, le-leb, lt-ltb}
 use Rattle.std.proofs.lemmas.Grind.{div_ceil_times}
 use Rattle.pm_layout.specs.Sizes.{class_of, classes, lines_for}
 use Rattle.pm_layout.specs.declared.class.Class.TheVariants.{Lines, Chunks}
 use Rattle.pm_objects.specs.Pool.{block_lines}
 use Rattle.pm_objects.specs.declared.calls.Operation.{Operation}
-use Rattle.pm_objects.specs.declared.calls.Operation.TheVariants.{Begin, Lock, AddRange, Write, Read, Increment, Alloc, Free, Reserve, WriteReserved, DeferFree, SetValue, Publish, Cancel, Commit, Abort}
+use Rattle.pm_objects.specs.declared.calls.Operation.TheVariants.{Begin, Lock, AddRange, Write, Read, Increment, Alloc, Free, Reserve, Publish, Commit, Abort}
 use Rattle.pm_objects.specs.declared.calls.Want.{Want}
 use Rattle.pm_objects.specs.declared.history.TxErr.{TxErr}
 use Rattle.pm_objects.specs.declared.history.TxErr.TheVariants as error
@@ -19,16 +19,16 @@ use Rattle.pm_objects.specs.declared.history.Value.TheVariants.{Offset, Number, 
 use Rattle.pm_objects.specs.declared.ids.Oid.{Oid}
 use Rattle.pm_objects.specs.declared.refusal.Refusal.{Refusal}
 use Rattle.pm_model.specs.Items.{Edit, Item, Items, PlainPool, all_edited, bytes_at, edited, freed_item, is_root, made_item, new_item, number_at, number_bytes, put_into}
-use Rattle.pm_model.specs.Blocks.{AreAllFree, Block, IsFree, are_covered, blocks_at, covers, first_line, item_covers}
+use Rattle.pm_model.specs.Blocks.{AreAllFree, Block, IsFree, blocks_at, covers, first_line, item_covers}
 use Rattle.pm_model.specs.Pending.{Pending, Reservation, SetWord, block_edits, block_of, blocks_reserved, item_reserved, passes_object, set_edit, set_edits}
-use Rattle.pm_model.specs.Transaction.{Lock as HeldLock, Transaction, aborted, all_locked, committed, ended, holds, idle, is_locked, is_new, is_none, is_working, wants_of_old}
-use Rattle.pm_model.specs.Refusals.{Seen, Test, first_of, is_first_lock, is_listed, is_not_held, refusal_of, tests}
-use Rattle.pm_model.specs.Inside.{AreThere, IsDone, IsOffset, IsPlaced, IsRefused, IsReply, MayBePublished, Ran, Replies, after, after_reply, error_for, incremented, is_action, is_kept, performed, refused, taken_by, value_of, wants_of}
-use Rattle.pm_model.specs.Parts.{Parts, joined, no_parts, of_blocks, part_by, part_of, parts_inside}
+use Rattle.pm_model.specs.Transaction.{Lock as HeldLock, Transaction, aborted, all_locked, committed, ended, holds, idle, is_locked, is_new, is_none, wants_of_old}
+use Rattle.pm_model.specs.Refusals.{Seen, is_first_lock, is_listed, is_not_held, refusal_of, tests}
+use Rattle.pm_model.specs.Inside.{AreThere, IsDone, IsPlaced, IsRefused, IsReply, MayBePublished, Ran, Replies, after, after_reply, error_for, incremented, is_action, is_kept, performed, refused, taken_by, wants_of}
+use Rattle.pm_model.specs.Parts.{Parts, joined, of_blocks, part_by, part_of, parts_inside}
 use Rattle.pm_model.specs.CallStep.{Runs, RunsOn}
-use Rattle.pm_model.proofs.Lists.{Each, IsIn, NoneApplies, SameTests, all_of_each, any_append, any_from, each_append, each_both, each_flat, each_in, each_kept, each_left, each_map, each_of_all, each_right, each_unmap, each_weaker, none_applies, none_pass, same_any, same_first, same_flat, same_tests}
-use Rattle.pm_model.proofs.Edits.{FitsLines, HasLines, InLines, Inside, all_edited_keeps, all_edited_lines, all_edited_mixed, edited_keeps, edited_lines, edited_mixed, freed_in_lines, mixed, mixed_in, mixed_out, mixed_same, put_keeps_lines}
-use Rattle.pm_model.proofs.Locking.{all_locked_from, is_locked_to_read}
+use Rattle.pm_model.proofs.Lists.{Each, NoneApplies, SameTests, all_of_each, any_append, any_from, each_append, each_both, each_flat, each_kept, each_left, each_map, each_of_all, each_right, each_unmap, each_weaker, none_applies, none_pass, same_any, same_first, same_flat, same_tests}
+use Rattle.pm_model.proofs.Edits.{FitsLines, HasLines, InLines, Inside, all_edited_keeps, all_edited_lines, all_edited_mixed, edited_keeps, edited_lines, edited_mixed, freed_in_lines, mixed, mixed_in, mixed_same, put_keeps_lines}
+use Rattle.pm_model.proofs.Locking.{all_locked_from}
 
 held_so : (a h : Bool) → not (a && h) ≡ false → h ≡ true
 held_so true true e = refl
@@ -610,7 +610,7 @@ module _ (here : PlainPool) (I : Items) (R : Option ℕ) (T W B : ℕ → Bool)
   are_there (Lock want) kept reply tx value within there =
       let w : Within T W B (part_by (mine tx) (Lock want) kept None) = subst (λ (r : Option Value). Within T W B (part_by (mine tx) (Lock want) kept r)) value within in
       wants_there tx (want ∷ []) w.locks there
-  are_there op kept reply tx value within there = all_of_each (λ (w : Want). is_first_lock (over tx) w ≡ true → IsSome (mixed T I tx.items w.id.off)) [] tt
+  are_there op kept reply tx value within known = all_of_each (λ (w : Want). is_first_lock (over tx) w ≡ true → IsSome (mixed T I tx.items w.id.off)) [] tt
 
   publishes_there : (op : Operation) (kept : Bool) (reply : Option Value) (tx : Transaction) → IsReply (mine tx) op kept reply → Within T W B (part_by (mine tx) op kept reply)
       → MayBePublished (mine tx) op → MayBePublished (over tx) op
@@ -663,7 +663,7 @@ module _ (here : PlainPool) (I : Items) (R : Option ℕ) (T W B : ℕ → Bool)
   pub run_there : (rest : List Ran) (tx last : Transaction) → tx.before ≡ here → FitsHere tx → Within T W B (parts_inside tx rest) → RunsOn tx rest last → RunThere tx rest last
   unfolding RunsOn parts_inside
   run_there [] tx last is fits within runs =
-      ((runs.0, ap over runs.1), refl, subst (λ (t : Transaction). FitsHere t) (sym runs.1) fits, ap (λ (t : Transaction). t.before) runs.1 ∙ is)
+      (ap over runs, refl, subst (λ (t : Transaction). FitsHere t) (sym runs) fits, ap (λ (t : Transaction). t.before) runs ∙ is)
   run_there (ran ∷ rest) tx last is fits within runs =
       let kept : Bool = is_kept rest in
       let first : Within T W B (part_of tx ran kept) = within_first T W B (part_of tx ran kept) (parts_inside (after ran tx) rest) within in

@@ -22,13 +22,13 @@ pub record CallRun : Type 0 where
 abbrev pub with_pending : (ℕ → Pending) → ℕ → Pending → ℕ → Pending
 with_pending pending lane p k = if k == lane then p else pending k
 
--- the transaction goes on with these operations to its end, where it is committed or aborted
+-- the transaction goes on with these operations, and comes to this
 unfoldable pub RunsOn : Transaction → List Ran → Transaction → Type 0
-RunsOn tx [] last = (is_working tx.stage ≡ false) × (last ≡ tx)
+RunsOn tx [] last = last ≡ tx
 RunsOn tx (ran ∷ rest) last =
     (is_working tx.stage ≡ true) × Replies tx ran (is_kept rest) × RunsOn (after ran tx) rest last
 
--- a transaction of these operations leads from an idle lane to this end
+-- operations lead from an idle lane to this
 unfoldable pub Runs : Transaction → List Ran → Transaction → Type 0
 Runs tx [] last = ⊥
 Runs tx (ran ∷ rest) last = Replies tx ran (is_kept rest) × RunsOn (after ran tx) rest last
@@ -47,6 +47,8 @@ state_with s lane left =
 pub record TransactionStep (s : State) (run : CallRun) (next : State) : Type 0 where
   pub last : Transaction
   pub begins : is_transaction run.operations ≡ true
+  -- it is committed or aborted
+  pub over : is_working last.stage ≡ false
   pub runs : Runs (idle s.pool (s.pending run.lane)) run.operations last
   pub parts : run.parts ≡ parts_inside (idle s.pool (s.pending run.lane)) run.operations
   pub leaves : next ≡ state_with s run.lane (record { pool = pool_of last; pending = last.pending })

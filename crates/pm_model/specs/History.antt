@@ -1,5 +1,5 @@
 -- The history of an opening: its entries in rising number, and the pool after them.
-use Rattle.std.specs.Prelude.{◌≡◌, ℕ, ◌+◌, ◌<◌, ◌≤◌, not, Bool, true, false, IsTrue, List, [], length, take, filter, None, slice_index_or}
+use Rattle.std.specs.Prelude.{◌≡◌, ℕ, ◌+◌, ◌<◌, ◌≤◌, not, Bool, true, false, IsTrue, List, length, take, filter, None, slice_index_or}
 use Rattle.std.specs.List.{AllZip}
 use Rattle.pm_objects.specs.Pool.{object_at}
 use Rattle.pm_objects.specs.declared.history.Entry.{Entry}

@@ -1,5 +1,5 @@
 -- A state read name by name, and which names a call reads and writes.
-use Rattle.std.specs.Prelude.{◌≡◌, ℕ, ◌==◌, ◌&&◌, ◌||◌, not, Bool, true, false, List, [], ◌∷◌, Option}
+use Rattle.std.specs.Prelude.{ℕ, ◌==◌, ◌&&◌, ◌||◌, not, Bool, true, false, List, Option}
 use Rattle.std.specs.List.{list_any}
 use Rattle.pm_objects.specs.declared.calls.Want.{Want}
 use Rattle.pm_model.specs.Items.{Item, is_root}

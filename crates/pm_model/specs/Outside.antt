@@ -17,8 +17,8 @@ use Rattle.pm_objects.specs.declared.history.Value.TheVariants as replied
 use Rattle.pm_objects.specs.declared.ids.Oid.{Oid}
 use Rattle.pm_objects.specs.declared.refusal.Refusal.{Refusal}
 use Rattle.pm_objects.specs.declared.refusal.Refusal.TheVariants as refusal
-use Rattle.pm_model.specs.Items.{Edit, Item, Items, PlainPool, all_edited, bytes_of, freed_item, in_list, is_among, is_root, kind_of, list_of, made_item, members_of, new_item, number_at, number_bytes, put_into, resized_item, size_of, with_members}
-use Rattle.pm_model.specs.Blocks.{AreAllFree, Block, IsNewBlock}
+use Rattle.pm_model.specs.Items.{Edit, Item, Items, PlainPool, all_edited, bytes_of, freed_item, in_list, is_among, is_root, kind_of, made_item, members_of, new_item, number_at, number_bytes, put_into, resized_item, size_of, with_members}
+use Rattle.pm_model.specs.Blocks.{AreAllFree, IsNewBlock}
 use Rattle.pm_model.specs.Pending.{Pending, block_edits, blocks_reserved, new_reservation, none_pending, passes_object, set_edits, want_to_write, wants_pending, with_free, with_put, with_reservation, with_set}
 use Rattle.pm_model.specs.Places.{has_place}
 use Rattle.pm_model.specs.Refusals.{Seen, Test, first_of, has_members, is_listed, is_member, is_size, max_size, pending_tests}

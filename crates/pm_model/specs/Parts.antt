@@ -1,21 +1,19 @@
 -- The parts of a call: the objects that it locks, the root word, and the blocks that it makes,
 -- reserves or frees.
-use Rattle.std.specs.Prelude.{◌≡◌, ℕ, ◌+◌, ◌==◌, ◌&&◌, ◌||◌, not, Bool, true, false, if◌then◌else◌, List, [], ◌∷◌, ◌++◌, map, filter, Option, None, Some}
-use Rattle.std.specs.List.{flat_map, list_all, list_any}
+use Rattle.std.specs.Prelude.{◌&&◌, ◌||◌, Bool, true, false, if◌then◌else◌, List, [], ◌∷◌, ◌++◌, Option, Some}
+use Rattle.std.specs.List.{flat_map, list_all}
 use Rattle.std.specs.Option.{option_map_or}
 use Rattle.pm_objects.specs.declared.calls.Operation.{Operation}
 use Rattle.pm_objects.specs.declared.calls.Operation.TheVariants.{Begin, Lock, Alloc, Free, Reserve, Publish, Root, RootSize}
 use Rattle.pm_objects.specs.declared.calls.Want.{Want}
 use Rattle.pm_objects.specs.declared.history.Value.{Value}
-use Rattle.pm_objects.specs.declared.history.Value.TheVariants.{Offset, Refused}
+use Rattle.pm_objects.specs.declared.history.Value.TheVariants.{Refused}
 use Rattle.pm_objects.specs.declared.ids.Oid.{Oid}
-use Rattle.pm_objects.specs.declared.refusal.Refusal.{Refusal}
-use Rattle.pm_model.specs.Items.{Items, PlainPool}
 use Rattle.pm_model.specs.Blocks.{Block, blocks_at}
-use Rattle.pm_model.specs.Pending.{Pending, blocks_reserved}
+use Rattle.pm_model.specs.Pending.{blocks_reserved}
 use Rattle.pm_model.specs.Transaction.{Transaction, wants_of_old}
-use Rattle.pm_model.specs.Refusals.{Seen, first_of}
-use Rattle.pm_model.specs.Inside.{Ran, after, is_kept, wants_of}
+use Rattle.pm_model.specs.Refusals.{first_of}
+use Rattle.pm_model.specs.Inside.{Ran, after, is_kept}
 use Rattle.pm_model.specs.Outside.{Outside, early_tests, is_found, offs_freed, offset_in, size_made, wants_named, wants_then}
 
 pub record Parts : Type 0 where

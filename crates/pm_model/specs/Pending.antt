@@ -1,6 +1,6 @@
 -- Pending actions: what a lane asked for, to be done at once by a later publish
 -- (pmemobj_reserve(3), pmemobj_defer_free(3), pmemobj_set_value(3), pmemobj_publish(3)).
-use Rattle.std.specs.Prelude.{ℕ, ◌+◌, ◌==◌, ◌||◌, nat_lt, Bool, true, false, if◌then◌else◌, List, [], ◌∷◌, ◌++◌, length, map, find, replicate, None, Some}
+use Rattle.std.specs.Prelude.{ℕ, ◌+◌, ◌==◌, ◌||◌, nat_lt, Bool, true, false, if◌then◌else◌, List, [], ◌∷◌, ◌++◌, length, map, find, replicate, None}
 use Rattle.std.specs.List.{list_any}
 use Rattle.std.specs.Option.{option_map_or}
 use Rattle.pm_objects.specs.declared.calls.Want.{Want}

@@ -1,15 +1,15 @@
 -- The refusals of an operation of a transaction: for each a list of tests, and the first that
 -- applies is its refusal.
-use Rattle.std.specs.Prelude.{ℕ, ◌+◌, ◌-◌, ◌%◌, ◌^◌, ◌==◌, ◌&&◌, ◌||◌, not, nat_lt, nat_le, Bool, true, false, if◌then◌else◌, List, [], ◌∷◌, ◌++◌, length, map, filter, Option, None, Some}
+use Rattle.std.specs.Prelude.{ℕ, ◌+◌, ◌%◌, ◌==◌, ◌&&◌, ◌||◌, not, nat_lt, nat_le, Bool, true, false, if◌then◌else◌, List, [], ◌∷◌, ◌++◌, length, filter, Option, None, Some}
 use Rattle.std.specs.List.{list_any, list_all}
 use Rattle.std.specs.Option.{option_map_or}
 use Rattle.pm_objects.specs.declared.calls.Operation.{Operation}
-use Rattle.pm_objects.specs.declared.calls.Operation.TheVariants.{Begin, Lock, AddRange, Write, Read, Increment, Alloc, Free, Reserve, WriteReserved, DeferFree, SetValue, Publish, Cancel, Commit, Abort}
+use Rattle.pm_objects.specs.declared.calls.Operation.TheVariants.{Begin, Lock, AddRange, Write, Read, Increment, Alloc, Free, Reserve, WriteReserved, DeferFree, SetValue, Publish, Commit, Abort}
 use Rattle.pm_objects.specs.declared.calls.Want.{Want}
 use Rattle.pm_objects.specs.declared.ids.Oid.{Oid}
 use Rattle.pm_objects.specs.declared.refusal.Refusal.{Refusal}
 use Rattle.pm_objects.specs.declared.refusal.Refusal.TheVariants as refusal
-use Rattle.pm_model.specs.Items.{Items, bytes_of, is_among, is_root, list_of, members_of, number_at, number_bytes, size_of}
+use Rattle.pm_model.specs.Items.{Items, is_among, is_root, list_of, members_of, size_of}
 use Rattle.pm_model.specs.Pending.{Pending, SetWord, is_reserved, max_actions, passes_object, pending_count, size_reserved}
 use Rattle.pm_model.specs.Places.{has_place}
 use Rattle.pm_model.specs.Transaction.{Transaction, all_locked, covered_words, entries_of, holds, is_gone, is_new, is_working, published, records_of, wants_of_old, words_to_record}

@@ -1,20 +1,15 @@
 -- Small pools for worked examples.
-use Rattle.std.specs.Prelude.{◌≡◌, ℕ, Bool, true, false, List, [], ◌∷◌, ◌++◌, Option, None, Some, replicate}
-use Rattle.pm_objects.specs.declared.calls.At.{At}
-use Rattle.pm_objects.specs.declared.calls.Dest.{Dest}
+use Rattle.std.specs.Prelude.{ℕ, false, [], ◌∷◌, ◌++◌, Option, Some}
 use Rattle.pm_objects.specs.declared.calls.Operation.{Operation}
-use Rattle.pm_objects.specs.declared.calls.Want.{Want}
 use Rattle.pm_objects.specs.declared.history.Value.{Value}
-use Rattle.pm_objects.specs.declared.history.Value.TheVariants.{Offset}
 use Rattle.pm_objects.specs.declared.ids.Oid.{Oid}
 use Rattle.pm_objects.specs.declared.pool.PoolView.{PoolView}
-use Rattle.pm_objects.specs.declared.refusal.Refusal.{Refusal}
 use Rattle.pm_model.specs.Items.{Items, PlainPool, number_bytes, plain_pool}
-use Rattle.pm_model.specs.Pending.{Pending, none_pending, want_to_write}
+use Rattle.pm_model.specs.Pending.{none_pending, want_to_write}
 use Rattle.pm_model.specs.Transaction.{Transaction, begun, idle}
-use Rattle.pm_model.specs.Refusals.{Seen, refusal_of}
+use Rattle.pm_model.specs.Refusals.{Seen}
 use Rattle.pm_model.specs.Inside.{after_reply}
-use Rattle.pm_model.specs.Outside.{Outside, after_reply_outside, refusal_outside}
+use Rattle.pm_model.specs.Outside.{Outside, after_reply_outside}
 
 -- Pool 7 of one lane and one zone. The root at 16512 has eight bytes, of the number 5, and one
 -- member, the object at 16640. The one at 16768 is in no list, and that at 16896 holds its id

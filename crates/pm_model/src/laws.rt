@@ -1,10 +1,12 @@
-ghost use Rattle.std.specs.Prelude.{◌≡◌, ◌≢◌, ◌↔◌, ℕ, Bool, true, not, List, filter};
+ghost use Rattle.std.specs.Prelude.{◌≡◌, ◌≢◌, ◌↔◌, ℕ, Bool, true, not, List, [], ◌∷◌, ◌++◌, filter};
 ghost use Rattle.pm_objects.specs.Pool.{IsPool};
 ghost use Rattle.pm_objects.specs.declared.history.TxErr.TheVariants as error;
 ghost use Rattle.pm_objects.specs.declared.pool.PoolView.{PoolView};
 ghost use Rattle.pm_model.specs.Items.{plain_pool};
 ghost use Rattle.pm_model.specs.Places.{can_begin, CanBegin};
-ghost use Rattle.pm_model.specs.CallStep.{CallRun, CallStep, State, TransactionStep};
+ghost use Rattle.pm_model.specs.CallStep.{CallRun, CallStep, Runs, State, TransactionStep};
+ghost use Rattle.pm_model.specs.Inside.{Ran, Replies, after};
+ghost use Rattle.pm_model.specs.Transaction.{Transaction, is_working};
 ghost use Rattle.pm_model.specs.Framed.{IsUnwritten, MayBeLeftOut};
 ghost use Rattle.pm_model.specs.Names.{Apart, ApartFromAll, IsFramedCall, Name, Replays, content, touches, writes};
 ghost use Rattle.pm_model.specs.Shown.{error_of};
@@ -62,4 +64,10 @@ pub fn aborted_calls_change_nothing()
 /// A law: a block can begin before an offset exactly where whole chunks or a block of a run can. No code runs.
 pub fn blocks_begin_at_chunks_and_in_runs()
     ensures { (lanes zones off : ℕ) → (can_begin lanes zones off ≡ true) ↔ CanBegin lanes zones off }
+{}
+
+/// A law: a transaction at work goes on with one more operation. What it replied before stands, also where that is a cancel. No code runs.
+pub fn transactions_grow_at_their_end()
+    ensures { (operations : List Ran) (ran : Ran) (tx mid : Transaction) → Runs tx operations mid → is_working mid.stage ≡ true → Replies mid ran true
+        → Runs tx (operations ++ ran ∷ []) (after ran mid) }
 {}

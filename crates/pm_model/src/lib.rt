@@ -42,7 +42,7 @@ pub use laws::{
     aborted_calls_change_nothing, apart_calls_change_places, apart_calls_come_last,
     apart_calls_may_be_left_out, blocks_begin_at_chunks_and_in_runs, calls_have_parts,
     late_calls_stand_earlier, pools_are_known_by_their_items, replies_fix_the_next_state,
-    states_are_known_by_names,
+    states_are_known_by_names, transactions_grow_at_their_end,
 };
 pub use stage::Stage;
 
