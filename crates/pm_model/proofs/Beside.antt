@@ -402,8 +402,8 @@ module _ (here : PlainPool) (I : Items) (R : Option ℕ) (T W B : ℕ → Bool)
       ap (λ (ms : List ℕ). with_members head.off (inserted at id.off ms)
       ∷ in_list id.off (Some head.off) ∷ []) (members_at head.off named.0.0)
   edits_there (InsertNew head at size kind) off named more root free =
-      ap (λ (ms : List ℕ). with_members head.off (inserted at off ms)
-      ∷ made_item off (new_item kind size (Some head.off)) ∷ [])
+      ap (λ (ms : List ℕ). made_item off (new_item kind size None)
+      ∷ with_members head.off (inserted at off ms) ∷ in_list off (Some head.off) ∷ [])
       (members_at head.off named.0.0)
   edits_there (Remove head id free_too) off named more root free =
       ap (λ (ms : List ℕ). (with_members head.off (taken_out id.off ms) ∷ in_list id.off None
@@ -629,15 +629,14 @@ module _ (here : PlainPool) (I : Items) (R : Option ℕ) (T W B : ℕ → Bool)
     ((named.1.0.1 refl, inl (list_keeps_lines id.off (Some head.off))), tt),
   )
   edits_fit (InsertNew head at size kind) reply named more free may value has freed = (
+    makes_fit size (new_item kind size None) reply (length-replicate size 0) value has,
     (
-      named.0.1 refl,
-      inl (members_keep_lines head.off
-          (inserted at (offset_in reply) (members_of here.items head.off))),
-    ),
-    (
-      makes_fit size (new_item kind size (Some head.off)) reply
-          (length-replicate size 0) value has,
-      tt,
+      (
+        named.0.1 refl,
+        inl (members_keep_lines head.off
+            (inserted at (offset_in reply) (members_of here.items head.off))),
+      ),
+      ((has.0.0, inl (list_keeps_lines (offset_in reply) (Some head.off))), tt),
     ),
   )
   edits_fit (Remove head id free_too) reply named more free may value has freed =

@@ -9,3 +9,4 @@ pub mod Ends
 pub mod Known
 pub mod Beginning
 pub mod Growing
+pub mod Members

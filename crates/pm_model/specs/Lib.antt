@@ -8,6 +8,7 @@ pub mod Inside
 pub mod Outside
 pub mod Parts
 pub mod CallStep
+pub mod Sound
 pub mod Framed
 pub mod Names
 pub mod Shown

@@ -267,6 +267,10 @@ abbrev pub taken_from : PlainPool → ℕ → ℕ → List Edit
 taken_from pool head off =
     with_members head (taken_out off (members_of pool.items head)) ∷ in_list off None ∷ []
 
+-- an object is put into the list of a head, which has these members then
+abbrev pub put_in : ℕ → List ℕ → ℕ → List Edit
+put_in head members off = with_members head members ∷ in_list off (Some head) ∷ []
+
 abbrev pub root_edits : PlainPool → ℕ → ℕ → List Edit
 root_edits pool size off =
     option_map_or (λ old. freed_item old
@@ -286,18 +290,15 @@ edits_of pool p (ReallocAt dest size kind) off =
 edits_of pool p (FreeAt dest) off =
     if is_null (id_in pool.items dest) then [] else id_edit dest 0 0 ∷ free_target pool dest
 edits_of pool p (Insert head at id) off =
-    with_members head.off (inserted at id.off (members_of pool.items head.off))
-    ∷ in_list id.off (Some head.off) ∷ []
+    put_in head.off (inserted at id.off (members_of pool.items head.off)) id.off
 edits_of pool p (InsertNew head at size kind) off =
-    with_members head.off (inserted at off (members_of pool.items head.off))
-    ∷ made_item off (new_item kind size (Some head.off)) ∷ []
+    made_item off (new_item kind size None)
+    ∷ put_in head.off (inserted at off (members_of pool.items head.off)) off
 edits_of pool p (Remove head id free) off =
     taken_from pool head.off id.off ++ (if free then freed_item id.off ∷ [] else [])
 edits_of pool p (MoveTo head new_head at id) off =
     let second = taken_out id.off (members_of pool.items new_head.off) in
-    taken_from pool head.off id.off
-    ++ with_members new_head.off (inserted at id.off second)
-    ∷ in_list id.off (Some new_head.off) ∷ []
+    taken_from pool head.off id.off ++ put_in new_head.off (inserted at id.off second) id.off
 edits_of pool p (Root size) off = if root_grows pool size then root_edits pool size off else []
 edits_of pool p op off = []
 
