@@ -10,3 +10,4 @@ pub mod Known
 pub mod Beginning
 pub mod Growing
 pub mod Members
+pub mod Sounds
