@@ -11,3 +11,4 @@ pub mod Beginning
 pub mod Growing
 pub mod Members
 pub mod Sounds
+pub mod SoundTransactions

@@ -121,7 +121,7 @@ covers_from : (first n : ℕ) → 1 ≤ n → (leb first first && ltb first (fir
 covers_from first n some = and_from (leb first first) (ltb first (first + n))
     (le-leb first first (omega arith)) (lt-ltb first (first + n) (omega arith))
 
-covers_first : (b : Block) → covers b (first_line b) ≡ true
+pub covers_first : (b : Block) → covers b (first_line b) ≡ true
 covers_first b = covers_from (first_line b) (block_lines (class_of b.size)) (has_lines b.size)
 
 -- each of blocks that may be taken one after another is free of the objects

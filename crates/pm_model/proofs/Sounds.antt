@@ -26,7 +26,7 @@ same_under g f same false o = refl
 
 set_under : {A : Type 0} (g : Option Item → A) (f : Item → Item) (v : A) → ((i : Item) → g (Some (f i)) ≡ v) → (b : Bool) (o : Option Item) → (b ≡ true → IsSome o)
     → g (cond b (option_map f o) o) ≡ cond b v (g o)
-set_under g f v is true None some = absurd (some refl)
+set_under g f v is true None some = absurd (false≢true (some refl))
 set_under g f v is true (Some i) some = is i
 set_under g f v is false o some = refl
 
@@ -45,12 +45,12 @@ as_length : (x l : ℕ) (o : Option Item) → item_covers x o l ≡ option_map_o
 as_length x l None = refl
 as_length x l (Some i) = refl
 
-covers_same : (x l : ℕ) (o p : Option Item) → length_in o ≡ length_in p → item_covers x o l ≡ item_covers x p l
+pub covers_same : (x l : ℕ) (o p : Option Item) → length_in o ≡ length_in p → item_covers x o l ≡ item_covers x p l
 covers_same x l o p same =
     as_length x l o ∙ (ap (λ (n : Option ℕ). option_map_or (λ k. covers (record { off = x; size = k }) l) n false) same ∙ sym (as_length x l p))
 
-some_same : (o p : Option Item) → length_in o ≡ length_in p → IsSome p → IsSome o
-some_same (Some i) p same some = tt
+pub some_same : (o p : Option Item) → length_in o ≡ length_in p → IsSome p → IsSome o
+some_same (Some i) p same some = refl
 some_same None (Some j) same some = absurd (let bad : None ≡ Some (length j.bytes) = same in let no : ⊥ = cc in no)
 some_same None None same some = some
 
@@ -138,7 +138,7 @@ made_sound off item items root empty alone unlisted size free sound = record {
   once = λ head. ⊎_elim (λ (t : eqb off head ≡ true). subst AreOnce (sym (ap members_in (at_off head t) ∙ alone)) tt)
       (λ (f : eqb off head ≡ false). subst AreOnce (sym (ap members_in (else head f))) (sound.once head)) (cases_Bool (eqb off head));
   root_there = roots_from items (edited (made_item off item) items) root
-      (λ x some is. ⊎_elim (λ (t : eqb off x ≡ true). subst (λ (o : Option Item). IsSome o) (sym (at_off x t)) tt)
+      (λ x some is. ⊎_elim (λ (t : eqb off x ≡ true). subst (λ (o : Option Item). IsSome o) (sym (at_off x t)) refl)
       (λ (f : eqb off x ≡ false). subst (λ (o : Option Item). IsSome o) (sym (else x f)) some) (cases_Bool (eqb off x))) sound.root_there;
 } where
   at_off : (x : ℕ) → eqb off x ≡ true → edited (made_item off item) items x ≡ Some item
