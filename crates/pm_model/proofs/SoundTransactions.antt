@@ -144,3 +144,149 @@ module _ (root : Option ℕ) where
   unfolding all_edited
   sets_sound [] items sound = sound
   sets_sound (a ∷ sets) items sound = sets_sound sets (edited (set_edit a) items) (put_sound a.id.off a.off (number_bytes a.value) items root sound)
+
+-- ---- a transaction
+
+SizesOf : Pending → Type 0
+SizesOf p = Each (λ (r : Reservation). is_size (length r.bytes) ≡ true) p.reserved
+
+-- its copy is sound, and while it works each line of an object is one of the pool's before or of what it made
+pub record TxSound (tx : Transaction) : Type 0 where
+  pub items : IsSound tx.items tx.before.root
+  pub before : IsSound tx.before.items tx.before.root
+  pub covered : is_working tx.stage ≡ true → Covered tx.before.root tx.before.items tx.made tx.items
+  pub sizes : Each (λ (r : Reservation). is_size (length r.bytes) ≡ true) tx.pending.reserved
+
+size_so : (b : Bool) → not b ≡ false → b ≡ true
+size_so true e = refl
+size_so false e = absurd (false≢true (sym e))
+
+sound_by : (op : Operation) (tx : Transaction) (reply value : Option Value) → reply ≡ value → TxSound (after_reply op value tx) → TxSound (after_reply op reply tx)
+sound_by op tx reply value is sound = subst (λ (r : Option Value). TxSound (after_reply op r tx)) (sym is) sound
+
+written_sound : (off at : ℕ) (bytes : List ℕ) (tx : Transaction) → TxSound tx → TxSound (record tx { items = edited (put_into off at bytes) tx.items })
+written_sound off at bytes tx sound = record {
+  items = put_sound off at bytes tx.items tx.before.root sound.items;
+  before = sound.before;
+  covered = λ works x l e. sound.covered works x l (sym (put_lines off at bytes tx.items x l) ∙ e);
+  sizes = sound.sizes;
+}
+
+aborted_sound : (e : TxErr) (tx : Transaction) → TxSound tx → TxSound (aborted e tx)
+aborted_sound e tx sound = record { items = sound.before; before = sound.before; covered = λ works. absurd (false≢true works); sizes = sound.sizes }
+
+ended_sound : (tx : Transaction) → is_working tx.stage ≡ true → TxSound tx → TxSound (ended (committed tx))
+ended_sound tx works sound = by (leb tx.level 1) where
+  inner : (b : Bool) → TxSound (record (committed tx) { level = tx.level - 1; stage = cond b Rattle.pm_model.specs.declared.stage.Stage.TheVariants.Work Rattle.pm_model.specs.declared.stage.Stage.TheVariants.OnAbort })
+  inner b = record { items = sound.items; before = sound.before; covered = λ w. sound.covered works; sizes = sound.sizes }
+  by : (b : Bool) → TxSound (cond b (record (idle tx.before tx.pending) { items = all_edited (set_edits tx.sets) tx.items })
+      (record (committed tx) { level = tx.level - 1; stage = cond (is_none tx.error) Rattle.pm_model.specs.declared.stage.Stage.TheVariants.Work Rattle.pm_model.specs.declared.stage.Stage.TheVariants.OnAbort }))
+  by true = record { items = sets_sound tx.before.root tx.sets tx.items sound.items; before = sound.before; covered = λ w. absurd (false≢true w); sizes = sound.sizes }
+  by false = inner (is_none tx.error)
+
+allocated_sound : (off size kind : ℕ) (tx : Transaction) → is_working tx.stage ≡ true → is_size size ≡ true → IsFree tx.before.items (taken_by tx) (record { off = off; size = size }) → TxSound tx
+    → TxSound (record tx { items = edited (made_item off (new_item kind size None)) tx.items; made = record { off = off; size = length (new_item kind size None).bytes } ∷ tx.made })
+allocated_sound off size kind tx works fits free sound =
+    let long : size ≡ length (replicate size 0) = sym (length-replicate size 0) in
+    let alone : IsFree tx.before.items tx.made (record { off = off; size = size }) = record {
+      objects = free.objects;
+      others = λ l c. (or_parts (are_covered tx.made l) (are_covered (blocks_reserved tx.pending) l) (sym (any_append (λ (b : Block). covers b l) tx.made (blocks_reserved tx.pending)) ∙ free.others l c)).0;
+    } in
+    let made = made_sound_in tx.before.root tx.before.items tx.made off (new_item kind size None) tx.items refl refl (subst (λ (n : ℕ). is_size n ≡ true) long fits)
+    (subst (λ (n : ℕ). IsFree tx.before.items tx.made (record { off = off; size = n })) long alone) (sound.covered works) sound.items in
+    record { items = made.0; before = sound.before; covered = λ w. made.1; sizes = sound.sizes }
+
+-- bytes put into what is reserved leave its size
+put_sizes : (off at : ℕ) (bytes : List ℕ) (rs : List Reservation) → Each (λ (r : Reservation). is_size (length r.bytes) ≡ true) rs
+    → Each (λ (r : Reservation). is_size (length r.bytes) ≡ true) (map (λ (r : Reservation). cond (eqb r.off off) (record r { bytes = put_bytes at bytes r.bytes }) r) rs)
+put_sizes off at bytes rs sizes =
+    each_map (λ (r : Reservation). is_size (length r.bytes) ≡ true) (λ (r : Reservation). cond (eqb r.off off) (record r { bytes = put_bytes at bytes r.bytes }) r) rs
+    (each_weaker (λ (r : Reservation). is_size (length r.bytes) ≡ true) (λ (r : Reservation). is_size (length (cond (eqb r.off off) (record r { bytes = put_bytes at bytes r.bytes }) r).bytes) ≡ true) rs
+    (λ r s. by r s (eqb r.off off)) sizes) where
+      by : (r : Reservation) → is_size (length r.bytes) ≡ true → (b : Bool) → is_size (length (cond b (record r { bytes = put_bytes at bytes r.bytes }) r).bytes) ≡ true
+      by r s true = ap is_size (put_length at bytes r.bytes) ∙ s
+      by r s false = s
+
+pub new_sizes : (off kind size : ℕ) (rs : List Reservation) → is_size size ≡ true → Each (λ (r : Reservation). is_size (length r.bytes) ≡ true) rs
+    → Each (λ (r : Reservation). is_size (length r.bytes) ≡ true) (rs ++ record { off = off; kind = kind; bytes = replicate size 0 } ∷ [])
+new_sizes off kind size rs fits sizes =
+    each_append (λ (r : Reservation). is_size (length r.bytes) ≡ true) rs (record { off = off; kind = kind; bytes = replicate size 0 } ∷ []) sizes
+    (ap is_size (length-replicate size 0) ∙ fits, tt)
+
+sound_left : (seen : Seen) (op : Operation) (kept : Bool) (reply : Option Value) (tx : Transaction) → is_working tx.stage ≡ true → NoneApplies (tests seen tx op) → IsDone tx op kept reply
+    → TxSound tx → TxSound (after_reply op reply tx)
+sound_left seen (Begin wants) kept reply tx works none done sound =
+    sound_by (Begin wants) tx reply None done.value (record { items = sound.items; before = sound.before; covered = λ w. sound.covered works; sizes = sound.sizes })
+sound_left seen (Lock want) kept reply tx works none done sound =
+    sound_by (Lock want) tx reply None done.value (record { items = sound.items; before = sound.before; covered = sound.covered; sizes = sound.sizes })
+sound_left seen (AddRange id at len) kept reply tx works none done sound =
+    sound_by (AddRange id at len) tx reply None done.value (record { items = sound.items; before = sound.before; covered = sound.covered; sizes = sound.sizes })
+sound_left seen (Write id at bytes) kept reply tx works none done sound = sound_by (Write id at bytes) tx reply None done.value (written_sound id.off at bytes tx sound)
+sound_left seen (Increment id at by) kept reply tx works none done sound =
+    let n : ℕ = incremented tx id.off at by in
+    sound_by (Increment id at by) tx reply (Some (Number n)) done.value (written_sound id.off at (number_bytes n) tx sound)
+sound_left seen (Read id at len) kept reply tx works none done sound = sound_by (Read id at len) tx reply (value_of tx (Read id at len)) done.value sound
+sound_left seen (Alloc size kind) kept reply tx works none done sound =
+    sound_by (Alloc size kind) tx reply (Some (Offset done.value.0)) done.value.2
+    (allocated_sound done.value.0 size kind tx works (size_so (is_size size) none.1.1.0) done.value.1.1 sound)
+sound_left seen (Free id) kept reply tx works none done sound =
+    let alone : Unlisted tx.items id.off = unlisted tx.items id.off none.1.1.1.1.1.0 in
+    sound_by (Free id) tx reply None done.value (record {
+      items = freed_sound id.off tx.items tx.before.root alone.0 alone.1 none.1.1.1.1.0 sound.items;
+      before = sound.before;
+      covered = λ w x l e. sound.covered works x l (freed_lines id.off tx.items x l e);
+      sizes = sound.sizes;
+    })
+sound_left seen Publish kept reply tx works none done sound =
+    let root : Option ℕ = tx.before.root in
+    let frees : List Edit = map (λ (id : Oid). freed_item id.off) tx.pending.frees in
+    let makes : List Edit = map (λ (r : Reservation). made_item r.off (item_reserved r)) tx.pending.reserved in
+    let freed = frees_sound root tx.pending.frees tx.items
+    (each_weaker (λ (id : Oid). is_listed tx.items id.off ≡ false) (λ (id : Oid). Unlisted tx.items id.off) tx.pending.frees (λ id e. unlisted tx.items id.off e)
+    (none_pass (λ (id : Oid). is_listed tx.items id.off) tx.pending.frees none.1.1.1.1.1.0))
+    (none_pass (λ (id : Oid). is_root root id.off) tx.pending.frees none.1.1.1.1.0) sound.items in
+    let made = reserved_sound root tx.before.items tx.pending.reserved tx.made (all_edited frees tx.items) done.publishes sound.sizes
+    (λ x l e. sound.covered works x l (freed.1 x l e)) freed.0 in
+    let at : all_edited makes (all_edited frees tx.items) ≡ all_edited (block_edits tx.pending) tx.items = sym (edits_append frees makes tx.items) in
+    sound_by Publish tx reply None done.value (record {
+      items = subst (λ (i : Items). IsSound i root) at made.0;
+      before = sound.before;
+      covered = λ w. subst (λ (i : Items). Covered root tx.before.items (blocks_reserved tx.pending ++ tx.made) i) at made.1;
+      sizes = tt;
+    })
+sound_left seen Commit kept reply tx works none done sound = sound_by Commit tx reply None done.value (ended_sound tx works sound)
+sound_left seen (Abort errnum) kept reply tx works none done sound = sound_by (Abort errnum) tx reply None done.value (aborted_sound (error_for errnum) tx sound)
+sound_left seen (Reserve size kind) kept reply tx works none done sound =
+    sound_by (Reserve size kind) tx reply (Some (Offset done.value.0)) done.value.2 (record {
+      items = sound.items;
+      before = sound.before;
+      covered = sound.covered;
+      sizes = new_sizes done.value.0 kind size tx.pending.reserved (size_so (is_size size) none.0) sound.sizes;
+    })
+sound_left seen (WriteReserved id at bytes) kept reply tx works none done sound =
+    sound_by (WriteReserved id at bytes) tx reply None done.value
+    (record { items = sound.items; before = sound.before; covered = sound.covered; sizes = put_sizes id.off at bytes tx.pending.reserved sound.sizes })
+sound_left seen (DeferFree id) kept reply tx works none done sound =
+    sound_by (DeferFree id) tx reply None done.value (record { items = sound.items; before = sound.before; covered = sound.covered; sizes = sound.sizes })
+sound_left seen (SetValue id at value) kept reply tx works none done sound =
+    sound_by (SetValue id at value) tx reply None done.value (record { items = sound.items; before = sound.before; covered = sound.covered; sizes = sound.sizes })
+sound_left seen Cancel kept reply tx works none done sound =
+    sound_by Cancel tx reply None done.value (record { items = sound.items; before = sound.before; covered = sound.covered; sizes = tt })
+sound_left seen op kept reply tx works none done sound = sound_by op tx reply None done.value sound
+
+sound_refused : (op : Operation) (r : Refusal) (tx : Transaction) → TxSound tx → TxSound (after_reply op (Some (Refused r)) tx)
+sound_refused op r tx sound = by (is_action op) where
+  by : (b : Bool) → TxSound (cond b tx (aborted (error.Refused r) tx))
+  by true = sound
+  by false = aborted_sound (error.Refused r) tx sound
+
+step_sound : (ran : Ran) (kept : Bool) (tx : Transaction) → is_working tx.stage ≡ true → Replies tx ran kept → TxSound tx → TxSound (after ran tx)
+step_sound ran kept tx works replies sound = by (refusal_of ran.seen tx ran.operation) refl replies.reply where
+  by : (o : Option Refusal) → refusal_of ran.seen tx ran.operation ≡ o → MatchOption o (IsDone tx ran.operation kept ran.reply) (λ r. IsRefused r ran.reply) → TxSound (after ran tx)
+  by None is done = sound_left ran.seen ran.operation kept ran.reply tx works (none_applies (tests ran.seen tx ran.operation) is) done sound
+  by (Some r) is refused = sound_by ran.operation tx ran.reply (Some (Refused r)) refused.replied (sound_refused ran.operation r tx sound)
+
+pub run_sound : (rest : List Ran) (tx last : Transaction) → TxSound tx → RunsOn tx rest last → TxSound last
+unfolding RunsOn
+run_sound [] tx last sound runs = subst TxSound (sym runs) sound
+run_sound (ran ∷ rest) tx last sound runs = run_sound rest (after ran tx) last (step_sound ran (is_kept rest) tx runs.0 runs.1 sound) runs.2
