@@ -47,7 +47,7 @@ named_and false x y same = refl
 resized_by : (size n front back : ℕ) → front ≡ min size n → back ≡ size - n → front + back ≡ size
 resized_by size n front back one other = omega arith
 
-resized_length : (kind size : ℕ) (bytes : List ℕ)
+pub resized_length : (kind size : ℕ) (bytes : List ℕ)
     → length (resized_item kind size bytes).bytes ≡ size
 resized_length kind size bytes =
     length-append (take size bytes) (replicate (size - length bytes) 0)

@@ -12,3 +12,4 @@ pub mod Growing
 pub mod Members
 pub mod Sounds
 pub mod SoundTransactions
+pub mod SoundCalls

@@ -17,8 +17,8 @@ use Rattle.pm_model.specs.Blocks.{AreAllFree, Block, IsFree, are_covered, covers
 use Rattle.pm_model.specs.Pending.{Pending, Reservation, SetWord, block_edits, block_of, blocks_reserved, item_reserved, set_edit, set_edits}
 use Rattle.pm_model.specs.Transaction.{Transaction, aborted, committed, ended, idle, is_none, is_working}
 use Rattle.pm_model.specs.Refusals.{Seen, has_members, is_listed, is_member, is_not_held, is_size, refusal_of, tests}
-use Rattle.pm_model.specs.Inside.{IsDone, IsRefused, Ran, Replies, after, after_reply, error_for, incremented, is_action, is_kept, taken_by, value_of}
-use Rattle.pm_model.specs.CallStep.{Runs, RunsOn}
+use Rattle.pm_model.specs.Inside.{IsDone, IsRefused, Ran, Replies, after, after_reply, error_for, incremented, is_action, is_begin, is_kept, taken_by, value_of}
+use Rattle.pm_model.specs.CallStep.{Runs, RunsOn, is_transaction}
 use Rattle.pm_model.specs.Sound.{IsSound}
 use Rattle.pm_model.proofs.Lists.{Each, NoneApplies, any_append, each_append, each_both, each_map, each_unmap, each_weaker, none_applies, none_pass}
 use Rattle.pm_model.proofs.Edits.{put_length}
@@ -66,11 +66,11 @@ nothing_at off size items free = by (items off) refl where
 abbrev pub Unlisted : Items → ℕ → Type 0
 Unlisted items off = (list_of items off ≡ None) × (members_of items off ≡ [])
 
-no_list : (o : Option ℕ) → option_map_or (λ (head : ℕ). true) o false ≡ false → o ≡ None
+pub no_list : (o : Option ℕ) → option_map_or (λ (head : ℕ). true) o false ≡ false → o ≡ None
 no_list None e = refl
 no_list (Some h) e = absurd (false≢true (sym e))
 
-no_members : (ms : List ℕ) → leb 1 (length ms) ≡ false → ms ≡ []
+pub no_members : (ms : List ℕ) → leb 1 (length ms) ≡ false → ms ≡ []
 no_members [] e = refl
 no_members (m ∷ ms) e = absurd (let k : 1 ≤ length (m ∷ ms) = omega arith in let bad : leb 1 (length (m ∷ ms)) ≡ true = le-leb 1 (length (m ∷ ms)) k in false≢true (sym e ∙ bad))
 
@@ -197,7 +197,7 @@ allocated_sound off size kind tx works fits free sound =
     record { items = made.0; before = sound.before; covered = λ w. made.1; sizes = sound.sizes }
 
 -- bytes put into what is reserved leave its size
-put_sizes : (off at : ℕ) (bytes : List ℕ) (rs : List Reservation) → Each (λ (r : Reservation). is_size (length r.bytes) ≡ true) rs
+pub put_sizes : (off at : ℕ) (bytes : List ℕ) (rs : List Reservation) → Each (λ (r : Reservation). is_size (length r.bytes) ≡ true) rs
     → Each (λ (r : Reservation). is_size (length r.bytes) ≡ true) (map (λ (r : Reservation). cond (eqb r.off off) (record r { bytes = put_bytes at bytes r.bytes }) r) rs)
 put_sizes off at bytes rs sizes =
     each_map (λ (r : Reservation). is_size (length r.bytes) ≡ true) (λ (r : Reservation). cond (eqb r.off off) (record r { bytes = put_bytes at bytes r.bytes }) r) rs
@@ -290,3 +290,22 @@ pub run_sound : (rest : List Ran) (tx last : Transaction) → TxSound tx → Run
 unfolding RunsOn
 run_sound [] tx last sound runs = subst TxSound (sym runs) sound
 run_sound (ran ∷ rest) tx last sound runs = run_sound rest (after ran tx) last (step_sound ran (is_kept rest) tx runs.0 runs.1 sound) runs.2
+
+-- from its begin on
+first_sound : (pool : PlainPool) (pending : Pending) (op : Operation) (seen : Seen) (reply : Option Value) (kept : Bool) → is_begin op ≡ true → IsSound pool.items pool.root → SizesOf pending
+    → Replies (idle pool pending) (record { operation = op; seen = seen; reply = reply }) kept → TxSound (after_reply op reply (idle pool pending))
+unfolding SizesOf
+first_sound pool pending (Begin wants) seen reply kept begins sound sizes replies = by (refusal_of seen (idle pool pending) (Begin wants)) replies.reply where
+  by : (o : Option Refusal) → MatchOption o (IsDone (idle pool pending) (Begin wants) kept reply) (λ r. IsRefused r reply) → TxSound (after_reply (Begin wants) reply (idle pool pending))
+  by None done = sound_by (Begin wants) (idle pool pending) reply None done.value (record { items = sound; before = sound; covered = λ w x l e. inl e; sizes = sizes })
+  by (Some r) refused =
+      sound_by (Begin wants) (idle pool pending) reply (Some (Refused r)) refused.replied
+      (record { items = sound; before = sound; covered = λ w. absurd (false≢true w); sizes = sizes })
+first_sound pool pending op seen reply kept begins sound sizes replies = absurd (false≢true begins)
+
+pub runs_sound : (operations : List Ran) (pool : PlainPool) (pending : Pending) (last : Transaction) → is_transaction operations ≡ true → IsSound pool.items pool.root
+    → Each (λ (r : Reservation). is_size (length r.bytes) ≡ true) pending.reserved → Runs (idle pool pending) operations last → TxSound last
+unfolding Runs SizesOf
+runs_sound [] pool pending last begins sound sizes runs = absurd runs
+runs_sound (ran ∷ rest) pool pending last begins sound sizes runs =
+    run_sound rest (after ran (idle pool pending)) last (first_sound pool pending ran.operation ran.seen ran.reply (is_kept rest) begins sound sizes runs.0) runs.1

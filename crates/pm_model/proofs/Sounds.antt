@@ -253,3 +253,31 @@ relinked_sound head off ms joins items root head_there off_there was among once 
       let old : is_among (members_of items head) x ≡ true = ap (λ (y : ℕ). is_among (members_of items y) x) (eqb-true head h t) ∙ sound.listed h x (sym (list_else x g) ∙ e) in
       ap (λ (l : List ℕ). is_among l x) (members_here h t) ∙ (among x ∙ (ap (λ (b : Bool). cond b joins (is_among (members_of items head) x)) g ∙ old))
   listed h x e (inr f) (inr g) = ap (λ (l : List ℕ). is_among l x) (members_else h f) ∙ sound.listed h x (sym (list_else x g) ∙ e)
+
+-- what stands in a list, and which members a head has, after that
+pub relinked_members : (head off : ℕ) (ms : List ℕ) (list : Option ℕ) (items : Items) → IsSome (items head) → (x : ℕ)
+    → members_of (all_edited (linked_in head ms off list) items) x ≡ cond (eqb head x) ms (members_of items x)
+unfolding all_edited
+relinked_members head off ms list items there x =
+    same_under members_in (λ (i : Item). record i { list = list }) (λ i. refl) (eqb off x) (cond (eqb head x) (option_map (λ (i : Item). record i { members = ms }) (items x)) (items x))
+    ∙ set_under members_in (λ (i : Item). record i { members = ms }) ms (λ i. refl) (eqb head x) (items x) (λ e. subst (λ (y : ℕ). IsSome (items y)) (eqb-true head x e) there)
+
+pub relinked_lengths : (head off : ℕ) (ms : List ℕ) (list : Option ℕ) (items : Items) (x : ℕ) → length_in (all_edited (linked_in head ms off list) items x) ≡ length_in (items x)
+unfolding all_edited
+relinked_lengths head off ms list items x =
+    same_under length_in (λ (i : Item). record i { list = list }) (λ i. refl) (eqb off x) (cond (eqb head x) (option_map (λ (i : Item). record i { members = ms }) (items x)) (items x))
+    ∙ same_under length_in (λ (i : Item). record i { members = ms }) (λ i. refl) (eqb head x) (items x)
+
+pub relinked_list : (head off : ℕ) (ms : List ℕ) (list : Option ℕ) (items : Items) → IsSome (items off) → (x : ℕ)
+    → list_of (all_edited (linked_in head ms off list) items) x ≡ cond (eqb off x) list (list_of items x)
+unfolding all_edited
+relinked_list head off ms list items there x =
+    let between : Option Item = cond (eqb head x) (option_map (λ (i : Item). record i { members = ms }) (items x)) (items x) in
+    set_under list_in (λ (i : Item). record i { list = list }) list (λ i. refl) (eqb off x) between
+    (λ e. some_same between (items x) (same_under length_in (λ (i : Item). record i { members = ms }) (λ i. refl) (eqb head x) (items x)) (subst (λ (y : ℕ). IsSome (items y)) (eqb-true off x e) there))
+    ∙ ap (λ (o : Option ℕ). cond (eqb off x) list o) (same_under list_in (λ (i : Item). record i { members = ms }) (λ i. refl) (eqb head x) (items x))
+
+-- another root
+pub with_root : (items : Items) (root other : Option ℕ) → IfSome other (λ off. IsSome (items off)) → IsSound items root → IsSound items other
+with_root items root other there sound =
+    record { sizes = sound.sizes; apart = sound.apart; linked = sound.linked; listed = sound.listed; once = sound.once; root_there = there }
