@@ -61,26 +61,27 @@ among_less : (dest : ℕ) (before : Bool) (off : ℕ) (members : List ℕ) (x : 
 among_less dest before off [] x else none = refl
 among_less dest before off (m ∷ rest) x else none =
     let p = or_parts (eqb m x) (is_among rest x) none in by (eqb m dest) before p.0 p.1 (among_less dest before off rest x else p.1) where
-  by : (here before_it : Bool) → eqb m x ≡ false → is_among rest x ≡ false → is_among (inserted_beside dest before off rest) x ≡ false
-      → is_among (cond here (cond before_it (off ∷ m ∷ rest) (m ∷ off ∷ rest)) (m ∷ inserted_beside dest before off rest)) x ≡ false
-  by true true a b later = (λ i. else i || (a i || b i))
-  by true false a b later = (λ i. a i || (else i || b i))
-  by false c a b later = (λ i. a i || later i)
+      by : (here before_it : Bool) → eqb m x ≡ false → is_among rest x ≡ false → is_among (inserted_beside dest before off rest) x ≡ false
+          → is_among (cond here (cond before_it (off ∷ m ∷ rest) (m ∷ off ∷ rest)) (m ∷ inserted_beside dest before off rest)) x ≡ false
+      by true true a b later = (λ i. else i || (a i || b i))
+      by true false a b later = (λ i. a i || (else i || b i))
+      by false c a b later = (λ i. a i || later i)
 
 once_beside : (dest : ℕ) (before : Bool) (off : ℕ) (members : List ℕ) → is_among members off ≡ false → AreOnce members → AreOnce (inserted_beside dest before off members)
 once_beside dest before off [] out once = tt
 once_beside dest before off (m ∷ rest) out once =
     by (eqb m dest) before (once_beside dest before off rest (or_parts (eqb m off) (is_among rest off) out).1 once.1) where
-  by : (here before_it : Bool) → AreOnce (inserted_beside dest before off rest) → AreOnce (cond here (cond before_it (off ∷ m ∷ rest) (m ∷ off ∷ rest)) (m ∷ inserted_beside dest before off rest))
-  by true true later = (out, once)
-  by true false later = ((λ i. not_same off m rest out i || once.0 i), ((or_parts (eqb m off) (is_among rest off) out).1, once.1))
-  by false b later = (among_less dest before off rest m (not_same off m rest out) once.0, later)
+      by : (here before_it : Bool) → AreOnce (inserted_beside dest before off rest) → AreOnce (cond here (cond before_it (off ∷ m ∷ rest) (m ∷ off ∷ rest)) (m ∷ inserted_beside dest before off rest))
+      by true true later = (out, once)
+      by true false later = ((λ i. not_same off m rest out i || once.0 i), ((or_parts (eqb m off) (is_among rest off) out).1, once.1))
+      by false b later = (among_less dest before off rest m (not_same off m rest out) once.0, later)
 
 once_behind : (off : ℕ) (members : List ℕ) → is_among members off ≡ false → AreOnce members → AreOnce (members ++ off ∷ [])
 once_behind off [] out once = (refl, tt)
-once_behind off (m ∷ rest) out once =
-    (any_append (λ other. eqb other m) rest (off ∷ []) ∙ (λ i. once.0 i || (not_same off m rest out i || false)),
-    once_behind off rest (or_parts (eqb m off) (is_among rest off) out).1 once.1)
+once_behind off (m ∷ rest) out once = (
+  any_append (λ other. eqb other m) rest (off ∷ []) ∙ (λ i. once.0 i || (not_same off m rest out i || false)),
+  once_behind off rest (or_parts (eqb m off) (is_among rest off) out).1 once.1,
+)
 
 pub once_inserted : (at : At) (off : ℕ) (members : List ℕ) → is_among members off ≡ false → AreOnce members → AreOnce (inserted at off members)
 once_inserted at off members out once = by (is_null at.dest) at.before where
@@ -90,7 +91,6 @@ once_inserted at off members out once = by (is_null at.dest) at.before where
   by false b = once_beside at.dest.off at.before off members out once
 
 -- ---- without one
-
 
 flip : (a b : ℕ) → eqb a b ≡ true → eqb b a ≡ true
 flip a b e = eq-eqb b a (sym (eqb-true a b e))
@@ -104,9 +104,11 @@ among_taken off (m ∷ rest) x = by (eqb m off) refl (among_taken off rest x) wh
   gone : (b : Bool) → eqb m x ≡ b → eqb m off ≡ true → cond (eqb off x) false (is_among rest x) ≡ cond (eqb off x) false (b || is_among rest x)
   gone true e f = ap (λ (c : Bool). cond c false (is_among rest x)) (eq-eqb off x (sym (eqb-true m off f) ∙ eqb-true m x e)) ∙ sym (ap (λ (c : Bool). cond c false true) (eq-eqb off x (sym (eqb-true m off f) ∙ eqb-true m x e)))
   gone false e f = refl
+
   stays : (a b r : Bool) → (a ≡ true → b ≡ false) → (b || cond a false r) ≡ cond a false (b || r)
   stays true b r out = (λ i. out refl i || false)
   stays false b r out = refl
+
   by : (b : Bool) → eqb m off ≡ b → is_among (taken_out off rest) x ≡ cond (eqb off x) false (is_among rest x)
       → is_among (cond (not b) (m ∷ taken_out off rest) (taken_out off rest)) x ≡ cond (eqb off x) false (is_among (m ∷ rest) x)
   by true f later = later ∙ gone (eqb m x) refl f
@@ -120,6 +122,7 @@ once_taken off (m ∷ rest) once = by (eqb m off) (once_taken off rest once.1) w
   least : (b : Bool) → cond b false false ≡ false
   least true = refl
   least false = refl
+
   by : (b : Bool) → AreOnce (taken_out off rest) → AreOnce (cond (not b) (m ∷ taken_out off rest) (taken_out off rest))
   by true later = later
   by false later = (among_taken off rest m ∙ (ap (λ (c : Bool). cond (eqb off m) false c) once.0 ∙ least (eqb off m)), later)

@@ -20,7 +20,7 @@ use Rattle.pm_model.specs.Pending.{Pending, Reservation, SetWord, block_edits, b
 use Rattle.pm_model.specs.Places.{has_place}
 use Rattle.pm_model.specs.Refusals.{Seen, Test, has_members, is_listed, is_member, is_size, max_size}
 use Rattle.pm_model.specs.Inside.{IsRefused, Ran}
-use Rattle.pm_model.specs.Outside.{AreNamedThere, IsDoneOutside, IsReplyOutside, Outside, RepliesOutside, after_outside, after_reply_outside, done_outside, early_tests, edits_of, found_tests, free_target, id_edit, id_in, inserted, is_beside_none, is_busy, is_null, is_outside, item_moved, late_tests, offset_in, pending_after, refusal_outside, root_after, root_edits, root_grows, root_is_listed, size_made, taken_out, target_off, target_tests, tests_outside, value_outside, want_root, want_target, wants_named, wants_then}
+use Rattle.pm_model.specs.Outside.{AreNamedThere, IsDoneOutside, IsReplyOutside, Outside, RepliesOutside, after_outside, after_reply_outside, done_outside, early_tests, edits_of, found_tests, free_target, id_edit, id_in, inserted, is_beside_none, is_busy, is_null, is_outside, item_moved, late_tests, MayPublishOutside, offset_in, pending_after, refusal_outside, root_after, root_edits, root_grows, root_is_listed, size_made, taken_out, target_off, target_tests, tests_outside, value_outside, want_root, want_target, wants_named, wants_then}
 use Rattle.pm_model.specs.CallStep.{CallRun, CallStep, State, outside_of, with_pending}
 use Rattle.pm_model.specs.Sound.{AreOnce, HasSizes, IsSound, IsSoundState}
 use Rattle.pm_model.proofs.Lists.{Each, NoneApplies, all_of_each, each_left, each_of_all, each_right, each_weaker, none_applies, none_pass}
@@ -77,12 +77,13 @@ module _ (pool : PlainPool) (p : Pending) (seen : Seen) (sound : IsSound pool.it
   -- the object that a destination names is freed
   target_alone : (dest : Dest) → NoneApplies (target_tests seen pool dest) → not (is_null (id_in pool.items dest)) ≡ true
       → Unlisted pool.items (id_in pool.items dest).off × (is_root pool.root (id_in pool.items dest).off ≡ false)
-  target_alone dest none n =
-      (unlisted pool.items (id_in pool.items dest).off (second (not (is_null (id_in pool.items dest))) (is_listed pool.items (id_in pool.items dest).off) n none.1.1.1.1.0),
-      second (not (is_null (id_in pool.items dest))) (is_root pool.root (id_in pool.items dest).off) n none.1.1.1.0) where
-        second : (a b : Bool) → a ≡ true → (a && b) ≡ false → b ≡ false
-        second true b t e = e
-        second false b t e = absurd (false≢true t)
+  target_alone dest none n = (
+    unlisted pool.items (id_in pool.items dest).off (second (not (is_null (id_in pool.items dest))) (is_listed pool.items (id_in pool.items dest).off) n none.1.1.1.1.0),
+    second (not (is_null (id_in pool.items dest))) (is_root pool.root (id_in pool.items dest).off) n none.1.1.1.0,
+  ) where
+    second : (a b : Bool) → a ≡ true → (a && b) ≡ false → b ≡ false
+    second true b t e = e
+    second false b t e = absurd (false≢true t)
 
   freed_target : (dest : Dest) (items : Items) → NoneApplies (target_tests seen pool dest) → ((x : ℕ) → Unlisted pool.items x → Unlisted items x) → IsSound items pool.root
       → IsSound (all_edited (free_target pool dest) items) pool.root
@@ -110,6 +111,7 @@ module _ (pool : PlainPool) (p : Pending) (seen : Seen) (sound : IsSound pool.it
     zero_or : (n : ℕ) → (n ≡ 0) ⊎ (1 ≤ n)
     zero_or zero = inl refl
     zero_or (suc n) = inr (omega arith)
+
     positive : (n : ℕ) → eqb n 0 ≡ false → 1 ≤ n
     positive n e = ⊎_elim (λ (z : n ≡ 0). absurd (false≢true (sym e ∙ eq-eqb n 0 z))) (λ (k : 1 ≤ n). k) (zero_or n)
 
@@ -201,3 +203,128 @@ module _ (pool : PlainPool) (p : Pending) (seen : Seen) (sound : IsSound pool.it
       with_root (edited (made_item (offset_in reply) item) items) None (Some (offset_in reply)) (some_there (offset_in reply) item items)
       (made_sound_in None pool.items [] (offset_in reply) item items refl refl (subst (λ (n : ℕ). is_size n ≡ true) (sym long) fits) (new_free size reply item long makes)
       (λ x l e. inl (freed_lines old pool.items x l e)) freed).0
+
+  publish_sound : NoneApplies (late_tests seen pool p Publish) → AreAllFree pool.items [] (blocks_reserved p) → IsSound (all_edited (block_edits p ++ set_edits p.sets) pool.items) pool.root
+  publish_sound none free =
+      let frees : List Edit = map (λ (id : Oid). freed_item id.off) p.frees in
+      let makes : List Edit = map (λ (r : Reservation). made_item r.off (item_reserved r)) p.reserved in
+      let freed = frees_sound pool.root p.frees pool.items
+      (each_weaker (λ (id : Oid). is_listed pool.items id.off ≡ false) (λ (id : Oid). Unlisted pool.items id.off) p.frees (λ id e. unlisted pool.items id.off e)
+      (none_pass (λ (id : Oid). is_listed pool.items id.off) p.frees none.1.1.0))
+      (none_pass (λ (id : Oid). is_root pool.root id.off) p.frees none.1.0) sound in
+      let made = reserved_sound pool.root pool.items p.reserved [] (all_edited frees pool.items) free sizes (λ x l e. inl (freed.1 x l e)) freed.0 in
+      let done : IsSound (all_edited (block_edits p) pool.items) pool.root = subst (λ (i : Items). IsSound i pool.root) (sym (edits_append frees makes pool.items)) made.0 in
+      subst (λ (i : Items). IsSound i pool.root) (sym (edits_append (block_edits p) (set_edits p.sets) pool.items)) (sets_sound pool.root p.sets (all_edited (block_edits p) pool.items) done)
+
+  realloc_sound : (dest : Dest) (size kind : ℕ) (reply : Option Value) → ltb max_size size ≡ false → NoneApplies (target_tests seen pool dest)
+      → MatchOption (size_made pool (ReallocAt dest size kind)) (reply ≡ value_outside pool (ReallocAt dest size kind)) (λ n. Makes n reply)
+      → IsSound (all_edited (edits_of pool p (ReallocAt dest size kind) (offset_in reply)) pool.items) pool.root
+  unfolding all_edited
+  realloc_sound dest size kind reply fits none value = by (eqb size 0) refl value where
+    by : (b : Bool) → eqb size 0 ≡ b → MatchOption (cond b None (Some size)) (reply ≡ value_outside pool (ReallocAt dest size kind)) (λ n. Makes n reply)
+        → IsSound (all_edited (cond b (cond (is_null (id_in pool.items dest)) [] (id_edit dest 0 0 ∷ free_target pool dest))
+        (made_item (offset_in reply) (item_moved pool dest size kind) ∷ id_edit dest pool.id (offset_in reply) ∷ free_target pool dest)) pool.items) pool.root
+    by true e value = clear_sound dest none
+    by false e value =
+        let long : length (item_moved pool dest size kind).bytes ≡ size =
+        resized_length kind size (cond (is_null (id_in pool.items dest)) [] (bytes_of pool.items (id_in pool.items dest).off)) in
+        let new : Items = edited (made_item (offset_in reply) (item_moved pool dest size kind)) pool.items in
+        let id : List ℕ = number_bytes pool.id ++ number_bytes (offset_in reply) in
+        freed_target dest (edited (put_into dest.id.off dest.off id) new) none
+        (λ x u. unlisted_put dest.id.off dest.off id new x (unlisted_made (offset_in reply) (item_moved pool dest size kind) pool.items x refl refl u))
+        (put_sound dest.id.off dest.off id new pool.root
+        (new_sound pool.root size reply (item_moved pool dest size kind) sound long refl refl (size_from size e fits) value))
+
+  either : (a b : Bool) → (not a || b) ≡ false → (a ≡ true) × (b ≡ false)
+  either true b e = (refl, e)
+  either false b e = absurd (false≢true (sym e))
+
+  -- a call that is done leaves the pool sound
+  edits_sound : (op : Operation) (reply : Option Value) → NoneApplies (early_tests seen pool p op) → NoneApplies (late_tests seen pool p op)
+      → Each (λ (w : Want). IsSome (pool.items w.id.off)) (wants_named p op ++ wants_then seen pool op) → MayPublishOutside (record { pool = pool; pending = p }) op
+      → IsReplyOutside (record { pool = pool; pending = p }) op reply
+      → IsSound (all_edited (edits_of pool p op (offset_in reply)) pool.items) (root_after pool op (offset_in reply))
+  unfolding all_edited
+  edits_sound Publish reply early late there may value = publish_sound late may
+  edits_sound (AllocTo dest size kind) reply early late there may value =
+      let item : Item = new_item kind size None in
+      put_sound dest.id.off dest.off (number_bytes pool.id ++ number_bytes (offset_in reply)) (edited (made_item (offset_in reply) item) pool.items) pool.root
+      (new_sound pool.root size reply item sound (length-replicate size 0) refl refl (size_is (is_size size) early.1.1.0) value)
+  edits_sound (ReallocAt dest size kind) reply early late there may value =
+      realloc_sound dest size kind reply early.1.1.0 (each_left (λ (t : Test). t.1 ≡ false) (target_tests seen pool dest) ((refusal.NoSpace, leb 1 size && seen.full) ∷ []) late.1) value
+  edits_sound (FreeAt dest) reply early late there may value = clear_sound dest late.1
+  edits_sound (Insert head at id) reply early late there may value =
+      let ms : List ℕ = members_of pool.items head.off in
+      let none : list_of pool.items id.off ≡ None = no_list (list_of pool.items id.off) late.1.0 in
+      let out : is_among ms id.off ≡ false = false_from_ne_true (is_among ms id.off)
+      (λ m. let bad : None ≡ Some head.off = sym none ∙ sound.linked head.off id.off m in let no : ⊥ = cc in no) in
+      relinked_sound head.off id.off (inserted at id.off ms) true pool.items pool.root there.0 there.1.0 none
+      (λ x. among_inserted at id.off ms late.0 x) (once_inserted at id.off ms out (sound.once head.off)) sound
+  edits_sound (InsertNew head at size kind) reply early late there may value =
+      insert_new_sound head.off 0 at size kind reply there.0 (size_is (is_size size) early.1.0) late.0 value
+  edits_sound (Remove head id free) reply early late there may value =
+      remove_sound head.off id.off free there.0 there.1.0 (size_is (is_among (members_of pool.items head.off) id.off) late.1.0) late.0 late.1.1.0
+  edits_sound (MoveTo head new_head at id) reply early late there may value =
+      let e = either (is_among (members_of pool.items head.off) id.off) (is_beside_none at (taken_out id.off (members_of pool.items new_head.off))) late.0 in
+      move_sound head.off new_head.off id.off at there.0 there.1.0 there.1.1.0 e.0 e.1
+  edits_sound (Root size) reply early late there may value = by (root_grows pool size) late.0 value where
+    by : (b : Bool) → (b && root_is_listed pool) ≡ false → MatchOption (cond b (Some size) None) (reply ≡ value_outside pool (Root size)) (λ n. Makes n reply)
+        → IsSound (all_edited (cond b (root_edits pool size (offset_in reply)) []) pool.items) (cond b (Some (offset_in reply)) pool.root)
+    by true listed value = root_sound size reply pool.root (size_is (is_size size) early.1.0) listed value
+    by false listed value = sound
+  edits_sound op reply early late there may value = sound
+
+  -- and what is pending has sizes
+  pending_sizes : (op : Operation) (reply : Option Value) → NoneApplies (early_tests seen pool p op) → Each (λ (r : Reservation). is_size (length r.bytes) ≡ true) (pending_after p op (offset_in reply)).reserved
+  pending_sizes (Reserve size kind) reply early = new_sizes (offset_in reply) kind size p.reserved (size_is (is_size size) early.1.0) sizes
+  pending_sizes (WriteReserved id at bytes) reply early = put_sizes id.off at bytes p.reserved sizes
+  pending_sizes Publish reply early = tt
+  pending_sizes Cancel reply early = tt
+  pending_sizes op reply early = sizes
+
+  abbrev SoundLeft : Outside → Type 0
+  SoundLeft left = IsSound left.pool.items left.pool.root × Each (λ (r : Reservation). is_size (length r.bytes) ≡ true) left.pending.reserved
+
+  left_sound : (op : Operation) (reply : Option Value) → SoundLeft (done_outside op (offset_in reply) (record { pool = pool; pending = p })) → SoundLeft (after_reply_outside op reply (record { pool = pool; pending = p }))
+  left_sound op (Some (Refused r)) done = (sound, sizes)
+  left_sound op reply done = done
+
+  refused_left : (op : Operation) (reply : Option Value) (r : Refusal) → reply ≡ Some (Refused r) → SoundLeft (after_reply_outside op reply (record { pool = pool; pending = p }))
+  refused_left op reply r is = subst (λ (v : Option Value). SoundLeft (after_reply_outside op v (record { pool = pool; pending = p }))) (sym is) (sound, sizes)
+
+  pub outside_sound : (op : Operation) (reply : Option Value) → RepliesOutside (record { pool = pool; pending = p }) (record { operation = op; seen = seen; reply = reply })
+      → SoundLeft (after_reply_outside op reply (record { pool = pool; pending = p }))
+  outside_sound op reply replies = by (refusal_outside seen (record { pool = pool; pending = p }) op) refl replies.reply where
+    by : (o : Option Refusal) → refusal_outside seen (record { pool = pool; pending = p }) op ≡ o → MatchOption o (IsDoneOutside (record { pool = pool; pending = p }) op seen reply) (λ r. IsRefused r reply)
+        → SoundLeft (after_reply_outside op reply (record { pool = pool; pending = p }))
+    by None is done =
+        let early : List Test = early_tests seen pool p op in
+        let found : List Test = found_tests seen pool (wants_named p op) in
+        let late : List Test = late_tests seen pool p op in
+        let no : Test → Type 0 = λ t. t.1 ≡ false in
+        let none : NoneApplies (early ++ found ++ late) = none_applies (early ++ found ++ late) is in
+        let first : NoneApplies early = each_left no early found (each_left no (early ++ found) late none) in
+        left_sound op reply (
+          edits_sound op reply first (each_right no (early ++ found) late none) (each_of_all (λ (w : Want). IsSome (pool.items w.id.off)) (wants_named p op ++ wants_then seen pool op) done.there) done.publishes done.value,
+          pending_sizes op reply first,
+        )
+    by (Some r) is refused = refused_left op reply r refused.replied
+
+lanes_sized : (pending : ℕ → Pending) (lane : ℕ) (left : Pending) → ((k : ℕ) → HasSizes (pending k)) → HasSizes left → (k : ℕ) → HasSizes (with_pending pending lane left k)
+lanes_sized pending lane left others own k = by (eqb k lane) where
+  by : (b : Bool) → HasSizes (cond b left (pending k))
+  by true = own
+  by false = others k
+
+pub call_sound : (run : CallRun) (s t : State) → CallStep s run t → IsSoundState s → IsSoundState t
+call_sound run s t (inl step) sound =
+    let size : Reservation → Type 0 = λ r. is_size (length r.bytes) ≡ true in
+    let last : TxSound step.last = runs_sound run.operations s.pool (s.pending run.lane) step.last step.begins sound.pool (each_of_all size (s.pending run.lane).reserved (sound.pending run.lane)) step.runs in
+    subst IsSoundState (sym step.leaves)
+    (record { pool = last.items; pending = lanes_sized s.pending run.lane step.last.pending sound.pending (all_of_each size step.last.pending.reserved last.sizes) })
+call_sound run s t (inr step) sound =
+    let size : Reservation → Type 0 = λ r. is_size (length r.bytes) ≡ true in
+    let left : Outside = after_outside step.ran (outside_of s run.lane) in
+    let done = outside_sound s.pool (s.pending run.lane) step.ran.seen sound.pool (each_of_all size (s.pending run.lane).reserved (sound.pending run.lane)) step.ran.operation step.ran.reply step.replies in
+    subst IsSoundState (sym step.leaves)
+    (record { pool = done.0; pending = lanes_sized s.pending run.lane left.pending sound.pending (all_of_each size left.pending.reserved done.1) })

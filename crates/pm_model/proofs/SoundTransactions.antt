@@ -56,6 +56,7 @@ pub nothing_at : (off size : ℕ) (items : Items) → ((x l : ℕ) → covers (r
 nothing_at off size items free = by (items off) refl where
   b : Block
   b = record { off = off; size = size }
+
   by : (o : Option Item) → items off ≡ o → items off ≡ None
   by None is = is
   by (Some i) is =
@@ -113,11 +114,12 @@ module _ (root : Option ℕ) where
       → IsSound (edited (made_item off item) items) root × Covered before (record { off = off; size = length item.bytes } ∷ made) (edited (made_item off item) items)
   made_sound_in before made off item items alone unlisted_so size free covered sound =
       let b : Block = record { off = off; size = length item.bytes } in
-      let copy : (x l : ℕ) → covers b l ≡ true → item_covers x (items x) l ≡ false = free_of_copy before items made b free covered in
-      (made_sound off item items root (nothing_at off (length item.bytes) items copy) alone unlisted_so size copy sound,
-      λ x l e. ⊎_elim (λ (n : covers b l ≡ true). inr (or_left (covers b l) (are_covered made l) n))
-      (λ (o : item_covers x (items x) l ≡ true). ⊎_elim (λ (old : item_covers x (before x) l ≡ true). inl old) (λ (m : are_covered made l ≡ true). inr (or_right (covers b l) (are_covered made l) m)) (covered x l o))
-      (made_lines off item items x l e))
+      let copy : (x l : ℕ) → covers b l ≡ true → item_covers x (items x) l ≡ false = free_of_copy before items made b free covered in (
+        made_sound off item items root (nothing_at off (length item.bytes) items copy) alone unlisted_so size copy sound,
+        λ x l e. ⊎_elim (λ (n : covers b l ≡ true). inr (or_left (covers b l) (are_covered made l) n))
+            (λ (o : item_covers x (items x) l ≡ true). ⊎_elim (λ (old : item_covers x (before x) l ≡ true). inl old) (λ (m : are_covered made l ≡ true). inr (or_right (covers b l) (are_covered made l) m)) (covered x l o))
+            (made_lines off item items x l e),
+      )
 
   pub reserved_sound : (before : Items) (rs : List Reservation) (made : List Block) (items : Items) → AreAllFree before made (map block_of rs) → Each (λ (r : Reservation). is_size (length r.bytes) ≡ true) rs
       → Covered before made items → IsSound items root
@@ -127,13 +129,16 @@ module _ (root : Option ℕ) where
   reserved_sound before [] made items free sizes covered sound = (sound, covered)
   reserved_sound before (r ∷ rs) made items free sizes covered sound =
       let first = made_sound_in before made r.off (item_reserved r) items refl refl sizes.0 free.0 covered sound in
-      let later = reserved_sound before rs (block_of r ∷ made) (edited (made_item r.off (item_reserved r)) items) free.1 sizes.1 first.1 first.0 in
-      (later.0, λ x l e. ⊎_elim (λ (old : item_covers x (before x) l ≡ true). inl old)
-      (λ (m : are_covered (map block_of rs ++ block_of r ∷ made) l ≡ true). inr (moved rs r made l m)) (later.1 x l e)) where
+      let later = reserved_sound before rs (block_of r ∷ made) (edited (made_item r.off (item_reserved r)) items) free.1 sizes.1 first.1 first.0 in (
+        later.0,
+        λ x l e. ⊎_elim (λ (old : item_covers x (before x) l ≡ true). inl old)
+            (λ (m : are_covered (map block_of rs ++ block_of r ∷ made) l ≡ true). inr (moved rs r made l m)) (later.1 x l e),
+      ) where
         rotate : (a b c : Bool) → (a || (b || c)) ≡ (b || (a || c))
         rotate true true c = refl
         rotate true false c = refl
         rotate false b c = refl
+
         moved : (qs : List Reservation) (q : Reservation) (bs : List Block) (l : ℕ) → are_covered (map block_of qs ++ block_of q ∷ bs) l ≡ true → are_covered (block_of q ∷ (map block_of qs ++ bs)) l ≡ true
         moved qs q bs l e =
             let t : Block → Bool = λ b. covers b l in
@@ -179,6 +184,7 @@ ended_sound : (tx : Transaction) → is_working tx.stage ≡ true → TxSound tx
 ended_sound tx works sound = by (leb tx.level 1) where
   inner : (b : Bool) → TxSound (record (committed tx) { level = tx.level - 1; stage = cond b Rattle.pm_model.specs.declared.stage.Stage.TheVariants.Work Rattle.pm_model.specs.declared.stage.Stage.TheVariants.OnAbort })
   inner b = record { items = sound.items; before = sound.before; covered = λ w. sound.covered works; sizes = sound.sizes }
+
   by : (b : Bool) → TxSound (cond b (record (idle tx.before tx.pending) { items = all_edited (set_edits tx.sets) tx.items })
       (record (committed tx) { level = tx.level - 1; stage = cond (is_none tx.error) Rattle.pm_model.specs.declared.stage.Stage.TheVariants.Work Rattle.pm_model.specs.declared.stage.Stage.TheVariants.OnAbort }))
   by true = record { items = sets_sound tx.before.root tx.sets tx.items sound.items; before = sound.before; covered = λ w. absurd (false≢true w); sizes = sound.sizes }

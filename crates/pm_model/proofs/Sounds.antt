@@ -93,18 +93,23 @@ freed_sound off items root unlisted none kept sound = record {
 } where
   after : Items
   after = edited (freed_item off) items
+
   at_off : (x : ℕ) → eqb off x ≡ true → edited (freed_item off) items x ≡ None
   at_off x e = ap (λ (b : Bool). cond b None (items x)) e
+
   else : (x : ℕ) → eqb off x ≡ false → edited (freed_item off) items x ≡ items x
   else x e = ap (λ (b : Bool). cond b None (items x)) e
+
   was : (x : ℕ) (i : Item) → edited (freed_item off) items x ≡ Some i → items x ≡ Some i
   was x i is = ⊎_elim
       (λ (t : eqb off x ≡ true). absurd (let bad : None ≡ Some i = sym (at_off x t) ∙ is in let no : ⊥ = cc in no))
       (λ (f : eqb off x ≡ false). sym (else x f) ∙ is) (cases_Bool (eqb off x))
+
   less : (x l : ℕ) → item_covers x (edited (freed_item off) items x) l ≡ true → item_covers x (items x) l ≡ true
   less x l e = ⊎_elim
       (λ (t : eqb off x ≡ true). absurd (false≢true (ap (λ (o : Option Item). item_covers x o l) (sym (at_off x t)) ∙ e)))
       (λ (f : eqb off x ≡ false). ap (λ (o : Option Item). item_covers x o l) (sym (else x f)) ∙ e) (cases_Bool (eqb off x))
+
   linked : (head o : ℕ) → is_among (members_of (edited (freed_item off) items) head) o ≡ true → (eqb off head ≡ true) ⊎ (eqb off head ≡ false) → (eqb off o ≡ true) ⊎ (eqb off o ≡ false)
       → list_of (edited (freed_item off) items) o ≡ Some head
   linked head o m (inl t) either = absurd (false≢true (ap (λ (p : Option Item). is_among (members_in p) o) (sym (at_off head t)) ∙ m))
@@ -112,6 +117,7 @@ freed_sound off items root unlisted none kept sound = record {
       let l : list_of items o ≡ Some head = sound.linked head o (ap (λ (p : Option Item). is_among (members_in p) o) (sym (else head f)) ∙ m) in
       absurd (let bad : None ≡ Some head = sym unlisted ∙ (ap (list_of items) (eqb-true off o t) ∙ l) in let no : ⊥ = cc in no)
   linked head o m (inr f) (inr g) = ap list_in (else o g) ∙ sound.linked head o (ap (λ (p : Option Item). is_among (members_in p) o) (sym (else head f)) ∙ m)
+
   listed : (head o : ℕ) → list_of (edited (freed_item off) items) o ≡ Some head → (eqb off head ≡ true) ⊎ (eqb off head ≡ false) → (eqb off o ≡ true) ⊎ (eqb off o ≡ false)
       → is_among (members_of (edited (freed_item off) items) head) o ≡ true
   listed head o e either (inl t) = absurd (let bad : None ≡ Some head = ap list_in (sym (at_off o t)) ∙ e in let no : ⊥ = cc in no)
@@ -120,6 +126,7 @@ freed_sound off items root unlisted none kept sound = record {
       absurd (false≢true (ap (λ (ms : List ℕ). is_among ms o) (sym none) ∙ (ap (λ (h : ℕ). is_among (members_of items h) o) (eqb-true off head t) ∙ m)))
   listed head o e (inr f) (inr g) =
       ap (λ (p : Option Item). is_among (members_in p) o) (else head f) ∙ sound.listed head o (ap list_in (sym (else o g)) ∙ e)
+
   stays : (x : ℕ) → IsSome (items x) → is_root root x ≡ true → IsSome (edited (freed_item off) items x)
   stays x some is = ⊎_elim
       (λ (t : eqb off x ≡ true). absurd (false≢true (sym kept ∙ (ap (is_root root) (eqb-true off x t) ∙ is))))
@@ -143,18 +150,23 @@ made_sound off item items root empty alone unlisted size free sound = record {
 } where
   at_off : (x : ℕ) → eqb off x ≡ true → edited (made_item off item) items x ≡ Some item
   at_off x e = ap (λ (b : Bool). cond b (Some item) (items x)) e
+
   else : (x : ℕ) → eqb off x ≡ false → edited (made_item off item) items x ≡ items x
   else x e = ap (λ (b : Bool). cond b (Some item) (items x)) e
+
   new : (x l : ℕ) → eqb off x ≡ true → item_covers x (edited (made_item off item) items x) l ≡ true → covers (record { off = off; size = length item.bytes }) l ≡ true
   new x l t a = ap (λ (y : ℕ). covers (record { off = y; size = length item.bytes }) l) (eqb-true off x t) ∙ (ap (λ (o : Option Item). item_covers x o l) (sym (at_off x t)) ∙ a)
+
   old : (x l : ℕ) → eqb off x ≡ false → item_covers x (edited (made_item off item) items x) l ≡ true → item_covers x (items x) l ≡ true
   old x l f a = ap (λ (o : Option Item). item_covers x o l) (sym (else x f)) ∙ a
+
   apart : (x y l : ℕ) → item_covers x (edited (made_item off item) items x) l ≡ true → item_covers y (edited (made_item off item) items y) l ≡ true
       → (eqb off x ≡ true) ⊎ (eqb off x ≡ false) → (eqb off y ≡ true) ⊎ (eqb off y ≡ false) → x ≡ y
   apart x y l a b (inl t) (inl u) = sym (eqb-true off x t) ∙ eqb-true off y u
   apart x y l a b (inl t) (inr g) = absurd (false≢true (sym (free y l (new x l t a)) ∙ old y l g b))
   apart x y l a b (inr f) (inl u) = absurd (false≢true (sym (free x l (new y l u b)) ∙ old x l f a))
   apart x y l a b (inr f) (inr g) = sound.apart x y l (old x l f a) (old y l g b)
+
   linked : (head o : ℕ) → is_among (members_of (edited (made_item off item) items) head) o ≡ true → (eqb off head ≡ true) ⊎ (eqb off head ≡ false) → (eqb off o ≡ true) ⊎ (eqb off o ≡ false)
       → list_of (edited (made_item off item) items) o ≡ Some head
   linked head o m (inl t) either =
@@ -163,6 +175,7 @@ made_sound off item items root empty alone unlisted size free sound = record {
       let l : list_of items o ≡ Some head = sound.linked head o (ap (λ (p : Option Item). is_among (members_in p) o) (sym (else head f)) ∙ m) in
       absurd (let bad : None ≡ Some head = sym (ap list_in empty) ∙ (ap (list_of items) (eqb-true off o t) ∙ l) in let no : ⊥ = cc in no)
   linked head o m (inr f) (inr g) = ap list_in (else o g) ∙ sound.linked head o (ap (λ (p : Option Item). is_among (members_in p) o) (sym (else head f)) ∙ m)
+
   listed : (head o : ℕ) → list_of (edited (made_item off item) items) o ≡ Some head → (eqb off head ≡ true) ⊎ (eqb off head ≡ false) → (eqb off o ≡ true) ⊎ (eqb off o ≡ false)
       → is_among (members_of (edited (made_item off item) items) head) o ≡ true
   listed head o e either (inl t) = absurd (let bad : None ≡ Some head = sym unlisted ∙ (ap list_in (sym (at_off o t)) ∙ e) in let no : ⊥ = cc in no)
@@ -192,45 +205,60 @@ relinked_sound head off ms joins items root head_there off_there was among once 
 } where
   new : Option ℕ
   new = cond joins (Some head) None
+
   set_members : Item → Item
   set_members i = record i { members = ms }
+
   set_list : Item → Item
   set_list i = record i { list = cond joins (Some head) None }
+
   between : ℕ → Option Item
   between x = cond (eqb head x) (option_map (λ (i : Item). record i { members = ms }) (items x)) (items x)
+
   after : Items
   after x = cond (eqb off x) (option_map (λ (i : Item). record i { list = cond joins (Some head) None }) (between x)) (between x)
+
   lengths : (x : ℕ) → length_in (after x) ≡ length_in (items x)
   lengths x = same_under length_in (λ (i : Item). record i { list = cond joins (Some head) None }) (λ i. refl) (eqb off x) (between x)
       ∙ same_under length_in (λ (i : Item). record i { members = ms }) (λ i. refl) (eqb head x) (items x)
+
   members_at : (x : ℕ) → members_in (after x) ≡ cond (eqb head x) ms (members_of items x)
   members_at x = same_under members_in (λ (i : Item). record i { list = cond joins (Some head) None }) (λ i. refl) (eqb off x) (between x)
       ∙ set_under members_in (λ (i : Item). record i { members = ms }) ms (λ i. refl) (eqb head x) (items x)
       (λ e. subst (λ (y : ℕ). IsSome (items y)) (eqb-true head x e) head_there)
+
   list_at : (x : ℕ) → list_in (after x) ≡ cond (eqb off x) (cond joins (Some head) None) (list_of items x)
   list_at x = set_under list_in (λ (i : Item). record i { list = cond joins (Some head) None }) (cond joins (Some head) None) (λ i. refl) (eqb off x) (between x)
       (λ e. some_same (between x) (items x) (same_under length_in (λ (i : Item). record i { members = ms }) (λ i. refl) (eqb head x) (items x))
       (subst (λ (y : ℕ). IsSome (items y)) (eqb-true off x e) off_there))
       ∙ ap (λ (o : Option ℕ). cond (eqb off x) (cond joins (Some head) None) o) (same_under list_in (λ (i : Item). record i { members = ms }) (λ i. refl) (eqb head x) (items x))
+
   members_here : (h : ℕ) → eqb head h ≡ true → members_in (after h) ≡ ms
   members_here h t = members_at h ∙ ap (λ (b : Bool). cond b ms (members_of items h)) t
+
   members_else : (h : ℕ) → eqb head h ≡ false → members_in (after h) ≡ members_of items h
   members_else h f = members_at h ∙ ap (λ (b : Bool). cond b ms (members_of items h)) f
+
   list_here : (x : ℕ) → eqb off x ≡ true → list_in (after x) ≡ cond joins (Some head) None
   list_here x t = list_at x ∙ ap (λ (b : Bool). cond b (cond joins (Some head) None) (list_of items x)) t
+
   list_else : (x : ℕ) → eqb off x ≡ false → list_in (after x) ≡ list_of items x
   list_else x f = list_at x ∙ ap (λ (b : Bool). cond b (cond joins (Some head) None) (list_of items x)) f
+
   -- the object itself: it was in no other list
   joined : (j : Bool) → joins ≡ j → (h : ℕ) → eqb head h ≡ true → j ≡ true → cond j (Some head) None ≡ Some h
   joined true is h t e = ap Some (eqb-true head h t)
   joined false is h t e = absurd (false≢true e)
+
   other_list : (j : Bool) → list_of items off ≡ cond j None (Some head) → (h : ℕ) → eqb head h ≡ false → list_of items off ≡ Some h → ⊥
   other_list true is h f e = let bad : None ≡ Some h = sym is ∙ e in let no : ⊥ = cc in no
   other_list false is h f e =
       let both : Some head ≡ Some h = sym is ∙ e in let same : head ≡ h = cc in false≢true (sym f ∙ eq-eqb head h same)
+
   own_list : (j : Bool) → (h : ℕ) → cond j (Some head) None ≡ Some h → (j ≡ true) × (head ≡ h)
   own_list true h e = (refl, (let same : head ≡ h = cc in same))
   own_list false h e = absurd (let bad : None ≡ Some h = e in let no : ⊥ = cc in no)
+
   linked : (h x : ℕ) → is_among (members_in (after h)) x ≡ true → (eqb head h ≡ true) ⊎ (eqb head h ≡ false) → (eqb off x ≡ true) ⊎ (eqb off x ≡ false) → list_in (after x) ≡ Some h
   linked h x m (inl t) (inl u) =
       let j : joins ≡ true = ap (λ (b : Bool). cond b joins (is_among (members_of items head) x)) (sym u) ∙ (sym (among x) ∙ (ap (λ (l : List ℕ). is_among l x) (sym (members_here h t)) ∙ m)) in
@@ -243,6 +271,7 @@ relinked_sound head off ms joins items root head_there off_there was among once 
       let l : list_of items x ≡ Some h = sound.linked h x (ap (λ (l : List ℕ). is_among l x) (sym (members_else h f)) ∙ m) in
       absurd (other_list joins was h f (ap (list_of items) (eqb-true off x u) ∙ l))
   linked h x m (inr f) (inr g) = list_else x g ∙ sound.linked h x (ap (λ (l : List ℕ). is_among l x) (sym (members_else h f)) ∙ m)
+
   listed : (h x : ℕ) → list_in (after x) ≡ Some h → (eqb head h ≡ true) ⊎ (eqb head h ≡ false) → (eqb off x ≡ true) ⊎ (eqb off x ≡ false) → is_among (members_in (after h)) x ≡ true
   listed h x e (inl t) (inl u) =
       let own : (joins ≡ true) × (head ≡ h) = own_list joins h (sym (list_here x u) ∙ e) in

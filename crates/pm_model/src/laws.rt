@@ -10,6 +10,7 @@ ghost use Rattle.pm_model.specs.Transaction.{Transaction, is_working};
 ghost use Rattle.pm_model.specs.Framed.{IsUnwritten, MayBeLeftOut};
 ghost use Rattle.pm_model.specs.Names.{Apart, ApartFromAll, IsFramedCall, Name, Replays, content, touches, writes};
 ghost use Rattle.pm_model.specs.Shown.{error_of};
+ghost use Rattle.pm_model.specs.Sound.{IsSoundState};
 
 /// A law: each call changes only what it writes, and goes alike from each state that has the same where it touches it. No code runs.
 pub fn calls_have_parts()
@@ -70,4 +71,9 @@ pub fn blocks_begin_at_chunks_and_in_runs()
 pub fn transactions_grow_at_their_end()
     ensures { (operations : List Ran) (ran : Ran) (tx mid : Transaction) → Runs tx operations mid → is_working mid.stage ≡ true → Replies mid ran true
         → Runs tx (operations ++ ran ∷ []) (after ran mid) }
+{}
+
+/// A law: a call leaves a sound pool sound: sizes, blocks that don't overlap, lists and their members, the root. No code runs.
+pub fn calls_keep_pools_sound()
+    ensures { (run : CallRun) (s t : State) → CallStep s run t → IsSoundState s → IsSoundState t }
 {}

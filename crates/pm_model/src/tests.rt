@@ -12,6 +12,7 @@ fn laws_and_stages(rt: HostRuntime) {
     pools_are_known_by_their_items();
     replies_fix_the_next_state();
     aborted_calls_change_nothing();
+    calls_keep_pools_sound();
     transactions_grow_at_their_end();
     blocks_begin_at_chunks_and_in_runs();
     operations_by_example();
