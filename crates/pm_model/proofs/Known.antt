@@ -8,13 +8,13 @@ use Rattle.pm_objects.specs.declared.pool.Object.{Object}
 use Rattle.pm_objects.specs.declared.pool.PoolView.{PoolView}
 use Rattle.pm_model.specs.Items.{Item, PlainPool, head_of, item_of, plain_pool}
 
-rising_tail : (x : ℕ) (xs : List ℕ) → IsStrictlyIncreasing (x ∷ xs) → IsStrictlyIncreasing xs
+pub rising_tail : (x : ℕ) (xs : List ℕ) → IsStrictlyIncreasing (x ∷ xs) → IsStrictlyIncreasing xs
 rising_tail x xs rising k h =
     let place : suc k + 1 ≡ suc (k + 1) = omega arith in
     subst (λ (n : ℕ). get_or xs k 0 < get_or (x ∷ xs) n 0) place (rising (suc k) (omega arith))
 
 -- below the first offset nothing stands
-absent : (objects : Objects) (first off : ℕ) → IsStrictlyIncreasing (first ∷ offsets objects)
+pub absent : (objects : Objects) (first off : ℕ) → IsStrictlyIncreasing (first ∷ offsets objects)
     → off ≤ first → object_at objects off ≡ None
 absent [] first off rising below = refl
 absent (entry ∷ objects) first off rising below =

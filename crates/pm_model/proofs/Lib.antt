@@ -13,3 +13,4 @@ pub mod Members
 pub mod Sounds
 pub mod SoundTransactions
 pub mod SoundCalls
+pub mod Pools

@@ -10,7 +10,7 @@ ghost use Rattle.pm_model.specs.Transaction.{Transaction, is_working};
 ghost use Rattle.pm_model.specs.Framed.{IsUnwritten, MayBeLeftOut};
 ghost use Rattle.pm_model.specs.Names.{Apart, ApartFromAll, IsFramedCall, Name, Replays, content, touches, writes};
 ghost use Rattle.pm_model.specs.Shown.{error_of};
-ghost use Rattle.pm_model.specs.Sound.{IsSoundState};
+ghost use Rattle.pm_model.specs.Sound.{IsSound, IsSoundState};
 
 /// A law: each call changes only what it writes, and goes alike from each state that has the same where it touches it. No code runs.
 pub fn calls_have_parts()
@@ -76,4 +76,9 @@ pub fn transactions_grow_at_their_end()
 /// A law: a call leaves a sound pool sound: sizes, blocks that don't overlap, lists and their members, the root. No code runs.
 pub fn calls_keep_pools_sound()
     ensures { (run : CallRun) (s t : State) → CallStep s run t → IsSoundState s → IsSoundState t }
+{}
+
+/// A law: a pool that an image means is sound. No code runs.
+pub fn pools_are_sound()
+    ensures { (v : PoolView) → IsPool v → IsSound (plain_pool v).items (plain_pool v).root }
 {}

@@ -41,7 +41,7 @@ pub use examples::{calls_outside_by_example, operations_by_example, refusals_by_
 pub use laws::{
     aborted_calls_change_nothing, apart_calls_change_places, apart_calls_come_last,
     apart_calls_may_be_left_out, blocks_begin_at_chunks_and_in_runs, calls_have_parts,
-    calls_keep_pools_sound, late_calls_stand_earlier, pools_are_known_by_their_items,
+    calls_keep_pools_sound, late_calls_stand_earlier, pools_are_known_by_their_items, pools_are_sound,
     replies_fix_the_next_state, states_are_known_by_names, transactions_grow_at_their_end,
 };
 pub use stage::Stage;

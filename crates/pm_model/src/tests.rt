@@ -10,6 +10,7 @@ fn laws_and_stages(rt: HostRuntime) {
     apart_calls_may_be_left_out();
     states_are_known_by_names();
     pools_are_known_by_their_items();
+    pools_are_sound();
     replies_fix_the_next_state();
     aborted_calls_change_nothing();
     calls_keep_pools_sound();
