@@ -26,8 +26,8 @@
 //! 10. `Replays` and `ReplaysEntries`: the state after calls, and the pool after a history's entries.
 //!
 //! The main laws: `calls_have_parts` (each call reads and changes its parts alone),
-//! `apart_calls_change_places` and `apart_calls_may_be_left_out`. Not said here: that a lock is got, and
-//! why a lane saw what it saw; that is a world's.
+//! `apart_calls_change_places`, `apart_calls_may_be_left_out` and `calls_keep_pools_sound`. Not said
+//! here: that a lock is got, and why a lane saw what it saw; that is a world's.
 //!
 //! It stands on `pm_objects` for pools and calls, and on `pm_layout` for places; docs/MODEL.md, "The plain
 //! model".
@@ -41,8 +41,9 @@ pub use examples::{calls_outside_by_example, operations_by_example, refusals_by_
 pub use laws::{
     aborted_calls_change_nothing, apart_calls_change_places, apart_calls_come_last,
     apart_calls_may_be_left_out, blocks_begin_at_chunks_and_in_runs, calls_have_parts,
-    calls_keep_pools_sound, late_calls_stand_earlier, pools_are_known_by_their_items, pools_are_sound,
-    replies_fix_the_next_state, states_are_known_by_names, transactions_grow_at_their_end,
+    calls_keep_pools_sound, late_calls_stand_earlier, pools_are_known_by_their_items,
+    pools_are_sound, replies_fix_the_next_state, states_are_known_by_names,
+    transactions_grow_at_their_end,
 };
 pub use stage::Stage;
 
