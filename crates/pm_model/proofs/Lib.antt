@@ -14,3 +14,4 @@ pub mod Sounds
 pub mod SoundTransactions
 pub mod SoundCalls
 pub mod Pools
+pub mod Example

@@ -1,14 +1,17 @@
 -- Small pools for worked examples.
-use Rattle.std.specs.Prelude.{ℕ, false, [], ◌∷◌, ◌++◌, Option, Some}
+use Rattle.std.specs.Prelude.{ℕ, false, [], ◌∷◌, ◌++◌, Option, Some, None}
 use Rattle.pm_objects.specs.declared.calls.Operation.{Operation}
+use Rattle.pm_objects.specs.declared.calls.Operation.TheVariants.{Begin, Alloc, Commit}
 use Rattle.pm_objects.specs.declared.history.Value.{Value}
+use Rattle.pm_objects.specs.declared.history.Value.TheVariants.{Offset}
 use Rattle.pm_objects.specs.declared.ids.Oid.{Oid}
 use Rattle.pm_objects.specs.declared.pool.PoolView.{PoolView}
-use Rattle.pm_model.specs.Items.{Items, PlainPool, number_bytes, plain_pool}
+use Rattle.pm_model.specs.Items.{Items, PlainPool, edited, made_item, new_item, number_bytes, plain_pool}
 use Rattle.pm_model.specs.Pending.{none_pending, want_to_write}
 use Rattle.pm_model.specs.Transaction.{Transaction, begun, idle}
 use Rattle.pm_model.specs.Refusals.{Seen}
 use Rattle.pm_model.specs.Inside.{after_reply}
+use Rattle.pm_model.specs.CallStep.{CallRun, State}
 use Rattle.pm_model.specs.Outside.{Outside, after_reply_outside}
 
 -- Pool 7 of one lane and one zone. The root at 16512 has eight bytes, of the number 5, and one
@@ -62,3 +65,34 @@ inside_after op reply tx = after_reply op reply tx
 
 abbrev pub items_after : Operation → Option Value → Items
 items_after op reply = (after_reply_outside op reply outside).pool.items
+
+-- ---- a whole call
+
+-- the pool without objects
+abbrev pub empty : PlainPool
+empty = plain_pool (record sample_view { objects = []; root = None })
+
+abbrev pub idle_lanes : State
+idle_lanes = record { pool = empty; pending = λ lane. none_pending }
+
+-- begin, an allocation of 64 bytes of type 9, commit
+abbrev pub allocating : CallRun
+allocating = record {
+  lane = 0;
+  operations = record { operation = Begin []; seen = unhindered; reply = None }
+      ∷ record { operation = Alloc 64 9; seen = unhindered; reply = Some (Offset 16512) }
+      ∷ record { operation = Commit; seen = unhindered; reply = None } ∷ [];
+  parts = record {
+    locks = [];
+    reads_root = false;
+    writes_root = false;
+    blocks = record { off = 16512; size = 64 } ∷ [];
+  };
+}
+
+abbrev pub with_one_object : PlainPool
+with_one_object =
+    record empty { items = edited (made_item 16512 (new_item 9 64 None)) empty.items }
+
+abbrev pub after_allocating : State
+after_allocating = record { pool = with_one_object; pending = λ lane. none_pending }

@@ -1,6 +1,7 @@
 use super::*;
 
-/// Each law and example by its name: none runs any code. And the stages of a transaction, which differ.
+/// Each law and example by its name: none runs any code. And the stages of a transaction, which
+/// differ.
 #[test]
 fn laws_and_stages(rt: HostRuntime) {
     calls_have_parts();
@@ -16,6 +17,7 @@ fn laws_and_stages(rt: HostRuntime) {
     calls_keep_pools_sound();
     transactions_grow_at_their_end();
     blocks_begin_at_chunks_and_in_runs();
+    a_call_by_example();
     operations_by_example();
     refusals_by_example();
     calls_outside_by_example();
