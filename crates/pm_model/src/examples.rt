@@ -18,11 +18,13 @@ ghost use Rattle.pm_model.specs.declared.stage.Stage.TheVariants as stage;
 pub fn operations_by_example()
     ensures begin { at_work.locks ≡ record { off = 16512; write = true } ∷ [] }
     ensures lock { is_locked (inside_after
-        (operation.Lock (record { id = id_at 16768; write = false })) None at_work).locks 16768 false ≡ true }
+        (operation.Lock (record { id = id_at 16768; write = false })) None at_work).locks 16768 false
+        ≡ true }
     ensures add_range { (inside_after (operation.AddRange root_id 0 8) None at_work).recorded
         ≡ 2064 ∷ [] }
     ensures write { bytes_of (inside_after
-        (operation.Write root_id 2 (9 ∷ 9 ∷ [])) None at_work).items 16512 ≡ 5 ∷ 0 ∷ 9 ∷ 9 ∷ 0 ∷ 0 ∷ 0 ∷ 0 ∷ [] }
+        (operation.Write root_id 2 (9 ∷ 9 ∷ [])) None at_work).items 16512
+        ≡ 5 ∷ 0 ∷ 9 ∷ 9 ∷ 0 ∷ 0 ∷ 0 ∷ 0 ∷ [] }
     ensures read { value_of at_work (operation.Read root_id 0 2)
         ≡ Some (value.Bytes (5 ∷ 0 ∷ [])) }
     ensures increment { value_of at_work (operation.Increment root_id 0 7)
@@ -32,10 +34,12 @@ pub fn operations_by_example()
         ≡ Some (record { kind = 9; bytes = 0 ∷ 0 ∷ []; members = []; list = None }) }
     ensures free { (inside_after (operation.Free (id_at 16768)) None with_all).items 16768 ≡ None }
     ensures reserve { (inside_after (operation.Reserve 1 9)
-        (Some (value.Offset 17024)) at_work).pending.reserved ≡ record { off = 17024; kind = 9; bytes = 0 ∷ [] } ∷ [] }
+        (Some (value.Offset 17024)) at_work).pending.reserved
+        ≡ record { off = 17024; kind = 9; bytes = 0 ∷ [] } ∷ [] }
     ensures put { (inside_after (operation.WriteReserved (id_at 17024) 0 (4 ∷ [])) None
         (inside_after (operation.Reserve 1 9)
-        (Some (value.Offset 17024)) at_work)).pending.reserved ≡ record { off = 17024; kind = 9; bytes = 4 ∷ [] } ∷ [] }
+        (Some (value.Offset 17024)) at_work)).pending.reserved
+        ≡ record { off = 17024; kind = 9; bytes = 4 ∷ [] } ∷ [] }
     ensures defer_free { (inside_after
         (operation.DeferFree (id_at 16768)) None with_all).pending.frees ≡ id_at 16768 ∷ [] }
     ensures set_value { (inside_after (operation.SetValue root_id 0 1) None at_work).items 16512
@@ -49,7 +53,8 @@ pub fn operations_by_example()
     ensures cancel { (inside_after operation.Cancel None
         (inside_after (operation.DeferFree root_id) None at_work)).pending ≡ none_pending }
     ensures abort { (inside_after (operation.Abort 0) None
-        (inside_after (operation.Free (id_at 16768)) None with_all)).items 16768 ≡ sample.items 16768 }
+        (inside_after (operation.Free (id_at 16768)) None with_all)).items 16768
+        ≡ sample.items 16768 }
     ensures abort_error { (inside_after (operation.Abort 3) None at_work).error ≡ error.User 3 }
     ensures inner_commit { (inside_after operation.Commit None
         (inside_after (operation.Begin []) None at_work)).stage ≡ stage.Work }
@@ -160,7 +165,8 @@ pub fn calls_outside_by_example()
         (id_at 16768)) None outside)).pool.items 16768 ≡ None }
 {}
 
-/// A worked example of a whole call: a transaction that makes an object in a pool without any. No code runs.
+/// A worked example of a whole call: a transaction that makes an object in a pool without any.
+/// No code runs.
 pub fn a_call_by_example()
     ensures { CallStep idle_lanes allocating after_allocating }
 {}
