@@ -1,196 +1,439 @@
 -- A call reads and changes its parts alone, and a state is known name by name.
-use Rattle.std.proofs.Common.{◌≡◌, inl, inr, ℕ, List, [], ◌∷◌, ◌++◌, Option, Bool, true, false, cond, eqb, not, ◌&&◌, ◌||◌, refl, sym, ◌∙◌, ap, subst}
-use Rattle.std.specs.List.{list_all, list_any}
-use Rattle.std.specs.List.Sorted.{IsStrictlyIncreasing}
-use Rattle.std.proofs.lemmas.Bool.{and_parts, false≢true, eq-eqb, or_left, or_right}
-use Rattle.std.proofs.lemmas.List.Folds.{list_any-append}
-use Rattle.pm_objects.specs.Pool.{object_at}
+use Rattle.std.proofs.Common.{◌≡◌, ⊎_elim, ◌⊎◌, inl, inr, ℕ, List, [], ◌∷◌, Bool, true, false, not, cond, eqb, ◌&&◌, ◌||◌, Option, refl, sym, ◌∙◌, ap, subst, eq-eqb}
+use Rattle.std.specs.List.{filter}
+use Rattle.std.proofs.lemmas.Bool.{and_from, and_parts, cases_Bool, false≢true, false_from_ne_true, or_cases, or_left, or_right}
 use Rattle.pm_objects.specs.declared.calls.Want.{Want}
-use Rattle.pm_objects.specs.declared.pool.Object.{Object}
-use Rattle.pm_objects.specs.declared.pool.PoolView.{PoolView}
-use Rattle.pm_model.specs.Actions.{Pending, is_plain}
-use Rattle.pm_model.specs.Outside.{AnswersOutside, Outside, after_outside, stands_outside, wants_outside}
-use Rattle.pm_model.specs.Transaction.{Transaction, resting}
-use Rattle.pm_model.specs.Answers.{Told, after, Answers}
-use Rattle.pm_model.specs.Step.{State, Act, RunsOn, RunsFrom, Step, TransactionStep, OutsideStep, with_pending}
-use Rattle.pm_model.specs.Names.{Name, changes_blocks, content, IsMap, is_missed, is_wanted, keeps_blocks, named_by, wants_taken, locks, writes, touches, IsFramedCall}
-use Rattle.pm_model.specs.Names.Name.{Fixed, RootOffset, ObjectAt, ActionsOf}
-use Rattle.pm_model.specs.Names.Content.{FixedIs, RootIs, ObjectIs, ActionsAre}
-use Rattle.pm_model.proofs.Objects.{same_objects}
-use Rattle.pm_model.proofs.Locking.{is_wanted_to_read}
-use Rattle.pm_model.proofs.Asked.{IsPlain, plain_from}
-use Rattle.pm_model.proofs.Alike.{Alike, KeepBlocks, TakesWithin, keep_first, keep_rest, runs_alike, step_alike, takes_rest}
-use Rattle.pm_model.proofs.Kept.{IsChangedIn, run_keeps}
-use Rattle.pm_model.proofs.OutsideCalls.{answers_there, left_actions, left_alike, outside_changed}
+use Rattle.pm_model.specs.Items.{Item, PlainPool, is_root}
+use Rattle.pm_model.specs.Blocks.{Block, are_covered, covers, item_covers}
+use Rattle.pm_model.specs.Pending.{Pending}
+use Rattle.pm_model.specs.Transaction.{Transaction, idle, is_working, pool_of}
+use Rattle.pm_model.specs.Inside.{Ran}
+use Rattle.pm_model.specs.Outside.{Outside, RepliesOutside, after_outside}
+use Rattle.pm_model.specs.Parts.{Parts, parts_inside, parts_outside}
+use Rattle.pm_model.specs.CallStep.{CallRun, CallStep, Runs, State, is_transaction, outside_of, state_with, with_pending}
+use Rattle.pm_model.specs.Framed.{IsUnwritten, MayBeLeftOut}
+use Rattle.pm_model.specs.Names.{Apart, ApartFromAll, IsFramedCall, Name, Replays, content, has_block, locks_object, touches, writes}
+use Rattle.pm_model.specs.Names.Name.{Fixed, RootWord, ObjectAt, LineAt, PendingOf}
+use Rattle.pm_model.specs.Names.Content.{FixedIs, RootIs, ObjectIs, LineIs, PendingIs}
+use Rattle.pm_model.proofs.Changing as changing
+use Rattle.pm_model.proofs.Lists.{IsIn, each_in, each_weaker}
+use Rattle.pm_model.proofs.Edits.{HasLines, mixed, mixed_in, mixed_out}
+use Rattle.pm_model.proofs.Locking.{list_any_weaker}
+use Rattle.pm_model.proofs.Over.{FitsTx, Within, WithinB, WithinT, transaction_there}
+use Rattle.pm_model.proofs.Beside.{beside}
 
--- what is written is touched
-pub touched : (act : Act) (n : Name) → writes act n ≡ true → touches act n ≡ true
-touched act Fixed w = refl
-touched act RootOffset w = w
-touched act (ObjectAt off) w = is_wanted_to_read (named_by act.actions act.told ++ wants_taken act.told) off true w
-touched act (ActionsOf lane) w = w
+-- ---- what a call's parts say of objects and lines
 
--- a lock of a transaction's begins is one of the call
-taken_locked : (act : Act) (off : ℕ) (write : Bool) → is_wanted (wants_taken act.told) off write ≡ true → locks act off write ≡ true
-taken_locked act off write w =
-    let asks : Want → Bool = λ want. eqb want.id.off off && (want.write || not write) in
-    list_any-append asks (named_by act.actions act.told) (wants_taken act.told) ∙ or_right (list_any asks (named_by act.actions act.told)) (list_any asks (wants_taken act.told)) w
+abbrev touched_of : Parts → ℕ → Bool
+touched_of p x = locks_object p x false || has_block p x
 
-named_locked : (act : Act) (off : ℕ) (write : Bool) → is_wanted (named_by act.actions act.told) off write ≡ true → locks act off write ≡ true
-named_locked act off write w =
-    let asks : Want → Bool = λ want. eqb want.id.off off && (want.write || not write) in
-    list_any-append asks (named_by act.actions act.told) (wants_taken act.told) ∙ or_left (list_any asks (named_by act.actions act.told)) (list_any asks (wants_taken act.told)) w
+abbrev written_of : Parts → ℕ → Bool
+written_of p x = locks_object p x true || has_block p x
 
--- a call that keeps every block found nothing to be freed or reserved, and no operation of it asked for a block
-plain_of : (act : Act) → keeps_blocks act ≡ true → IsPlain act.actions
-plain_of act keep = plain_from act.actions (and_parts (is_plain act.actions) (list_all (λ (t : Told). not (changes_blocks t.operation t.reply)) act.told) keep).0
+abbrev lines_of : Parts → ℕ → Bool
+lines_of p l = are_covered p.blocks l
 
-told_of : (act : Act) → keeps_blocks act ≡ true → KeepBlocks act.told
-told_of act keep = (and_parts (is_plain act.actions) (list_all (λ (t : Told). not (changes_blocks t.operation t.reply)) act.told) keep).1
+to_read : (one other : Bool) → (one && (other || not true)) ≡ true
+    → (one && (other || not false)) ≡ true
+to_read one other holds = and_from one (other || true)
+    (and_parts one (other || not true) holds).0 (or_right other true refl)
 
--- a call changes the objects alone that it locks for writing
-pub call_changed : (act : Act) (s t : State) → keeps_blocks act ≡ true → Step s act t → IsChangedIn (λ off. locks act off true) s.pool t.pool
-call_changed act s t keep (inl step) =
-    subst (IsChangedIn (λ off. locks act off true) s.pool) (sym (ap (λ (v : State). v.pool) step.leaves.leaves))
-    (run_keeps (λ off. locks act off true) s.pool act.actions act.told step.last (plain_of act keep) (told_of act keep) (λ off w. taken_locked act off true w) step.runs)
-call_changed act s t keep (inr step) = outside_changed act s t (plain_of act keep) step
+written_touched : (p : Parts) (x : ℕ) → written_of p x ≡ true → touched_of p x ≡ true
+written_touched p x w = ⊎_elim
+    (λ (l : locks_object p x true ≡ true). or_left (locks_object p x false) (has_block p x)
+    (list_any_weaker (λ (want : Want). eqb want.id.off x && (want.write || not true))
+    (λ (want : Want). eqb want.id.off x && (want.write || not false)) p.locks
+    (λ want. to_read (eqb want.id.off x) want.write) l))
+    (λ (b : has_block p x ≡ true). or_right (locks_object p x false) (has_block p x) b)
+    (or_cases (locks_object p x true) (has_block p x) w)
 
-other_lane : (actions : ℕ → Pending) (lane k : ℕ) (pending : Pending) → eqb k lane ≡ false → with_pending actions lane pending k ≡ actions k
-other_lane actions lane k pending other = ap (λ (b : Bool). cond b pending (actions k)) other
+parts_within : (p : Parts) → Within (touched_of p) (written_of p) (lines_of p) p
+parts_within p = record {
+  locks = each_weaker (IsIn p.locks) (WithinT (touched_of p) (written_of p)) p.locks
+      (λ w is. (
+        or_left (locks_object p w.id.off false) (has_block p w.id.off)
+            (is (λ (want : Want). eqb want.id.off w.id.off && (want.write || not false))
+            (and_from (eqb w.id.off w.id.off) (w.write || true)
+            (eq-eqb w.id.off w.id.off refl) (or_right w.write true refl))),
+        λ e. or_left (locks_object p w.id.off true) (has_block p w.id.off)
+            (is (λ (want : Want). eqb want.id.off w.id.off && (want.write || not true))
+            (and_from (eqb w.id.off w.id.off) (w.write || false)
+            (eq-eqb w.id.off w.id.off refl) (or_left w.write false e))),
+      ))
+      (each_in p.locks);
+  blocks = each_weaker (IsIn p.blocks) (WithinB (written_of p) (lines_of p)) p.blocks
+      (λ b is. (
+        or_right (locks_object p b.off true) (has_block p b.off)
+            (is (λ (c : Block). eqb c.off b.off) (eq-eqb b.off b.off refl)),
+        λ l c. is (λ (d : Block). covers d l) c,
+      ))
+      (each_in p.blocks);
+}
 
-own_lane : (actions : ℕ → Pending) (lane k : ℕ) (pending : Pending) → eqb k lane ≡ true → with_pending actions lane pending k ≡ pending
-own_lane actions lane k pending same = ap (λ (b : Bool). cond b pending (actions k)) same
+pub touched : (run : CallRun) (n : Name) → writes run n ≡ true → touches run n ≡ true
+touched run Fixed w = refl
+touched run RootWord w = or_left run.parts.writes_root run.parts.reads_root w
+touched run (ObjectAt off) w = written_touched run.parts off w
+touched run (LineAt l) w = w
+touched run (PendingOf lane) w = w
 
--- the pending actions of other lanes stay
-kept_actions : (act : Act) (s t : State) → Step s act t → (k : ℕ) → eqb k act.lane ≡ false → t.actions k ≡ s.actions k
-kept_actions act s t (inl step) k other = ap (λ (v : State). v.actions k) step.leaves.leaves ∙ other_lane s.actions act.lane k step.last.actions other
-kept_actions act s t (inr step) k other =
-    ap (λ (v : State). v.actions k) step.leaves.leaves ∙ other_lane s.actions act.lane k (after_outside step.operation step.reply (record { pool = s.pool; actions = act.actions })).actions other
+-- ---- what equal contents say
 
-pub keeps : (act : Act) (s t : State) → keeps_blocks act ≡ true → Step s act t → (n : Name) → writes act n ≡ false → content t n ≡ content s n
-keeps act s t keep step Fixed none = ap (λ (p : PoolView). FixedIs p.id p.name p.lanes p.zones) (call_changed act s t keep step).else
-keeps act s t keep step RootOffset none = ap (λ (p : PoolView). RootIs p.root) (call_changed act s t keep step).else
-keeps act s t keep step (ObjectAt off) none = ap ObjectIs ((call_changed act s t keep step).outside off none)
-keeps act s t keep step (ActionsOf lane) none = ap ActionsAre (kept_actions act s t step lane none)
+same_item : (one other : Option Item) (b c : Bool) → ObjectIs one b ≡ ObjectIs other c
+    → one ≡ other
+same_item one other b c same = cc
 
--- a pool that is the other but for its objects and its root
-same_fixed : (p q : PoolView) → FixedIs q.id q.name q.lanes q.zones ≡ FixedIs p.id p.name p.lanes p.zones → q ≡ record p { objects = q.objects; root = q.root }
+same_rooted : (one other : Option Item) (b c : Bool) → ObjectIs one b ≡ ObjectIs other c → b ≡ c
+same_rooted one other b c same = cc
+
+same_lines : (f g : ℕ → Bool) → LineIs f ≡ LineIs g → f ≡ g
+same_lines f g same = cc
+
+same_word : (one other : Option ℕ) → RootIs one ≡ RootIs other → one ≡ other
+same_word one other same = cc
+
+same_pending : (one other : Pending) → PendingIs one ≡ PendingIs other → one ≡ other
+same_pending one other same = cc
+
+same_fixed : (p q : PlainPool)
+    → FixedIs q.id q.name q.lanes q.zones ≡ FixedIs p.id p.name p.lanes p.zones
+    → q ≡ record p { items = q.items; root = q.root }
 same_fixed p q same =
     let ids : q.id ≡ p.id = cc in
     let names : q.name ≡ p.name = cc in
     let lanes : q.lanes ≡ p.lanes = cc in
     let zones : q.zones ≡ p.zones = cc in
-    (λ i. record { id = ids i; name = names i; lanes = lanes i; zones = zones i; objects = q.objects; root = q.root })
+    (λ i. record {
+      id = ids i;
+      name = names i;
+      lanes = lanes i;
+      zones = zones i;
+      items = q.items;
+      root = q.root;
+    })
 
-same_object : (one other : Option Object) → ObjectIs one ≡ ObjectIs other → one ≡ other
-same_object one other same = cc
+-- a state is known by what it has under each name
+pub same_state : (s t : State) → ((n : Name) → content s n ≡ content t n) → s ≡ t
+same_state s t same =
+    let fixed : s.pool ≡ record t.pool {
+      items = s.pool.items;
+      root = s.pool.root;
+    } = same_fixed t.pool s.pool (same Fixed) in
+    let items : (x : ℕ)
+    → s.pool.items x ≡ t.pool.items x = λ x. same_item (s.pool.items x) (t.pool.items x)
+    (is_root s.pool.root x) (is_root t.pool.root x) (same (ObjectAt x)) in
+    let root : s.pool.root ≡ t.pool.root = same_word s.pool.root t.pool.root (same RootWord) in
+    let pending : (k : ℕ)
+    → s.pending k ≡ t.pending k = λ k. same_pending (s.pending k) (t.pending k)
+    (same (PendingOf k)) in
+    (λ i. record s { pool = fixed i })
+    ∙ (λ i. record {
+      pool = record t.pool { items = λ x. items x i; root = root i };
+      pending = λ k. pending k i;
+    })
 
-same_actions : (one other : Pending) → ActionsAre one ≡ ActionsAre other → one ≡ other
-same_actions one other same = cc
+-- ---- what a call keeps
 
-runs_from : (T : ℕ → Bool) (actions : Pending) (told : List Told) (pool other : PoolView) (last : Transaction) → IsPlain actions → KeepBlocks told → TakesWithin T false told → other ≡ record pool { objects = other.objects; root = other.root }
-    → ((off : ℕ) → T off ≡ true → object_at other.objects off ≡ object_at pool.objects off) → RunsFrom (resting pool actions) told last
-    → (end : Transaction) × RunsFrom (resting other actions) told end × Alike T other.root last end
-unfolding RunsFrom
-runs_from T actions [] pool other last plain keep within fixed same runs = absurd runs
-runs_from T actions (t ∷ told) pool other last plain keep within fixed same runs =
-    let start : Alike T other.root (resting pool actions) (resting other actions) = record {
-      objects = other.objects;
-      before = other.objects;
-      is = ap (λ (p : PoolView). resting p actions) fixed;
-      now = same;
-      at_start = same;
-      held = λ off h. absurd (false≢true h);
-      plain = plain;
-    } in
-    let next : Answers (resting other actions) t.operation t.reply × Alike T other.root (after t (resting pool actions)) (after t (resting other actions)) =
-    step_alike T other.root t told (resting pool actions) (resting other actions) (keep_first t told keep) within start runs.0 in
-    let rest : (end : Transaction) × RunsOn (after t (resting other actions)) told end × Alike T other.root last end =
-    runs_alike T other.root told (after t (resting pool actions)) (after t (resting other actions)) last (keep_rest t told keep) (takes_rest T false t told within) next.1 runs.1 in
-    (rest.0, (next.0, rest.1), rest.2)
+own_lane : (pending : ℕ → Pending) (lane k : ℕ) (p : Pending) → eqb k lane ≡ true
+    → with_pending pending lane p k ≡ p
+own_lane pending lane k p same = ap (λ (b : Bool). cond b p (pending k)) same
 
--- what the transaction writes is the same after both runs
-same_written : (act : Act) (s t other : State) (step : TransactionStep s act t) (root : Option ℕ) (end : Transaction) → Alike (λ off. locks act off false) root step.last end
-    → (n : Name) → writes act n ≡ true → content (record { pool = end.pool; actions = with_pending other.actions act.lane end.actions }) n ≡ content t n
-same_written act s t other step root end alike Fixed w = absurd (false≢true w)
-same_written act s t other step root end alike RootOffset w = absurd (false≢true w)
-same_written act s t other step root end alike (ObjectAt off) w =
-    ap (λ (e : Transaction). ObjectIs (object_at e.pool.objects off)) alike.is
-    ∙ (ap ObjectIs (alike.now off (touched act (ObjectAt off) w)) ∙ sym (ap (λ (v : State). content v (ObjectAt off)) step.leaves.leaves))
-same_written act s t other step root end alike (ActionsOf lane) w =
-    ap ActionsAre (own_lane other.actions act.lane lane end.actions w
-    ∙ (ap (λ (e : Transaction). e.actions) alike.is ∙ (sym (own_lane s.actions act.lane lane step.last.actions w) ∙ sym (ap (λ (v : State). v.actions lane) step.leaves.leaves))))
+other_lane : (pending : ℕ → Pending) (lane k : ℕ) (p : Pending) → eqb k lane ≡ false
+    → with_pending pending lane p k ≡ pending k
+other_lane pending lane k p other = ap (λ (b : Bool). cond b p (pending k)) other
 
--- what one operation outside writes
-same_left : (act : Act) (s t other : State) (step : OutsideStep s act t) (left : Outside) → ((off : ℕ) → locks act off false ≡ true
-    → object_at left.pool.objects off ≡ object_at (after_outside step.operation step.reply (record { pool = s.pool; actions = act.actions })).pool.objects off)
-    → left.actions ≡ (after_outside step.operation step.reply (record { pool = s.pool; actions = act.actions })).actions
-    → (n : Name) → writes act n ≡ true → content (record { pool = left.pool; actions = with_pending other.actions act.lane left.actions }) n ≡ content t n
-same_left act s t other step left objects actions Fixed w = absurd (false≢true w)
-same_left act s t other step left objects actions RootOffset w = absurd (false≢true w)
-same_left act s t other step left objects actions (ObjectAt off) w = ap ObjectIs (objects off (touched act (ObjectAt off) w)) ∙ sym (ap (λ (v : State). content v (ObjectAt off)) step.leaves.leaves)
-same_left act s t other step left objects actions (ActionsOf lane) w =
-    ap ActionsAre (own_lane other.actions act.lane lane left.actions w
-    ∙ (actions ∙ (sym (own_lane s.actions act.lane lane (after_outside step.operation step.reply (record { pool = s.pool; actions = act.actions })).actions w)
-    ∙ sym (ap (λ (v : State). v.actions lane) step.leaves.leaves))))
+-- what a call left of a pool
+record Keeps (p : Parts) (before after : PlainPool) : Type 0 where
+  pub fixed : after ≡ record before { items = after.items; root = after.root }
+  pub lines : HasLines (lines_of p) before.items after.items
+  pub stays : (x : ℕ) → written_of p x ≡ false → after.items x ≡ before.items x
+  pub root_stays : (x : ℕ) → written_of p x ≡ false → is_root after.root x ≡ is_root before.root x
+  pub root_word : p.writes_root ≡ false → after.root ≡ before.root
 
--- the lane's pending actions are touched
-same_pending : (act : Act) (s other : State) → ((n : Name) → touches act n ≡ true → content other n ≡ content s n) → s.actions act.lane ≡ act.actions → other.actions act.lane ≡ act.actions
-same_pending act s other same pending = same_actions (other.actions act.lane) (s.actions act.lane) (same (ActionsOf act.lane) (eq-eqb act.lane act.lane refl)) ∙ pending
+-- what it left of another pool, with the same at its parts
+record Alike (p : Parts) (before after other next : PlainPool) : Type 0 where
+  pub pool : next ≡ record other {
+    items = mixed (touched_of p) other.items after.items;
+    root = next.root;
+  }
+  pub root : (next.root ≡ after.root) ⊎ ((next.root ≡ other.root) × (after.root ≡ before.root))
 
-pub local : (act : Act) (s t other : State) → keeps_blocks act ≡ true → Step s act t → ((n : Name) → touches act n ≡ true → content other n ≡ content s n)
-    → (next : State) × Step other act next × ((n : Name) → writes act n ≡ true → content next n ≡ content t n)
-local act s t other keep (inl step) same =
-    let T : ℕ → Bool = λ off. locks act off false in
-    let run : (end : Transaction) × RunsFrom (resting other.pool act.actions) act.told end × Alike T other.pool.root step.last end =
-    runs_from T act.actions act.told s.pool other.pool step.last (plain_of act keep) (told_of act keep) (λ off w. taken_locked act off false w) (same_fixed s.pool other.pool (same Fixed refl))
-    (λ off touch. same_object (object_at other.pool.objects off) (object_at s.pool.objects off) (same (ObjectAt off) touch)) step.runs in
-    let next : State = record { pool = run.0.pool; actions = with_pending other.actions act.lane run.0.actions } in
-    (next, inl (record { last = run.0; runs = run.1; leaves = record { pending = same_pending act s other same step.leaves.pending; leaves = refl } }), same_written act s t other step other.pool.root run.0 run.2)
-local act s t other keep (inr step) same =
-    let fixed : other.pool ≡ record s.pool { objects = other.pool.objects; root = other.pool.root } = same_fixed s.pool other.pool (same Fixed refl) in
-    let there : Outside = record { pool = record s.pool { objects = other.pool.objects; root = other.pool.root }; actions = act.actions } in
-    let named : is_missed step.reply ≡ false → (off : ℕ) → is_wanted (wants_outside step.operation act.actions) off false ≡ true → object_at other.pool.objects off ≡ object_at s.pool.objects off = λ found off w.
-    same_object (object_at other.pool.objects off) (object_at s.pool.objects off) (same (ObjectAt off) (named_locked act off false
-    (ap (λ told. is_wanted (named_by act.actions told) off false) step.alone ∙ (ap (λ (b : Bool). is_wanted (cond b [] (wants_outside step.operation act.actions)) off false) found ∙ w)))) in
-    let plain : IsPlain act.actions = plain_of act keep in
-    let stands : stands_outside step.operation ≡ true = step.answers.known in
-    let keeps : changes_blocks step.operation step.reply ≡ false = keep_first (record { operation = step.operation; reply = step.reply }) [] (subst KeepBlocks step.alone (told_of act keep)) in
-    let answers = answers_there step.operation step.reply s.pool other.pool.objects other.pool.root act.actions plain stands keeps named step.answers in
-    let left : Outside = after_outside step.operation step.reply (record { pool = other.pool; actions = act.actions }) in
-    let left_there : left ≡ after_outside step.operation step.reply there = ap (λ (p : PoolView). after_outside step.operation step.reply (record { pool = p; actions = act.actions })) fixed in
-    let next : State = record { pool = left.pool; actions = with_pending other.actions act.lane left.actions } in (
-      next,
-      inr (record {
-        operation = step.operation;
-        reply = step.reply;
-        alone = step.alone;
-        answers = subst (λ (p : PoolView). AnswersOutside (record { pool = p; actions = act.actions }) step.operation step.reply) (sym fixed) answers;
-        leaves = record { pending = same_pending act s other same step.leaves.pending; leaves = refl };
-      }),
-      same_left act s t other step left
-          (λ off touch. ap (λ (o : Outside). object_at o.pool.objects off) left_there
-          ∙ left_alike step.operation step.reply s.pool other.pool.objects other.pool.root act.actions plain stands keeps named step.reply off
-          (same_object (object_at other.pool.objects off) (object_at s.pool.objects off) (same (ObjectAt off) touch)))
-          (ap (λ (o : Outside). o.actions) left_there ∙ left_actions step.operation step.reply s.pool other.pool.objects other.pool.root act.actions plain stands keeps named step.reply),
+-- the other pool has the same at the parts
+record SameAt (p : Parts) (before other : PlainPool) : Type 0 where
+  pub fixed : other ≡ record before { items = other.items; root = other.root }
+  pub items : (x : ℕ) → touched_of p x ≡ true → other.items x ≡ before.items x
+  pub roots : (x : ℕ) → touched_of p x ≡ true → is_root other.root x ≡ is_root before.root x
+  pub lines : (l x : ℕ) → lines_of p l ≡ true
+      → item_covers x (other.items x) l ≡ item_covers x (before.items x) l
+  pub word : (p.writes_root || p.reads_root) ≡ true → other.root ≡ before.root
+
+same_at : (run : CallRun) (s other : State)
+    → ((n : Name) → touches run n ≡ true → content other n ≡ content s n)
+    → SameAt run.parts s.pool other.pool
+same_at run s other same = record {
+  fixed = same_fixed s.pool other.pool (same Fixed refl);
+  items = λ x t. same_item (other.pool.items x) (s.pool.items x) (is_root other.pool.root x)
+      (is_root s.pool.root x) (same (ObjectAt x) t);
+  roots = λ x t. same_rooted (other.pool.items x) (s.pool.items x) (is_root other.pool.root x)
+      (is_root s.pool.root x) (same (ObjectAt x) t);
+  lines = λ l x b. ap (λ (f : ℕ → Bool). f x)
+      (same_lines (λ off. item_covers off (other.pool.items off) l)
+      (λ off. item_covers off (s.pool.items off) l) (same (LineAt l) b));
+  word = λ e. same_word other.pool.root s.pool.root (same RootWord e);
+}
+
+-- a pool is the same as itself
+same_self : (p : Parts) (pool : PlainPool) → SameAt p pool pool
+same_self p pool = record {
+  fixed = refl;
+  items = λ x t. refl;
+  roots = λ x t. refl;
+  lines = λ l x b. refl;
+  word = λ e. refl;
+}
+
+-- what both kinds of call show: they keep what is not written, and go alike from another pool
+abbrev Shows : CallRun → PlainPool → Pending → PlainPool → Pending → Type 0
+Shows run before pending after left =
+    Keeps run.parts before after
+    × ((s : State) (other : PlainPool) → SameAt run.parts before other → s.pool ≡ other
+    → s.pending run.lane ≡ pending
+    → (next : PlainPool)
+    × CallStep s run (state_with s run.lane (record { pool = next; pending = left }))
+    × Alike run.parts before after other next)
+
+by_transaction : (run : CallRun) (here : PlainPool) (pending : Pending) (last : Transaction)
+    → is_transaction run.operations ≡ true → is_working last.stage ≡ false
+    → Runs (idle here pending) run.operations last
+    → run.parts ≡ parts_inside (idle here pending) run.operations
+    → Shows run here pending (pool_of last) last.pending
+by_transaction run here pending last begins over runs parts =
+    let p : Parts = run.parts in
+    let within : Within (touched_of p) (written_of p) (lines_of p)
+    (parts_inside (idle here pending) run.operations) =
+    subst (Within (touched_of p) (written_of p) (lines_of p)) parts (parts_within p) in
+    let mine = transaction_there here here.items here.root (touched_of p) (written_of p)
+    (lines_of p) (written_touched p) (λ x t. refl) (λ x t. refl)
+    (λ l x b. refl) run.operations pending last within runs in
+    let fits : FitsTx (touched_of p) (written_of p) (lines_of p) here last = mine.2 in
+    let before : last.before ≡ here = mine.3 in (
+      record {
+        fixed = λ i. record (before i) { items = last.items; root = last.before.root };
+        lines = fits.lines;
+        stays = fits.stays;
+        root_stays = λ x out. ap (λ (q : PlainPool). is_root q.root x) before;
+        root_word = λ e. ap (λ (q : PlainPool). q.root) before;
+      },
+      λ s other same is pending_is.
+          let there : PlainPool = record here { items = other.items; root = other.root } in
+          let run_there = transaction_there here other.items other.root (touched_of p)
+          (written_of p) (lines_of p)
+          (written_touched p) same.items same.roots same.lines run.operations pending last within runs in
+          let end : Transaction = record last {
+            before = there;
+            items = mixed (touched_of p) other.items last.items;
+          } in
+          let from : idle there pending ≡ idle s.pool (s.pending run.lane) = λ i. idle
+          ((sym same.fixed ∙ sym is) i) (sym pending_is i) in (
+            pool_of end,
+            inl (record {
+              last = end;
+              begins = begins;
+              over = over;
+              runs = subst (λ (t : Transaction). Runs t run.operations end) from run_there.0;
+              parts = parts ∙ (sym run_there.1
+                  ∙ ap (λ (t : Transaction). parts_inside t run.operations) from);
+              leaves = refl;
+            }),
+            record {
+              pool = λ i. record (sym same.fixed i) {
+                items = mixed
+                    (touched_of p) other.items last.items;
+                root = other.root;
+              };
+              root = inr (refl, ap (λ (q : PlainPool). q.root) before);
+            },
+          ),
     )
 
-pub framed : (act : Act) → keeps_blocks act ≡ true → IsFramedCall act
-framed act keep = record { keeps = λ s t. keeps act s t keep; local = λ s t other. local act s t other keep }
+with_left : (o : Outside) (left : Pending) → o.pending ≡ left
+    → record { pool = o.pool; pending = left } ≡ o
+with_left o left e = λ i. record o { pending = sym e i }
 
--- a call leaves a map a map
-pub keeps_map : (s t : State) (act : Act) → keeps_blocks act ≡ true → Step s act t → IsMap s → IsMap t
-keeps_map s t act keep step is = subst (λ (keys : List ℕ). IsStrictlyIncreasing keys) (sym (call_changed act s t keep step).places) is
+by_outside : (run : CallRun) (here : PlainPool) (pending : Pending) (ran : Ran)
+    → run.operations ≡ ran ∷ [] → RepliesOutside (record { pool = here; pending = pending }) ran
+    → run.parts ≡ parts_outside (record { pool = here; pending = pending }) ran
+    → Shows run here pending (after_outside ran (record { pool = here; pending = pending })).pool
+    (after_outside ran (record { pool = here; pending = pending })).pending
+by_outside run here pending ran single replies parts =
+    let p : Parts = run.parts in
+    let from : Outside = record { pool = here; pending = pending } in
+    let within : Within (touched_of p) (written_of p) (lines_of p)
+    (parts_outside from ran) = subst
+    (Within (touched_of p) (written_of p) (lines_of p)) parts (parts_within p) in
+    let self : SameAt p here here = same_self p here in
+    let mine = beside here here.items here.root (touched_of p) (written_of p) (lines_of p)
+    (written_touched p) (λ x t. refl) (λ x t. refl)
+    (λ l x b. refl) ran.seen pending ran.operation ran.reply within (λ e. refl) replies in (
+      record {
+        fixed = mine.fixed;
+        lines = mine.lines_left;
+        stays = mine.stays;
+        root_stays = mine.root_stays;
+        root_word = λ e. mine.root_word (sym (ap (λ (q : Parts). q.writes_root) parts) ∙ e);
+      },
+      λ s other same is pending_is.
+          let there : PlainPool = record here { items = other.items; root = other.root } in
+          let away = beside here other.items other.root (touched_of p) (written_of p)
+          (lines_of p) (written_touched p) same.items same.roots same.lines ran.seen pending ran.operation ran.reply within
+          (λ e. same.word (ap (λ (q : Parts). q.writes_root || q.reads_root) parts ∙ e)) replies in
+          let at : Outside = record { pool = there; pending = pending } in
+          let to : at ≡ record {
+            pool = s.pool;
+            pending = s.pending run.lane;
+          } = λ i. record {
+            pool = (sym same.fixed ∙ sym is) i;
+            pending = sym pending_is i;
+          } in
+          let next : PlainPool = (after_outside ran at).pool in (
+            next,
+            inr (record {
+              ran = ran;
+              single = single;
+              replies = subst (λ (o : Outside). RepliesOutside o ran) to away.replies;
+              parts = parts ∙ (sym away.parts ∙ ap (λ (o : Outside). parts_outside o ran) to);
+              leaves = ap (state_with s run.lane)
+                  (with_left (after_outside ran at)
+                  (after_outside ran from).pending away.pending ∙ ap (after_outside ran) to);
+            }),
+            record {
+              pool = away.pool ∙ (λ i. record
+                  (sym same.fixed i) {
+                    items = mixed (touched_of p) other.items
+                        (after_outside ran from).pool.items;
+                    root = next.root;
+                  });
+              root = away.root_left;
+            },
+          ),
+    )
 
-same_root : (one other : Option ℕ) → RootIs one ≡ RootIs other → one ≡ other
-same_root one other same = cc
+record Shown (run : CallRun) (s t : State) : Type 0 where
+  pub after : PlainPool
+  pub left : Pending
+  pub is : t ≡ state_with s run.lane (record { pool = after; pending = left })
+  pub shows : Shows run s.pool (s.pending run.lane) after left
 
--- states whose objects are maps are the same where they have the same under each name
-pub same_state : (s t : State) → IsMap s → IsMap t → ((n : Name) → content s n ≡ content t n) → s ≡ t
-same_state s t map_s map_t same =
-    let objects : s.pool.objects ≡ t.pool.objects =
-    same_objects s.pool.objects t.pool.objects map_s map_t (λ off. same_object (object_at s.pool.objects off) (object_at t.pool.objects off) (same (ObjectAt off))) in
-    let root : s.pool.root ≡ t.pool.root = same_root s.pool.root t.pool.root (same RootOffset) in
-    let fixed : s.pool ≡ record t.pool { objects = s.pool.objects; root = s.pool.root } = same_fixed t.pool s.pool (same Fixed) in
-    let pool : s.pool ≡ t.pool = fixed ∙ (λ i. record t.pool { objects = objects i; root = root i }) in
-    (λ i. record { pool = pool i; actions = λ lane. same_actions (s.actions lane) (t.actions lane) (same (ActionsOf lane)) i })
+shown : (run : CallRun) (s t : State) → CallStep s run t → Shown run s t
+shown run s t (inl step) = record {
+  after = pool_of step.last;
+  left = step.last.pending;
+  is = step.leaves;
+  shows = by_transaction run s.pool
+      (s.pending run.lane) step.last step.begins step.over step.runs step.parts;
+}
+shown run s t (inr step) = record {
+  after = (after_outside step.ran (outside_of s run.lane)).pool;
+  left = (after_outside step.ran (outside_of s run.lane)).pending;
+  is = step.leaves;
+  shows = by_outside run s.pool (s.pending run.lane) step.ran step.single step.replies step.parts;
+}
+
+kept : (run : CallRun) (s : State) (after : PlainPool) (left : Pending)
+    → Keeps run.parts s.pool after → (n : Name) → writes run n ≡ false
+    → content (state_with s run.lane (record { pool = after; pending = left })) n ≡ content s n
+kept run s after left keeps Fixed out =
+    ap (λ (q : PlainPool). FixedIs q.id q.name q.lanes q.zones) keeps.fixed
+kept run s after left keeps RootWord out = ap RootIs (keeps.root_word out)
+kept run s after left keeps (ObjectAt x) out =
+    (λ i. ObjectIs (keeps.stays x out i) (keeps.root_stays x out i))
+kept run s after left keeps (LineAt l) out = (λ i. LineIs (λ x. keeps.lines l x out i))
+kept run s after left keeps (PendingOf lane) out =
+    ap PendingIs (other_lane s.pending run.lane lane left out)
+
+alike_written : (run : CallRun) (s other : State) (after next : PlainPool) (left : Pending)
+    → Keeps run.parts s.pool after → SameAt run.parts s.pool other.pool
+    → Alike run.parts s.pool after other.pool next → (n : Name) → writes run n ≡ true
+    → content (state_with other run.lane (record { pool = next; pending = left })) n ≡ content
+    (state_with s run.lane (record { pool = after; pending = left })) n
+alike_written run s other after next left keeps at alike Fixed w = absurd (false≢true w)
+alike_written run s other after next left keeps at alike RootWord w =
+    ap RootIs (⊎_elim (λ (e : next.root ≡ after.root). e)
+    (λ (e : (next.root ≡ other.pool.root) × (after.root ≡ s.pool.root)). e.0
+    ∙ (at.word (or_left run.parts.writes_root run.parts.reads_root w) ∙ sym e.1)) alike.root)
+alike_written run s other after next left keeps at alike (ObjectAt x) w =
+    let t : touched_of run.parts x ≡ true = written_touched run.parts x w in
+    let item : next.items x ≡ after.items x = ap (λ (q : PlainPool). q.items x) alike.pool
+    ∙ mixed_in (touched_of run.parts) other.pool.items after.items x t in
+    let rooted : is_root next.root x ≡ is_root after.root x =
+    ⊎_elim (λ (e : next.root ≡ after.root). ap (λ (r : Option ℕ). is_root r x) e)
+    (λ (e : (next.root ≡ other.pool.root) × (after.root ≡ s.pool.root)). ap
+    (λ (r : Option ℕ). is_root r x) e.0
+    ∙ (at.roots x t ∙ sym (ap (λ (r : Option ℕ). is_root r x) e.1))) alike.root in
+    (λ i. ObjectIs (item i) (rooted i))
+alike_written run s other after next left keeps at alike (LineAt l) w =
+    (λ i. LineIs (λ x. line x i)) where
+      T : ℕ → Bool
+      T = touched_of run.parts
+
+      unwritten : (x : ℕ) → T x ≡ false → written_of run.parts x ≡ false
+      unwritten x out = false_from_ne_true (written_of run.parts x)
+          (λ e. false≢true (sym out ∙ written_touched run.parts x e))
+
+      there : (x : ℕ) → next.items x ≡ mixed T other.pool.items after.items x
+      there x = ap (λ (q : PlainPool). q.items x) alike.pool
+
+      line : (x : ℕ) → item_covers x (next.items x) l ≡ item_covers x (after.items x) l
+      line x = ⊎_elim
+          (λ (t : T x ≡ true). ap (λ (o : Option Item). item_covers x o l)
+          (there x ∙ mixed_in T other.pool.items after.items x t))
+          (λ (f : T x ≡ false). ap (λ (o : Option Item). item_covers x o l)
+          (there x ∙ mixed_out T other.pool.items after.items x f)
+          ∙ (at.lines l x w
+          ∙ sym (ap (λ (o : Option Item). item_covers x o l) (keeps.stays x (unwritten x f)))))
+          (cases_Bool (T x))
+alike_written run s other after next left keeps at alike (PendingOf lane) w =
+    ap PendingIs (own_lane other.pending run.lane lane left w
+    ∙ sym (own_lane s.pending run.lane lane left w))
+
+-- THE FRAME: a call reads and changes its parts alone
+pub framed : (run : CallRun) → IsFramedCall run
+framed run = record {
+  keeps = λ s t step n out.
+      let at : Shown run s t = shown run s t step in
+      ap (λ (v : State). content v n) at.is ∙ kept run s at.after at.left at.shows.0 n out;
+  local = λ s t other step same.
+      let at : Shown run s t = shown run s t step in
+      let here : SameAt run.parts s.pool other.pool = same_at run s other same in
+      let pending : other.pending run.lane ≡ s.pending run.lane = same_pending
+      (other.pending run.lane) (s.pending run.lane)
+      (same (PendingOf run.lane) (eq-eqb run.lane run.lane refl)) in
+      let end = at.shows.1 other other.pool here refl pending in (
+        state_with other run.lane (record { pool = end.0; pending = at.left }),
+        end.1,
+        λ n w. alike_written run s other at.after end.0 at.left at.shows.0 here end.2 n w
+            ∙ sym (ap (λ (v : State). content v n) at.is),
+      );
+}
+
+-- ---- calls that are apart
+
+pub change_places : (a b : CallRun) (s t u : State) → Apart a b → CallStep s a t
+    → CallStep t b u → (m : State) × CallStep s b m × CallStep m a u
+change_places a b s t u apart one two = changing.swapped content CallStep writes touches framed touched same_state a b s t u apart one two
+
+pub come_last : (a : CallRun) (calls : List CallRun) (s t u : State) → ApartFromAll a calls
+    → CallStep s a t → Replays t calls u
+    → (m : State) × Replays s calls m × CallStep m a u
+come_last a calls s t u apart one rest = changing.comes_last content CallStep writes touches framed touched same_state a calls s t u apart one rest
+
+pub stand_earlier : (a : CallRun) (calls : List CallRun) (s m u : State) → ApartFromAll a calls
+    → Replays s calls m → CallStep m a u
+    → (t : State) × CallStep s a t × Replays t calls u
+stand_earlier a calls s m u apart before one = changing.comes_first content CallStep writes touches framed touched same_state a calls s m u apart before one
+
+pub leave_out : (left_out : CallRun → Bool) (calls : List CallRun) (s u : State)
+    → MayBeLeftOut writes touches left_out calls → Replays s calls u
+    → (m : State) × Replays s (filter (λ a. not (left_out a)) calls) m
+    × ((n : Name) → IsUnwritten writes left_out calls n → content m n ≡ content u n)
+leave_out left_out calls s u may replays = changing.leaves_out content CallStep writes touches framed touched same_state left_out calls s u may replays

@@ -12,25 +12,22 @@ use Rattle.pm_objects.specs.declared.history.TxErr.{TxErr}
 use Rattle.pm_objects.specs.declared.history.TxErr.TheVariants as error
 use Rattle.pm_objects.specs.declared.history.Value.{Value}
 use Rattle.pm_objects.specs.declared.history.Value.TheVariants.{Refused}
-use Rattle.pm_model.specs.Answers.{Told, error_for}
-use Rattle.pm_model.specs.Checks.{is_action}
-use Rattle.pm_model.specs.Outside.{stands_outside}
-use Rattle.pm_model.specs.Step.{Act}
-use Rattle.pm_model.specs.Names.{is_refusal}
+use Rattle.pm_model.specs.Inside.{Ran, error_for, is_action, is_refusal}
+use Rattle.pm_model.specs.Outside.{is_outside}
+use Rattle.pm_model.specs.CallStep.{CallRun}
 
--- the error of a transaction that begins with this operation and its reply, if the rest of it has that error. A refusal of an operation on the
--- pending actions alone is none
+-- the error of a transaction that begins with this operation and its reply, if the rest of it has
+-- that error. A refusal of an operation on the pending list alone is none
 abbrev pub error_by : Operation → Option Value → TxErr → TxErr
 error_by op (Some (Refused r)) rest = if is_action op then rest else error.Refused r
 error_by (Abort errnum) reply rest = error_for errnum
 error_by op reply rest = rest
 
 -- the error that a transaction of these operations ends with
-unfoldable pub error_of : List Told → TxErr
+unfoldable pub error_of : List Ran → TxErr
 error_of [] = error.None
-error_of (t ∷ told) = error_by t.operation t.reply (error_of told)
+error_of (ran ∷ rest) = error_by ran.operation ran.reply (error_of rest)
 
--- the operation aborts the transaction by the user's wish: pmemobj_tx_abort
 abbrev pub is_abort : Operation → Bool
 is_abort (Abort errnum) = true
 is_abort op = false
@@ -42,51 +39,56 @@ values_at line op (Some (Refused r)) = if is_action op then (line, Refused r) �
 values_at line op (Some value) = (line, value) ∷ []
 
 -- the values of operations on these lines
-unfoldable pub values_of : List ℕ → List Told → List (ℕ × Value)
-values_of [] told = []
+unfoldable pub values_of : List ℕ → List Ran → List (ℕ × Value)
+values_of [] rest = []
 values_of lines [] = []
-values_of (line ∷ lines) (t ∷ told) = values_at line t.operation t.reply ++ values_of lines told
+values_of (line ∷ lines) (ran ∷ rest) =
+    values_at line ran.operation ran.reply ++ values_of lines rest
 
 -- the call is one operation outside of a transaction
-abbrev pub is_outside : List Told → Bool
-is_outside [] = false
-is_outside (t ∷ told) = stands_outside t.operation
+abbrev pub is_single : List Ran → Bool
+is_single [] = false
+is_single (ran ∷ rest) = is_outside ran.operation
 
 -- what it answered
-abbrev pub answer_of : List Told → Option Value
+abbrev pub answer_of : List Ran → Option Value
 answer_of [] = None
-answer_of (t ∷ told) = t.reply
+answer_of (ran ∷ rest) = ran.reply
 
 -- the values of a call on these lines. One outside of a transaction has none where it is refused:
--- its fate has that
-abbrev pub values_shown : List ℕ → List Told → List (ℕ × Value)
-values_shown lines told = if is_outside told && is_refusal (answer_of told) then [] else values_of lines told
+-- its fate tells that
+abbrev pub values_shown : List ℕ → List Ran → List (ℕ × Value)
+values_shown lines rest =
+    if is_single rest && is_refusal (answer_of rest) then [] else values_of lines rest
 
 -- the operation aborted the transaction
-abbrev pub aborts : Told → Bool
-aborts t = (not (is_action t.operation) && is_refusal t.reply) || is_abort t.operation
+abbrev pub aborts : Ran → Bool
+aborts ran = (not (is_action ran.operation) && is_refusal ran.reply) || is_abort ran.operation
 
 -- the line of the operation that aborted, 0 where none did
-unfoldable pub line_of_abort : List ℕ → List Told → ℕ
-line_of_abort [] told = 0
+unfoldable pub line_of_abort : List ℕ → List Ran → ℕ
+line_of_abort [] rest = 0
 line_of_abort lines [] = 0
-line_of_abort (line ∷ lines) (t ∷ told) = if aborts t then line else line_of_abort lines told
+line_of_abort (line ∷ lines) (ran ∷ rest) = if aborts ran then line else line_of_abort lines rest
 
--- a call of a script with its reply shows what ran: its operations up to the one that aborted, else all of them. Each stands on a line of its own
-pub record IsShown (call : Call) (reply : Reply) (act : Act) : Type 0 where
+-- a call of a script with its reply shows what ran: its operations up to the one that aborted,
+-- else all of them. Each stands on a line of its own
+pub record IsShown (call : Call) (reply : Reply) (run : CallRun) : Type 0 where
   pub lines : List ℕ
   pub one_each : length lines ≡ length call.operations
   pub rising : IsStrictlyIncreasing lines
   pub first : slice_index lines 0 ≡ call.first
   pub last : slice_index lines (length lines - 1) ≡ call.last
-  pub lane : act.lane ≡ call.lane
+  pub lane : run.lane ≡ call.lane
   pub passed_over : List Operation
-  pub operations : map (λ (t : Told). t.operation) act.told ++ passed_over ≡ call.operations
-  pub whole : error_of act.told ≡ error.None → passed_over ≡ []
-  pub values : reply.values ≡ values_shown lines act.told
-  pub at : reply.at ≡ (if is_outside act.told then 0 else line_of_abort lines act.told)
+  pub operations : map (λ (ran : Ran). ran.operation) run.operations
+      ++ passed_over ≡ call.operations
+  pub whole : error_of run.operations ≡ error.None → passed_over ≡ []
+  pub values : reply.values ≡ values_shown lines run.operations
+  pub at : reply.at ≡ (if is_single run.operations then 0 else line_of_abort lines run.operations)
 
--- a call that ended with this error may have this fate. One that was aborted is never lost, since it changed nothing
+-- a call that ended with this error may have this fate. One that was aborted is never lost, since
+-- it changed nothing
 abbrev pub IsFateOf : TxErr → Fate → Type 0
 IsFateOf e fate.Done = e ≡ error.None
 IsFateOf e fate.Kept = Unit {0}
@@ -100,12 +102,11 @@ IsFateOutside reply (fate.Refused r) = reply ≡ Some (Refused r)
 IsFateOutside reply (fate.Aborted e) = ⊥
 IsFateOutside reply f = is_refusal reply ≡ false
 
--- a call of these operations, outside of a transaction or one, may have this fate
-abbrev pub IsFate : Bool → List Told → Fate → Type 0
-IsFate true told f = IsFateOutside (answer_of told) f
-IsFate false told f = IsFateOf (error_of told) f
+abbrev pub IsFate : Bool → List Ran → Fate → Type 0
+IsFate true rest f = IsFateOutside (answer_of rest) f
+IsFate false rest f = IsFateOf (error_of rest) f
 
 -- the entry of the history is that of a call that ran so
-pub record IsEntry (entry : Entry) (act : Act) : Type 0 where
-  pub shown : IsShown entry.call entry.reply act
-  pub fate : IsFate (is_outside act.told) act.told entry.fate
+pub record IsEntry (entry : Entry) (run : CallRun) : Type 0 where
+  pub shown : IsShown entry.call entry.reply run
+  pub fate : IsFate (is_single run.operations) run.operations entry.fate

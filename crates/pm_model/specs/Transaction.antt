@@ -1,16 +1,14 @@
--- A transaction as it runs: pmemobj_tx_begin(3). It works on a copy of the pool, which the outermost commit makes the pool.
-use Rattle.std.specs.Prelude.{ℕ, ◌+◌, ◌-◌, ◌==◌, ◌&&◌, ◌||◌, not, nat_le, Bool, true, false, if◌then◌else◌, List, [], ◌∷◌, ◌++◌, length, filter}
-use Rattle.std.specs.List.{list_any}
-use Rattle.pm_objects.specs.Pool.{Objects, offsets}
+-- A transaction as it runs: pmemobj_tx_begin(3). It works on a copy of the objects, which the
+-- outermost commit makes the pool's.
+use Rattle.std.specs.Prelude.{ℕ, ◌+◌, ◌-◌, ◌/◌, ◌==◌, ◌&&◌, ◌||◌, not, nat_lt, nat_le, Bool, true, false, if◌then◌else◌, List, [], ◌∷◌, ◌++◌, length, map, filter}
+use Rattle.std.specs.List.{list_any, range_with_len}
 use Rattle.pm_objects.specs.declared.calls.Want.{Want}
 use Rattle.pm_objects.specs.declared.history.TxErr.{TxErr}
 use Rattle.pm_objects.specs.declared.history.TxErr.TheVariants as error
-use Rattle.pm_objects.specs.declared.pool.PoolView.{PoolView}
-use Rattle.pm_model.specs.Actions.{Action, Pending, Reservation, none_pending, object_reserved, with_actions}
-use Rattle.pm_model.specs.Bytes.{is_among}
-use Rattle.pm_model.specs.NewObjects.{pool_with, pool_without}
 use Rattle.pm_objects.specs.declared.ids.Oid.{Oid}
-use Rattle.pm_objects.specs.declared.pool.Object.{Object}
+use Rattle.pm_model.specs.Items.{Item, Items, PlainPool, all_edited, edited, freed_item, is_among, made_item, put_into}
+use Rattle.pm_model.specs.Blocks.{Block}
+use Rattle.pm_model.specs.Pending.{Pending, SetWord, block_edits, blocks_reserved, none_pending, set_edits}
 use Rattle.pm_model.specs.declared.stage.Stage.{Stage}
 use Rattle.pm_model.specs.declared.stage.Stage.TheVariants as stage
 
@@ -19,142 +17,208 @@ pub record Lock : Type 0 where
   pub off : ℕ
   pub write : Bool
 
--- a transaction in one moment
 pub record Transaction : Type 0 where
-  -- the pool as the outermost level began, and its copy with what was changed since
-  pub before : PoolView
-  pub pool : PoolView
-  -- how many levels are open, and the stage
+  -- the pool as the outermost level began, and the copy of its objects with what was changed since
+  pub before : PlainPool
+  pub items : Items
   pub level : ℕ
   pub stage : Stage
-  -- the locks, one of an object
+  -- one lock an object
   pub locks : List Lock
-  -- the words that were recorded, by their numbers in the pool, and in how many records
+  -- the recorded words, by their numbers in the pool, and in how many records
   pub recorded : List ℕ
   pub records : ℕ
-  -- what the lane has pending, and the words that were published in the transaction: they are set when it is committed
-  pub actions : Pending
-  pub moved : List Action
-  -- the offsets of the objects that it made, in the order of their calls
-  pub made : List ℕ
-  -- those that it made and freed again, as they were then: their blocks stay reserved to its end
-  pub dropped : Objects
-  -- and those that it found and freed
+  -- what the lane has pending, and the words that were published in the transaction: they are set
+  -- when it is committed
+  pub pending : Pending
+  pub sets : List SetWord
+  -- the blocks of the objects that it made, and which of these it freed again: their blocks stay
+  -- reserved to its end
+  pub made : List Block
+  pub dropped : List ℕ
+  -- the existing objects that it freed
   pub freed : List ℕ
   pub error : TxErr
 
--- no transaction is open, and this is pending
-abbrev pub resting : PoolView → Pending → Transaction
-resting pool actions =
-    record { before = pool; pool = pool; level = 0; stage = stage.None; locks = []; recorded = []; records = 0; actions = actions; moved = []; made = []; dropped = []; freed = []; error = error.None }
+-- no transaction is open: the copy is the pool's, and this is pending
+abbrev pub idle : PlainPool → Pending → Transaction
+idle pool pending =
+    record {
+      before = pool;
+      items = pool.items;
+      level = 0;
+      stage = stage.None;
+      locks = [];
+      recorded = [];
+      records = 0;
+      pending = pending;
+      sets = [];
+      made = [];
+      dropped = [];
+      freed = [];
+      error = error.None;
+    }
 
--- and nothing
-abbrev pub at_rest : PoolView → Transaction
-at_rest pool = resting pool none_pending
+-- the pool with its objects as they are in the copy
+abbrev pub pool_of : Transaction → PlainPool
+pool_of tx = record tx.before { items = tx.items }
 
--- the stage TX_STAGE_WORK
 abbrev pub is_working : Stage → Bool
 is_working stage.Work = true
 is_working s = false
 
--- nothing was aborted
-abbrev pub is_unharmed : TxErr → Bool
-is_unharmed error.None = true
-is_unharmed e = false
+abbrev pub is_none : TxErr → Bool
+is_none error.None = true
+is_none e = false
 
--- the locks with one more: an object has one lock, for writing where it was ever requested so
+-- ---- locks
+
+-- the locks with one more: an object has one lock, for writing where it was ever asked for so
 unfoldable pub locked : ℕ → Bool → List Lock → List Lock
 locked off write [] = record { off = off; write = write } ∷ []
 locked off write (lock ∷ locks) =
-    if lock.off == off then record { off = off; write = lock.write || write } ∷ locks else lock ∷ locked off write locks
+    if lock.off == off then record { off = off; write = lock.write || write } ∷ locks else lock
+    ∷ locked off write locks
 
--- the locks with all that are requested
-unfoldable pub locked_all : List Want → List Lock → List Lock
-locked_all [] locks = locks
-locked_all (want ∷ wants) locks = locked_all wants (locked want.id.off want.write locks)
+unfoldable pub all_locked : List Want → List Lock → List Lock
+all_locked [] locks = locks
+all_locked (want ∷ wants) locks = all_locked wants (locked want.id.off want.write locks)
 
 -- the lock of the object is held, for writing if so asked
 abbrev pub is_locked : List Lock → ℕ → Bool → Bool
-is_locked locks off write = list_any (λ (lock : Lock). lock.off == off && (lock.write || not write)) locks
-
--- the transaction made an object at the offset, and freed it again
-abbrev pub is_dropped : Transaction → ℕ → Bool
-is_dropped tx off = is_among (offsets tx.dropped) off
+is_locked locks off write =
+    list_any (λ (lock : Lock). lock.off == off && (lock.write || not write)) locks
 
 -- the transaction made the object at the offset: no other lane knows of it, so it needs no lock
 abbrev pub is_new : Transaction → ℕ → Bool
-is_new tx off = is_among tx.made off || is_dropped tx off
+is_new tx off = list_any (λ (b : Block). b.off == off) tx.made
 
 -- it freed the object at the offset
 abbrev pub is_gone : Transaction → ℕ → Bool
-is_gone tx off = is_among tx.freed off || is_dropped tx off
+is_gone tx off = is_among tx.freed off || is_among tx.dropped off
 
--- it may use the object at the offset, to write if so asked: the object is new, or its lock is held
-abbrev pub holds_object : Transaction → ℕ → Bool → Bool
-holds_object tx off write = is_new tx off || is_locked tx.locks off write
+-- it may use the object at the offset, to write if so asked
+abbrev pub holds : Transaction → ℕ → Bool → Bool
+holds tx off write = is_new tx off || is_locked tx.locks off write
 
--- the requests for existing objects: of a new one no lock is taken
+-- of new objects no lock is taken
 abbrev pub wants_of_old : Transaction → List Want → List Want
 wants_of_old tx wants = filter (λ (want : Want). not (is_new tx want.id.off)) wants
 
--- the entries of its redo log, but for that of its generation: one for each action that was published, and for each object made or freed
-abbrev pub entries_of : Transaction → ℕ
-entries_of tx = length tx.moved + length tx.made + length tx.freed
+abbrev pub with_locks : List Want → Transaction → Transaction
+with_locks wants tx = record tx { locks = all_locked (wants_of_old tx wants) tx.locks }
 
--- an object comes to be at the offset, new
-abbrev pub made_at : ℕ → Object → Transaction → Transaction
-made_at off object tx = record tx { pool = pool_with off object tx.pool; made = tx.made ++ off ∷ [] }
+-- ---- records
 
--- the object at the offset is freed: the block of one that was made here stays reserved to the end
-abbrev pub released : ℕ → Transaction → Transaction
-released off tx =
-    if is_among tx.made off
-    then record tx { pool = pool_without off tx.pool; made = filter (λ other. not (other == off)) tx.made; dropped = tx.dropped ++ filter (λ entry. entry.0 == off) tx.pool.objects }
-    else record tx { pool = pool_without off tx.pool; freed = tx.freed ++ off ∷ [] }
+-- the words that have some of so many bytes from a place on. Word w has the bytes from 8 * w on
+unfoldable pub covered_words : ℕ → ℕ → List ℕ
+covered_words place len =
+    if len == 0 then [] else range_with_len (place / 8) ((place + len - 1) / 8 + 1 - place / 8)
 
--- objects are freed, one after another
-abbrev pub all_released : List Oid → Transaction → Transaction
-all_released [] tx = tx
-all_released (id ∷ ids) tx = all_released ids (released id.off tx)
+-- those of the words that are not recorded yet
+unfoldable pub new_words : List ℕ → List ℕ → List ℕ
+new_words recorded words = filter (λ w. not (is_among recorded w)) words
 
--- objects that were reserved are allocated, one after another
-abbrev pub all_made : List Reservation → Transaction → Transaction
-all_made [] tx = tx
-all_made (r ∷ rs) tx = all_made rs (made_at r.off (object_reserved r) tx)
+-- the records of some words in rising order, each of one to four consecutive words: its first
+-- word and how many. The first argument is the record that is open
+unfoldable pub records_from : ℕ × ℕ → List ℕ → List (ℕ × ℕ)
+records_from open_one [] = open_one ∷ []
+records_from open_one (w ∷ words) =
+    if w == open_one.0 + open_one.1 && nat_lt open_one.1 4
+    then records_from (open_one.0, open_one.1 + 1) words
+    else open_one ∷ records_from (w, 1) words
 
--- the words that are pending are the transaction's, and nothing is pending any more
-abbrev pub given_over : Transaction → Transaction
-given_over tx = record tx { moved = tx.moved ++ tx.actions.sets; actions = none_pending }
+unfoldable pub records_of : List ℕ → List (ℕ × ℕ)
+records_of [] = []
+records_of (w ∷ words) = records_from (w, 1) words
 
--- a publish inside: frees, then new objects; the words that are to be set wait for the commit
+-- the words that a range has to be recorded: none of a new object
+abbrev pub words_to_record : Transaction → ℕ → ℕ → ℕ → List ℕ
+words_to_record tx off at len =
+    if is_new tx off then [] else new_words tx.recorded (covered_words (off + at) len)
+
+abbrev pub with_range : ℕ → ℕ → ℕ → Transaction → Transaction
+with_range off at len tx =
+    let words = words_to_record tx off at len in
+    record tx { recorded = tx.recorded ++ words; records = tx.records + length (records_of words) }
+
+-- ---- objects
+
+abbrev pub written : ℕ → ℕ → List ℕ → Transaction → Transaction
+written off at bytes tx = record tx { items = edited (put_into off at bytes) tx.items }
+
+-- a new object comes to be at the offset
+abbrev pub allocated : ℕ → Item → Transaction → Transaction
+allocated off item tx =
+    record tx {
+      items = edited (made_item off item) tx.items;
+      made = record { off = off; size = length item.bytes } ∷ tx.made;
+    }
+
+-- the object at the offset is freed
+abbrev pub freed_at : ℕ → Transaction → Transaction
+freed_at off tx =
+    let new = is_new tx off in
+    record tx {
+      items = edited (freed_item off) tx.items;
+      dropped = if new then off ∷ tx.dropped else tx.dropped;
+      freed = if new then tx.freed else off ∷ tx.freed;
+    }
+
+-- What is pending becomes the transaction's: objects are freed, those that are reserved come to
+-- be, and words wait for the commit
 abbrev pub published : Transaction → Transaction
-published tx = all_made tx.actions.reserved (all_released tx.actions.frees (given_over tx))
+published tx =
+    let offs = map (λ (id : Oid). id.off) tx.pending.frees in
+    record tx {
+      items = all_edited (block_edits tx.pending) tx.items;
+      sets = tx.sets ++ tx.pending.sets;
+      pending = none_pending;
+      made = blocks_reserved tx.pending ++ tx.made;
+      dropped = filter (is_new tx) offs ++ tx.dropped;
+      freed = filter (λ off. not (is_new tx off)) offs ++ tx.freed;
+    }
 
--- one level more, with the locks that it requests
+-- the entries of its redo log, but for that of its generation: one for each word to be set, and
+-- for each object made or freed
+abbrev pub entries_of : Transaction → ℕ
+entries_of tx = length tx.sets + (length tx.made - length tx.dropped) + length tx.freed
+
+-- ---- levels and stages
+
 abbrev pub begun : List Want → Transaction → Transaction
-begun wants tx = record tx { level = tx.level + 1; stage = stage.Work; locks = locked_all (wants_of_old tx wants) tx.locks }
+begun wants tx = record (with_locks wants tx) { level = tx.level + 1; stage = stage.Work }
 
--- the innermost level is committed: at the outermost one the copy is the pool from now on
 abbrev pub committed : Transaction → Transaction
 committed tx = record tx { stage = stage.OnCommit }
 
--- the transaction is aborted for this reason: the pool is as it was, and what was published, made
--- and freed is forgotten. A refused outermost begin leaves level 1
+-- all of it is rolled back, with this error; what was published is gone. A refused outermost
+-- begin leaves level 1
 abbrev pub aborted : TxErr → Transaction → Transaction
 aborted e tx =
-    record tx { pool = tx.before; level = if tx.level == 0 then 1 else tx.level; stage = stage.OnAbort; moved = []; made = []; dropped = []; freed = []; error = e }
+    record tx {
+      items = tx.before.items;
+      level = if tx.level == 0 then 1 else tx.level;
+      stage = stage.OnAbort;
+      sets = [];
+      made = [];
+      dropped = [];
+      freed = [];
+      error = e;
+    }
 
--- an inner level is ended: what is open goes on working, unless it was aborted
-abbrev pub ended_inner : Transaction → Transaction
-ended_inner tx = record tx { level = tx.level - 1; stage = if is_unharmed tx.error then stage.Work else stage.OnAbort }
-
--- one level less: at the outermost one what was published is performed, the locks are released,
--- and no transaction is open. Actions that are
--- pending stay so
+-- one level less. At the outermost one the published words are set, the locks are given back, and
+-- no transaction is open; at an inner one the outer goes on working, unless all was aborted
 abbrev pub ended : Transaction → Transaction
-ended tx = if nat_le tx.level 1 then resting (with_actions tx.moved tx.pool) tx.actions else ended_inner tx
+ended tx =
+    if nat_le tx.level 1
+    then record (idle tx.before tx.pending) { items = all_edited (set_edits tx.sets) tx.items }
+    else record tx {
+      level = tx.level - 1;
+      stage = if is_none tx.error then stage.Work else stage.OnAbort;
+    }
 
--- one stage on: in work it commits, with no transaction open it changes nothing
+-- one stage on: in work it commits, and from the last stage on it changes nothing
 abbrev pub processed_from : Stage → Transaction → Transaction
 processed_from stage.Work tx = committed tx
 processed_from stage.OnCommit tx = record tx { stage = stage.Finally }
@@ -162,6 +226,5 @@ processed_from stage.OnAbort tx = record tx { stage = stage.Finally }
 processed_from stage.Finally tx = record tx { stage = stage.None }
 processed_from stage.None tx = tx
 
--- the next stage: pmemobj_tx_process
 abbrev pub processed : Transaction → Transaction
 processed tx = processed_from tx.stage tx

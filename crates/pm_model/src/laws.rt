@@ -1,140 +1,99 @@
-ghost use Rattle.std.specs.Prelude.{◌≡◌, ◌≢◌, ◌↔◌, ℕ, Bool, true, false, not, IsTrue, IsSome, List, [], filter, replicate, MatchOption, Some, None};
-ghost use Rattle.std.specs.List.Sorted.{IsStrictlyIncreasing};
-ghost use Rattle.pm_objects.specs.Pool.{object_at, IsPool, Objects, offsets};
-ghost use Rattle.pm_objects.specs.declared.calls.Operation.{Operation};
-ghost use Rattle.pm_objects.specs.declared.calls.Operation.TheVariants as operation;
+ghost use Rattle.std.specs.Prelude.{◌≡◌, ◌≢◌, ◌↔◌, ℕ, Bool, true, not, List, [], ◌∷◌, ◌++◌, filter};
+ghost use Rattle.pm_objects.specs.Pool.{IsPool};
 ghost use Rattle.pm_objects.specs.declared.history.TxErr.TheVariants as error;
-ghost use Rattle.pm_objects.specs.declared.history.Value.TheVariants.{Offset, Refused};
-ghost use Rattle.pm_objects.specs.declared.pool.Object.{Object};
-ghost use Rattle.pm_objects.specs.declared.refusal.Refusal.{Refusal};
+ghost use Rattle.pm_objects.specs.declared.pool.PoolView.{PoolView};
+ghost use Rattle.pm_model.specs.Items.{plain_pool};
 ghost use Rattle.pm_model.specs.Places.{can_begin, CanBegin};
-ghost use Rattle.pm_model.specs.NewObjects.{with_object, without_object};
-ghost use Rattle.pm_model.specs.Transaction.{Transaction, is_gone, is_new, released};
-ghost use Rattle.pm_model.specs.Checks.{seeks_block};
-ghost use Rattle.pm_model.specs.Answers.{allocated, changes_nothing, is_known, Answers, IsNewPlace, StandsOnceDone};
-ghost use Rattle.pm_model.specs.Step.{State, Act, Step, TransactionStep};
-ghost use Rattle.pm_model.specs.Framed.{MayBeLeftOut, IsUnwritten};
-ghost use Rattle.pm_model.specs.Names.{Name, content, IsMap, keeps_blocks, AllKeepBlocks, writes, touches, IsFramedCall, Apart, ApartFromAll, Replays};
+ghost use Rattle.pm_model.specs.CallStep.{CallRun, CallStep, Runs, State, TransactionStep};
+ghost use Rattle.pm_model.specs.Inside.{Ran, Replies, after};
+ghost use Rattle.pm_model.specs.Transaction.{Transaction, is_working};
+ghost use Rattle.pm_model.specs.Framed.{IsUnwritten, MayBeLeftOut};
+ghost use Rattle.pm_model.specs.Names.{Apart, ApartFromAll, IsFramedCall, Name, Replays, content, touches, writes};
 ghost use Rattle.pm_model.specs.Shown.{error_of};
-ghost use Rattle.pm_model.specs.Alone.{refusal_alone, answer_alone};
+ghost use Rattle.pm_model.specs.Sound.{IsSound, IsSoundState};
 
-/// A law: a call that keeps every block changes only what it writes, and goes alike from each state that has the same where it touches it. Of a
-/// call that allocates or frees no names say what it reads: a new block overlaps none of the pool, and what is freed is in no list. No code runs.
+/// A law: each call changes only what it writes, and goes alike from each state that has the same
+/// where it touches it. No code runs.
 pub fn calls_have_parts()
-    ensures { (act : Act) → keeps_blocks act ≡ true → IsFramedCall act }
+    ensures { (run : CallRun) → IsFramedCall run }
 {}
 
-/// A law: two neighbours that are apart may change places, with all replies kept. Both keep every block, since only of such calls names say what
-/// they read. No code runs.
+/// A law: two neighbours that are apart may change places, with all replies kept. No code runs.
 pub fn apart_calls_change_places()
-    ensures { (a b : Act) (s t u : State) → keeps_blocks a ≡ true → keeps_blocks b ≡ true → IsMap s → Apart a b
-        → Step s a t → Step t b u → (m : State) × Step s b m × Step m a u }
+    ensures { (a b : CallRun) (s t u : State) → Apart a b → CallStep s a t → CallStep t b u
+        → (m : State) × CallStep s b m × CallStep m a u }
 {}
 
-/// A law: a call that is apart from all later ones may come last. All keep every block, since only of such calls names say what they read. No
-/// code runs.
+/// A law: a call that is apart from all later ones may come last. No code runs.
 pub fn apart_calls_come_last()
-    ensures { (a : Act) (calls : List Act) (s t u : State) → keeps_blocks a ≡ true → AllKeepBlocks calls → IsMap s → ApartFromAll a calls
-        → Step s a t → Replays t calls u
-        → (m : State) × Replays s calls m × Step m a u }
+    ensures { (a : CallRun) (calls : List CallRun) (s t u : State) → ApartFromAll a calls
+        → CallStep s a t → Replays t calls u
+        → (m : State) × Replays s calls m × CallStep m a u }
 {}
 
-/// A law: a call that came last stands as well before all those from which it is apart. All keep every block, since only of such calls names say
-/// what they read. No code runs.
+/// A law: a call that came last stands as well before all those from which it is apart. No code
+/// runs.
 pub fn late_calls_stand_earlier()
-    ensures { (a : Act) (calls : List Act) (s m u : State) → keeps_blocks a ≡ true → AllKeepBlocks calls → IsMap s → ApartFromAll a calls
-        → Replays s calls m → Step m a u
-        → (t : State) × Step s a t × Replays t calls u }
+    ensures { (a : CallRun) (calls : List CallRun) (s m u : State) → ApartFromAll a calls
+        → Replays s calls m → CallStep m a u
+        → (t : State) × CallStep s a t × Replays t calls u }
 {}
 
-/// A law: calls that are apart from all later ones may be left out; what they don't write ends as before. All keep every block, since only of
-/// such calls names say what they read. No code runs.
+/// A law: calls that are apart from all later ones may be left out. What they don't write ends as
+/// before. No code runs.
 pub fn apart_calls_may_be_left_out()
-    ensures { (left_out : Act → Bool) (calls : List Act) (s u : State) → AllKeepBlocks calls → IsMap s
+    ensures { (left_out : CallRun → Bool) (calls : List CallRun) (s u : State)
         → MayBeLeftOut writes touches left_out calls → Replays s calls u
         → (m : State) × Replays s (filter (λ a. not (left_out a)) calls) m
         × ((n : Name) → IsUnwritten writes left_out calls n → content m n ≡ content u n) }
 {}
 
-/// A law: a call's replies fix the next state. No code runs.
-pub fn replies_fix_the_next_state()
-    ensures { (act : Act) (s t u : State) → Step s act t → Step s act u → t ≡ u }
-{}
-
 /// A law: a state is known by what it has under each name. No code runs.
 pub fn states_are_known_by_names()
-    ensures { (s t : State) → IsMap s → IsMap t → ((n : Name) → content s n ≡ content t n)
-        → s ≡ t }
+    ensures { (s t : State) → ((n : Name) → content s n ≡ content t n) → s ≡ t }
 {}
 
-/// A law: a call leaves a pool a pool. No code runs.
-pub fn calls_keep_pools()
-    ensures { (act : Act) (s t : State) → Step s act t → IsPool s.pool → IsPool t.pool }
+/// A law: a pool is known by its plain pool. No code runs.
+pub fn pools_are_known_by_their_items()
+    ensures { (v w : PoolView) → IsPool v → IsPool w → plain_pool v ≡ plain_pool w → v ≡ w }
 {}
 
-/// A law: a transaction's error is told by its operations, and a call that is told as an error changed no pool. No code runs.
+/// A law: a call's replies fix the next state. No code runs.
+pub fn replies_fix_the_next_state()
+    ensures { (run : CallRun) (s t u : State) → CallStep s run t → CallStep s run u → t ≡ u }
+{}
+
+/// A law: a transaction ends with the error that its operations show, and a call that shows an
+/// error changed no pool. No code runs.
 pub fn aborted_calls_change_nothing()
-    ensures error { (act : Act) (s t : State) → (step : TransactionStep s act t) → step.last.error ≡ error_of act.told }
-    ensures unchanged { (act : Act) (s t : State) → Step s act t → error_of act.told ≢ error.None → t.pool ≡ s.pool }
+    ensures error { (run : CallRun) (s t : State) → (step : TransactionStep s run t)
+        → step.last.error ≡ error_of run.operations }
+    ensures unchanged { (run : CallRun) (s t : State) → CallStep s run t
+        → error_of run.operations ≢ error.None → t.pool ≡ s.pool }
 {}
 
-/// A law: what a lane answers that runs alone is an answer, where its refusal is one that leaves a trace, and what is reserved may stand once it is
-/// published. An allocation and a reservation answer with any place where the object may stand, or are so refused. No code runs.
-pub fn answers_alone_are_answers()
-    ensures answers { (spent full : Bool) (tx : Transaction) (op : Operation) → IsTrue (is_known op) → seeks_block op ≡ false → StandsOnceDone tx op
-        → MatchOption (refusal_alone spent full tx op) (Unit {0}) (λ r. changes_nothing r ≡ false)
-        → Answers tx op (answer_alone spent full tx op) }
-    ensures offset { (spent full : Bool) (tx : Transaction) (size kind off : ℕ)
-        → refusal_alone spent full tx (operation.Alloc size kind) ≡ None → IsNewPlace tx size off
-        → Answers tx (operation.Alloc size kind) (Some (Offset off)) }
-    ensures refused { (spent full : Bool) (tx : Transaction) (size kind : ℕ) (r : Refusal)
-        → refusal_alone spent full tx (operation.Alloc size kind) ≡ Some r → changes_nothing r ≡ false
-        → Answers tx (operation.Alloc size kind) (Some (Refused r)) }
-    ensures place { (spent full : Bool) (tx : Transaction) (size kind off : ℕ)
-        → refusal_alone spent full tx (operation.Reserve size kind) ≡ None → IsNewPlace tx size off
-        → Answers tx (operation.Reserve size kind) (Some (Offset off)) }
-    ensures unreserved { (spent full : Bool) (tx : Transaction) (size kind : ℕ) (r : Refusal)
-        → refusal_alone spent full tx (operation.Reserve size kind) ≡ Some r → changes_nothing r ≡ false
-        → Answers tx (operation.Reserve size kind) (Some (Refused r)) }
-{}
-
-/// A law: a block can begin before an offset exactly where whole chunks or a block of a run can. No code runs.
+/// A law: a block can begin before an offset exactly where whole chunks or a block of a run can.
+/// No code runs.
 pub fn blocks_begin_at_chunks_and_in_runs()
-    ensures { (lanes zones off : ℕ) → (can_begin lanes zones off ≡ true) ↔ CanBegin lanes zones off }
+    ensures { (lanes zones off : ℕ)
+        → (can_begin lanes zones off ≡ true) ↔ CanBegin lanes zones off }
 {}
 
-/// A law: objects with one more, where none was, have it at its offset, and objects without one have none there; at each other offset they have
-/// what was there, and they are in rising offsets still. No code runs.
-pub fn objects_are_told_by_their_offsets()
-    ensures there { (objects : Objects) (off : ℕ) (object : Object) → object_at objects off ≡ None
-        → object_at (with_object off object objects) off ≡ Some object }
-    ensures others { (objects : Objects) (off other : ℕ) (object : Object) → other ≢ off
-        → object_at (with_object off object objects) other ≡ object_at objects other }
-    ensures rising { (objects : Objects) (off : ℕ) (object : Object) → IsStrictlyIncreasing (offsets objects) → object_at objects off ≡ None
-        → IsStrictlyIncreasing (offsets (with_object off object objects)) }
-    ensures gone { (objects : Objects) (off : ℕ)
-        → object_at (without_object off objects) off ≡ None }
-    ensures others_stay { (objects : Objects) (off other : ℕ) → other ≢ off
-        → object_at (without_object off objects) other ≡ object_at objects other }
-    ensures rising_still { (objects : Objects) (off : ℕ) → IsStrictlyIncreasing (offsets objects)
-        → IsStrictlyIncreasing (offsets (without_object off objects)) }
+/// A law: a transaction at work goes on with one more operation. What it replied before stands,
+/// also where that is a cancel. No code runs.
+pub fn transactions_grow_at_their_end()
+    ensures { (operations : List Ran) (ran : Ran) (tx mid : Transaction) → Runs tx operations mid
+        → is_working mid.stage ≡ true → Replies mid ran true
+        → Runs tx (operations ++ ran ∷ []) (after ran mid) }
 {}
 
-/// A law: a transaction's objects are told by what it made and freed. After an allocation a new object stands at its offset, of zeros and with no
-/// members, and is new; after a free none stands there, and what stood there is gone. At each other offset all is as before. No code runs.
-pub fn made_and_freed_objects_are_told()
-    ensures made { (tx : Transaction) (off size kind : ℕ) → object_at tx.pool.objects off ≡ None
-        → object_at (allocated off size kind tx).pool.objects off ≡ Some (record { kind = kind; bytes = replicate size 0; members = [] }) }
-    ensures made_alone { (tx : Transaction) (off size kind other : ℕ) → other ≢ off
-        → object_at (allocated off size kind tx).pool.objects other ≡ object_at tx.pool.objects other }
-    ensures made_is_new { (tx : Transaction) (off size kind : ℕ) → is_new (allocated off size kind tx) off ≡ true }
-    ensures others_as_new { (tx : Transaction) (off size kind other : ℕ) → other ≢ off
-        → is_new (allocated off size kind tx) other ≡ is_new tx other }
-    ensures all_as_gone { (tx : Transaction) (off size kind other : ℕ) → is_gone (allocated off size kind tx) other ≡ is_gone tx other }
-    ensures freed { (tx : Transaction) (off : ℕ) → object_at (released off tx).pool.objects off ≡ None }
-    ensures freed_alone { (tx : Transaction) (off other : ℕ) → other ≢ off
-        → object_at (released off tx).pool.objects other ≡ object_at tx.pool.objects other }
-    ensures freed_is_gone { (tx : Transaction) (off : ℕ) → IsSome (object_at tx.pool.objects off) → is_gone (released off tx) off ≡ true }
-    ensures others_as_gone { (tx : Transaction) (off other : ℕ) → other ≢ off → is_gone (released off tx) other ≡ is_gone tx other }
-    ensures others_still_new { (tx : Transaction) (off other : ℕ) → other ≢ off → is_new (released off tx) other ≡ is_new tx other }
+/// A law: a call leaves a sound pool sound: sizes, blocks that don't overlap, lists and their
+/// members, the root. No code runs.
+pub fn calls_keep_pools_sound()
+    ensures { (run : CallRun) (s t : State) → CallStep s run t → IsSoundState s → IsSoundState t }
+{}
+
+/// A law: a pool that an image means is sound. No code runs.
+pub fn pools_are_sound()
+    ensures { (v : PoolView) → IsPool v → IsSound (plain_pool v).items (plain_pool v).root }
 {}

@@ -1,4 +1,4 @@
-use Rattle.pm_model.proofs.Replaying.{change_places}
+use Rattle.pm_model.proofs.Frames.{change_places}
 use Rattle.pm_model.proofs.laws.apart_calls_change_places.Goals as goal
 
 pub returns : goal.returns

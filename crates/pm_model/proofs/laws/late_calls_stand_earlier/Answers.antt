@@ -1,4 +1,4 @@
-use Rattle.pm_model.proofs.Replaying.{stand_earlier}
+use Rattle.pm_model.proofs.Frames.{stand_earlier}
 use Rattle.pm_model.proofs.laws.late_calls_stand_earlier.Goals as goal
 
 pub returns : goal.returns

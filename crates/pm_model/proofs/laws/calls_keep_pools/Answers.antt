@@ -1,5 +1,0 @@
-use Rattle.pm_model.proofs.Pools.{keeps_pool}
-use Rattle.pm_model.proofs.laws.calls_keep_pools.Goals as goal
-
-pub returns : goal.returns
-returns c = keeps_pool
