@@ -1,0 +1,115 @@
+//! How many objects' bytes, runs, sealed lanes and valid undo records an image has.
+
+ghost use Rattle.std.specs.Prelude.{◌≡◌, ◌+◌, ◌*◌, ◌<◌, ◌≤◌, ℕ, All, IfOk, IsTrue, filter, length, map, slice_index, sum};
+ghost use Rattle.std.specs.List.{flat_map, range_with_len};
+ghost use Rattle.pm_objects.specs.declared.pool.Object.{Object};
+ghost use Rattle.pm_image.specs.Blocks.{class_in, descriptor_word};
+ghost use Rattle.pm_image.specs.Logs.{is_sealed, records};
+ghost use Rattle.pm_image.specs.Means.{IsMeaning};
+ghost use Rattle.pm_image.specs.Steps.{HasLanes};
+ghost use Rattle.pm_info.specs.Facts.{is_run, runs, sealed_lanes, size_of};
+
+use pm_image::{LOG_LENGTH, is_sealed, valid_record};
+use pm_layout::{CHUNKS_PER_ZONE, DESCRIPTOR_UNIT, PAGE_WORDS, LANE_WORDS, RUN, ZONE_WORDS, blocks_of};
+use pm_objects::{Object, PoolView};
+use pm_raw::RawImage;
+use pm_recover::recover;
+use std::alloc::{AllocError, Global};
+
+/// The bytes of all objects together.
+pub fn data_bytes(objects: &[(u64, Object)]) -> u64
+    requires sizes { All (λ entry. length entry.1.bytes ≤ 262080) objects.now }
+    requires few { length objects.now ≤ 131072 }
+    ensures { result ≡ sum (map size_of objects.now) }
+{
+    let mut bytes = 0;
+    for (_, object) in objects {
+        bytes += object.bytes.as_slice().len() as u64;
+    }
+    bytes
+}
+
+/// The runs that the image's recovered descriptors make.
+pub fn run_count(alloc: Global, image: &RawImage, pool: &PoolView) -> Result<u64, AllocError>
+    requires { IsMeaning image.now pool.now }
+    ensures { IfOk result (λ count. count ≡ length (runs image.now pool.now.lanes pool.now.zones)) }
+{
+    let mut recovered = image.copy(alloc)?;
+    let Ok(()) = recover(alloc, &mut recovered) else {
+        // An image that means a pool has no fault.
+        return Err(AllocError);
+    };
+    Ok(runs_in(&recovered, pool.lanes, pool.zones))
+}
+
+/// The runs that descriptors make in an image of so many lanes and zones.
+fn runs_in(words: &RawImage, lanes: u64, zones: u64) -> u64
+    requires size { 512 + 1024 * lanes + 33280 * zones ≤ length words.now }
+    requires small { length words.now ≤ 1098240 }
+    ensures { result ≡ length (filter (λ c. is_run (class_in (slice_index words.now (descriptor_word lanes c)))) (range_with_len 0 (64 * zones))) }
+{
+    let mut count = 0;
+    for chunk in 0..CHUNKS_PER_ZONE * zones {
+        if is_run(words.word(descriptor_at(lanes, chunk))) {
+            count += 1;
+        }
+    }
+    count
+}
+
+/// The word that has a chunk's descriptor. Chunks are counted through all zones.
+fn descriptor_at(lanes: u64, chunk: u64) -> u64
+    requires { 512 + 1024 * lanes + 520 * chunk ≤ 1098240 }
+    ensures { result ≡ descriptor_word lanes chunk }
+{
+    let zone = chunk / CHUNKS_PER_ZONE;
+    PAGE_WORDS + LANE_WORDS * lanes + ZONE_WORDS * zone + chunk % CHUNKS_PER_ZONE
+}
+
+/// Whether the descriptor is that of a run.
+fn is_run(descriptor: u64) -> bool
+    ensures { result ≡ is_run (class_in descriptor) }
+{
+    descriptor % DESCRIPTOR_UNIT == RUN && blocks_of(descriptor / DESCRIPTOR_UNIT) > 0
+}
+
+/// The sealed ones of so many lanes.
+pub fn sealed_count(image: &RawImage, lanes: u64) -> u64
+    requires { HasLanes image.now lanes }
+    ensures { result ≡ length (sealed_lanes image.now lanes) }
+{
+    let mut count = 0;
+    for lane in 0..lanes {
+        if is_sealed(image, lane) {
+            count += 1;
+        }
+    }
+    count
+}
+
+/// The valid undo records of so many lanes.
+pub fn record_count(image: &RawImage, lanes: u64) -> u64
+    requires { HasLanes image.now lanes }
+    ensures { result ≡ length (flat_map (records image.now) (range_with_len 0 lanes)) }
+{
+    let mut count = 0;
+    for lane in 0..lanes {
+        count += lane_records(image, lane);
+    }
+    count
+}
+
+/// The valid undo records of a lane, 64 at most.
+fn lane_records(image: &RawImage, lane: u64) -> u64
+    requires { HasLanes image.now (lane + 1) }
+    ensures value { result ≡ length (records image.now lane) }
+    ensures few { result ≤ 64 }
+{
+    let mut count = 0;
+    for slot in 0..LOG_LENGTH {
+        if valid_record(image, lane, slot).is_some() {
+            count += 1;
+        }
+    }
+    count
+}
