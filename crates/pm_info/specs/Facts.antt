@@ -1,8 +1,8 @@
 -- The facts that are printed of an image: who the pool is, what shape it has, and how many objects, runs, sealed lanes and valid undo records
 -- it has: docs/COMMANDS.md, "info".
-use Rattle.std.specs.Prelude.{◌≡◌, ℕ, ◌*◌, List, ◌++◌, length, map, filter, slice_index, codes, sum, Bool, true, false, Option, None, Some, Result, Ok, Err, ◌⊎◌}
+use Rattle.std.specs.Prelude.{◌≡◌, ℕ, ◌*◌, ◌≤◌, List, ◌++◌, length, slice_index, codes, sum_by, count_by, Bool, true, false, Option, None, Some, Result, Ok, Err, ◌⊎◌}
 use Rattle.std.specs.Fmt.{decimal}
-use Rattle.std.specs.List.{flat_map, range_with_len}
+use Rattle.std.specs.List.{range_with_len}
 use Rattle.pm_layout.specs.declared.class.Class.{Class}
 use Rattle.pm_layout.specs.declared.class.Class.TheVariants.{Lines, Chunks}
 use Rattle.pm_objects.specs.declared.pool.Object.{Object}
@@ -27,9 +27,13 @@ version image = slice_index image 1
 abbrev pub size_of : ℕ × Object → ℕ
 size_of entry = length entry.1.bytes
 
+-- as many bytes as an object may have
+abbrev pub HasFewBytes : ℕ × Object → Type 0
+HasFewBytes entry = (1 ≤ length entry.1.bytes) × (length entry.1.bytes ≤ 262080)
+
 -- the bytes of all objects together
 abbrev pub data_bytes : PoolView → ℕ
-data_bytes pool = sum (map size_of pool.objects)
+data_bytes pool = sum_by size_of pool.objects
 
 -- a chunk of this class is a run
 abbrev pub is_run : Option Class → Bool
@@ -37,13 +41,21 @@ is_run None = false
 is_run (Some (Lines lines)) = true
 is_run (Some (Chunks chunks)) = false
 
--- the chunks of all zones that recovered descriptors make runs, by their numbers
-unfoldable pub runs : List ℕ → ℕ → ℕ → List ℕ
-runs image lanes zones = filter (λ c. is_run (class_in (recovered_at image lanes (descriptor_word lanes c)))) (range_with_len 0 (64 * zones))
+-- the chunks of all zones that are runs by these words, which go by their number
+abbrev pub runs_by : (ℕ → ℕ) → ℕ → ℕ → ℕ
+runs_by w lanes zones = count_by (λ c. is_run (class_in (w (descriptor_word lanes c)))) (range_with_len 0 (64 * zones))
 
--- the sealed lanes
-unfoldable pub sealed_lanes : List ℕ → ℕ → List ℕ
-sealed_lanes image lanes = filter (is_sealed image) (range_with_len 0 lanes)
+-- the runs by recovered descriptors
+abbrev pub runs : List ℕ → PoolView → ℕ
+runs image pool = runs_by (recovered_at image pool.lanes) pool.lanes pool.zones
+
+-- the sealed ones of so many lanes
+abbrev pub sealed_lanes : List ℕ → ℕ → ℕ
+sealed_lanes image lanes = count_by (is_sealed image) (range_with_len 0 lanes)
+
+-- the valid undo records of so many lanes: those of each lane's generation
+abbrev pub valid_records : List ℕ → ℕ → ℕ
+valid_records image lanes = sum_by (λ lane. length (records image lane)) (range_with_len 0 lanes)
 
 -- a line: what is told, and its number
 abbrev pub number_line : List ℕ → ℕ → List ℕ
@@ -64,17 +76,19 @@ pool_lines image pool =
     ++ number_line (codes "lanes") pool.lanes ++ number_line (codes "zones") pool.zones
     ++ number_line (codes "bytes") (8 * length image) ++ root_line pool.root
 
--- how many objects there are and of how many bytes, and the runs, sealed lanes and valid undo records
+-- how many objects there are, and of how many bytes together
+unfoldable pub object_lines : PoolView → List ℕ
+object_lines pool = number_line (codes "objects") (length pool.objects) ++ number_line (codes "data") (data_bytes pool)
+
+-- the runs, sealed lanes and valid undo records
 unfoldable pub count_lines : List ℕ → PoolView → List ℕ
 count_lines image pool =
-    number_line (codes "objects") (length pool.objects) ++ number_line (codes "data") (data_bytes pool)
-    ++ number_line (codes "runs") (length (runs image pool.lanes pool.zones))
-    ++ number_line (codes "sealed") (length (sealed_lanes image pool.lanes))
-    ++ number_line (codes "records") (length (flat_map (records image) (range_with_len 0 pool.lanes)))
+    number_line (codes "runs") (runs image pool) ++ number_line (codes "sealed") (sealed_lanes image pool.lanes)
+    ++ number_line (codes "records") (valid_records image pool.lanes)
 
 -- all that is printed of an image that means this pool
 abbrev pub info_text : List ℕ → PoolView → List ℕ
-info_text image pool = pool_lines image pool ++ count_lines image pool
+info_text image pool = pool_lines image pool ++ object_lines pool ++ count_lines image pool
 
 -- the image means a pool, and this is the text of it
 pub record IsInfoOf (image text : List ℕ) : Type 0 where

@@ -1,13 +1,11 @@
 //! How many objects' bytes, runs, sealed lanes and valid undo records an image has.
 
-ghost use Rattle.std.specs.Prelude.{◌≡◌, ◌+◌, ◌*◌, ◌<◌, ◌≤◌, ℕ, All, IfOk, IsTrue, filter, length, map, slice_index, sum};
-ghost use Rattle.std.specs.List.{flat_map, range_with_len};
-ghost use Rattle.pm_objects.specs.declared.pool.Object.{Object};
+ghost use Rattle.std.specs.Prelude.{◌≡◌, ◌+◌, ◌*◌, ◌≤◌, All, IfOk, length, slice_index, sum_by};
 ghost use Rattle.pm_image.specs.Blocks.{class_in, descriptor_word};
-ghost use Rattle.pm_image.specs.Logs.{is_sealed, records};
+ghost use Rattle.pm_image.specs.Logs.{records};
 ghost use Rattle.pm_image.specs.Means.{IsMeaning};
 ghost use Rattle.pm_image.specs.Steps.{HasLanes};
-ghost use Rattle.pm_info.specs.Facts.{is_run, runs, sealed_lanes, size_of};
+ghost use Rattle.pm_info.specs.Facts.{is_run, runs, runs_by, sealed_lanes, size_of, valid_records, HasFewBytes};
 
 use pm_image::{LOG_LENGTH, is_sealed, valid_record};
 use pm_layout::{CHUNKS_PER_ZONE, DESCRIPTOR_UNIT, PAGE_WORDS, LANE_WORDS, RUN, ZONE_WORDS, blocks_of};
@@ -18,9 +16,9 @@ use std::alloc::{AllocError, Global};
 
 /// The bytes of all objects together.
 pub fn data_bytes(objects: &[(u64, Object)]) -> u64
-    requires sizes { All (λ entry. length entry.1.bytes ≤ 262080) objects.now }
+    requires sizes { All HasFewBytes objects.now }
     requires few { length objects.now ≤ 131072 }
-    ensures { result ≡ sum (map size_of objects.now) }
+    ensures { result ≡ sum_by size_of objects.now }
 {
     let mut bytes = 0;
     for (_, object) in objects {
@@ -32,7 +30,7 @@ pub fn data_bytes(objects: &[(u64, Object)]) -> u64
 /// The runs that the image's recovered descriptors make.
 pub fn run_count(alloc: Global, image: &RawImage, pool: &PoolView) -> Result<u64, AllocError>
     requires { IsMeaning image.now pool.now }
-    ensures { IfOk result (λ count. count ≡ length (runs image.now pool.now.lanes pool.now.zones)) }
+    ensures { IfOk result (λ count. count ≡ runs image.now pool.now) }
 {
     let mut recovered = image.copy(alloc)?;
     let Ok(()) = recover(alloc, &mut recovered) else {
@@ -46,7 +44,7 @@ pub fn run_count(alloc: Global, image: &RawImage, pool: &PoolView) -> Result<u64
 fn runs_in(words: &RawImage, lanes: u64, zones: u64) -> u64
     requires size { 512 + 1024 * lanes + 33280 * zones ≤ length words.now }
     requires small { length words.now ≤ 1098240 }
-    ensures { result ≡ length (filter (λ c. is_run (class_in (slice_index words.now (descriptor_word lanes c)))) (range_with_len 0 (64 * zones))) }
+    ensures { result ≡ runs_by (slice_index words.now) lanes zones }
 {
     let mut count = 0;
     for chunk in 0..CHUNKS_PER_ZONE * zones {
@@ -76,7 +74,7 @@ fn is_run(descriptor: u64) -> bool
 /// The sealed ones of so many lanes.
 pub fn sealed_count(image: &RawImage, lanes: u64) -> u64
     requires { HasLanes image.now lanes }
-    ensures { result ≡ length (sealed_lanes image.now lanes) }
+    ensures { result ≡ sealed_lanes image.now lanes }
 {
     let mut count = 0;
     for lane in 0..lanes {
@@ -90,7 +88,7 @@ pub fn sealed_count(image: &RawImage, lanes: u64) -> u64
 /// The valid undo records of so many lanes.
 pub fn record_count(image: &RawImage, lanes: u64) -> u64
     requires { HasLanes image.now lanes }
-    ensures { result ≡ length (flat_map (records image.now) (range_with_len 0 lanes)) }
+    ensures { result ≡ valid_records image.now lanes }
 {
     let mut count = 0;
     for lane in 0..lanes {

@@ -6,7 +6,7 @@ ghost use Rattle.pm_image.specs.Steps.{IfImage};
 ghost use Rattle.pm_info.specs.Facts.{IsInfoOf, DidPut, info_text};
 
 use crate::fault::TextFault;
-use crate::lines::{push_count_lines, push_pool_lines};
+use crate::lines::{push_count_lines, push_object_lines, push_pool_lines};
 use pm_image::{MeansFault, means};
 use pm_objects::PoolView;
 use pm_raw::RawImage;
@@ -56,6 +56,7 @@ fn text_of(alloc: Global, image: &RawImage, pool: &PoolView) -> Result<Vec<u8>, 
 {
     let mut out = Vec::new(alloc);
     push_pool_lines(alloc, &mut out, image, pool)?;
+    push_object_lines(alloc, &mut out, pool)?;
     push_count_lines(alloc, &mut out, image, pool)?;
     Ok(out)
 }

@@ -1,8 +1,9 @@
 //! The lines of an image's facts, appended to a text.
 
-ghost use Rattle.std.specs.Prelude.{◌≡◌, ◌++◌, OnOk};
+ghost use Rattle.std.specs.Prelude.{◌≡◌, ◌≤◌, ◌++◌, All, OnOk, length};
 ghost use Rattle.pm_image.specs.Means.{IsMeaning};
-ghost use Rattle.pm_info.specs.Facts.{count_lines, name_line, number_line, pool_lines, root_line};
+ghost use Rattle.pm_image.specs.Steps.{HasLanes};
+ghost use Rattle.pm_info.specs.Facts.{count_lines, name_line, number_line, object_lines, pool_lines, root_line, HasFewBytes};
 
 use crate::counts::{data_bytes, record_count, run_count, sealed_count};
 use pm_layout::WORD_BYTES;
@@ -14,13 +15,14 @@ use std::alloc::{AllocError, Global};
 const VERSION_AT: u64 = 1;
 
 /// Appends the lines of who the pool is, what shape it has, and where its root is.
+#[tactic(auto, unfolding(crate::specs::Facts::pool_lines))]
 pub fn push_pool_lines(
     alloc: Global,
     out: &mut Vec<u8>,
     image: &RawImage,
     pool: &PoolView,
 ) -> Result<(), AllocError>
-    requires { IsMeaning image.now pool.now }
+    requires lanes { HasLanes image.now pool.now.lanes }
     ensures { OnOk result (out.new.items ≡ out.old.items ++ pool_lines image.now pool.now) }
 {
     push_number(alloc, out, "version", image.word(VERSION_AT))?;
@@ -29,26 +31,40 @@ pub fn push_pool_lines(
     push_number(alloc, out, "lanes", pool.lanes)?;
     push_number(alloc, out, "zones", pool.zones)?;
     push_number(alloc, out, "bytes", WORD_BYTES * image.len())?;
-    push_root(alloc, out, pool.root)?;
-    Ok(())
+    push_root(alloc, out, pool.root)
 }
 
-/// Appends the lines of the objects and their bytes, the runs, the sealed lanes and the valid undo records.
+/// Appends the lines of the objects and of their bytes.
+#[tactic(auto, unfolding(crate::specs::Facts::object_lines))]
+pub fn push_object_lines(
+    alloc: Global,
+    out: &mut Vec<u8>,
+    pool: &PoolView,
+) -> Result<(), AllocError>
+    requires sizes { All HasFewBytes pool.now.objects }
+    requires few { length pool.now.objects ≤ 131072 }
+    ensures { OnOk result (out.new.items ≡ out.old.items ++ object_lines pool.now) }
+{
+    let objects = pool.objects.as_slice();
+    push_number(alloc, out, "objects", objects.len() as u64)?;
+    push_number(alloc, out, "data", data_bytes(objects))
+}
+
+/// Appends the lines of the runs, the sealed lanes and the valid undo records.
+#[tactic(auto, unfolding(crate::specs::Facts::count_lines))]
 pub fn push_count_lines(
     alloc: Global,
     out: &mut Vec<u8>,
     image: &RawImage,
     pool: &PoolView,
 ) -> Result<(), AllocError>
-    requires { IsMeaning image.now pool.now }
+    requires meaning { IsMeaning image.now pool.now }
+    requires lanes { HasLanes image.now pool.now.lanes }
     ensures { OnOk result (out.new.items ≡ out.old.items ++ count_lines image.now pool.now) }
 {
-    push_number(alloc, out, "objects", pool.objects.as_slice().len() as u64)?;
-    push_number(alloc, out, "data", data_bytes(pool.objects.as_slice()))?;
     push_number(alloc, out, "runs", run_count(alloc, image, pool)?)?;
     push_number(alloc, out, "sealed", sealed_count(image, pool.lanes))?;
-    push_number(alloc, out, "records", record_count(image, pool.lanes))?;
-    Ok(())
+    push_number(alloc, out, "records", record_count(image, pool.lanes))
 }
 
 /// Appends a line with a number.
