@@ -3,7 +3,8 @@ ghost use Rattle.pm_header.specs.Pairs.{main_pair, HasOneGood, IsGood};
 ghost use Rattle.pm_image.specs.Means.{page};
 ghost use Rattle.pm_check.specs.Verdicts.{with_copy, with_main};
 
-use pm_header::{PAGE_WORDS, copy_good};
+use pm_header::copy_good;
+use pm_layout::PAGE_WORDS;
 use pm_raw::RawImage;
 use std::alloc::{AllocError, Global};
 
@@ -28,6 +29,6 @@ fn mend(words: &mut [u64])
     ensures main { IsGood (main_pair (page words.old)) → words.new ≡ with_main words.old }
     ensures copy { ¬ IsGood (main_pair (page words.old)) → words.new ≡ with_copy words.old }
 {
-    let (page, _) = words.split_at_mut(PAGE_WORDS);
+    let (page, _) = words.split_at_mut(PAGE_WORDS as usize);
     copy_good(page);
 }

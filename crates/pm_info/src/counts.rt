@@ -7,8 +7,10 @@ ghost use Rattle.pm_image.specs.Means.{IsMeaning};
 ghost use Rattle.pm_image.specs.Steps.{HasLanes};
 ghost use Rattle.pm_info.specs.Facts.{is_run, runs, runs_by, sealed_lanes, size_of, valid_records, HasFewBytes};
 
-use pm_image::{LOG_LENGTH, is_sealed, valid_record};
-use pm_layout::{CHUNKS_PER_ZONE, DESCRIPTOR_UNIT, PAGE_WORDS, LANE_WORDS, RUN, ZONE_WORDS, blocks_of};
+use pm_image::{is_sealed, valid_record};
+use pm_layout::{
+    CHUNKS_PER_ZONE, DESCRIPTOR_UNIT, LANE_WORDS, PAGE_WORDS, RUN, UNDO_SLOTS, ZONE_WORDS, blocks_of,
+};
 use pm_objects::{Object, PoolView};
 use pm_raw::RawImage;
 use pm_recover::recover;
@@ -104,7 +106,7 @@ fn lane_records(image: &RawImage, lane: u64) -> u64
     ensures few { result ≤ 64 }
 {
     let mut count = 0;
-    for slot in 0..LOG_LENGTH {
+    for slot in 0..UNDO_SLOTS {
         if valid_record(image, lane, slot).is_some() {
             count += 1;
         }

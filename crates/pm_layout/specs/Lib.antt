@@ -2,3 +2,5 @@ pub mod Layout
 pub mod Kinds
 pub mod Sizes
 pub mod Areas
+pub mod Chunks
+pub mod Texts
