@@ -1,7 +1,7 @@
 //! The program's commands and options, as `clap` is told them.
 
 ghost use Rattle.std.specs.Prelude.{◌≡◌, IfOk, [], codes, false};
-ghost use Rattle.clap.specs.Words.{rule_of};
+ghost use Rattle.clap.specs.Words.{new_app, rule_of};
 ghost use Rattle.pm_options.specs.Program.{IsApp, check_rules, command_app, create_rules, exec_rules, option, pool_rules, positional, program};
 
 use crate::help;
@@ -12,28 +12,24 @@ use std::alloc::{AllocError, Global};
 pub fn program<'a>(alloc: Global) -> Result<Command<'a>, AllocError>
     ensures { IfOk result (λ built. IsApp built program) }
 {
-    let top = Command::new(alloc, "pmempool")
-        .about(help::PROGRAM)
-        .after_help(help::PROGRAM_END)
+    let top = named(alloc, "pmempool", help::PROGRAM, help::PROGRAM_END)
         .version(help::VERSION)
         .propagate_version(true)
         .subcommand_required(true)
         .disable_help_subcommand(true);
-    let create = top.subcommand(create(alloc)?)?;
-    let exec = create.subcommand(exec(alloc)?)?;
-    let check = exec.subcommand(check(alloc)?)?;
-    let info = check.subcommand(info(alloc)?)?;
-    let dump = info.subcommand(dump(alloc)?)?;
-    Ok(dump)
+    let with_create = top.subcommand(create(alloc)?)?;
+    let with_exec = with_create.subcommand(exec(alloc)?)?;
+    let with_check = with_exec.subcommand(check(alloc)?)?;
+    let with_info = with_check.subcommand(info(alloc)?)?;
+    let with_dump = with_info.subcommand(dump(alloc)?)?;
+    Ok(with_dump)
 }
 
 /// `create POOL --lanes L --zones Z --id N --layout NAME --root SIZE`.
 fn create<'a>(alloc: Global) -> Result<Command<'a>, AllocError>
     ensures { IfOk result (λ built. IsApp built (command_app (codes "create") create_rules)) }
 {
-    let empty = Command::new(alloc, "create")
-        .about(help::CREATE)
-        .after_help(help::CREATE_END);
+    let empty = named(alloc, "create", help::CREATE, help::CREATE_END);
     let pool = empty.arg(positional(alloc, "POOL", "The new pool"))?;
     let lanes = pool.arg(option(alloc, "lanes", "L", "Lanes, 1 to 32", true))?;
     let zones = lanes.arg(option(alloc, "zones", "Z", "Zones, 1 to 32", true))?;
@@ -53,9 +49,7 @@ fn create<'a>(alloc: Global) -> Result<Command<'a>, AllocError>
 fn exec<'a>(alloc: Global) -> Result<Command<'a>, AllocError>
     ensures { IfOk result (λ built. IsApp built (command_app (codes "exec") exec_rules)) }
 {
-    let empty = Command::new(alloc, "exec")
-        .about(help::EXEC)
-        .after_help(help::EXEC_END);
+    let empty = named(alloc, "exec", help::EXEC, help::EXEC_END);
     let pool = empty.arg(positional(alloc, "POOL", "The pool to run on"))?;
     let script = pool.arg(option(alloc, "script", "FILE", "The script", true))?;
     let out = script.arg(option(alloc, "out", "POOL2", "The pool that is left", true))?;
@@ -81,9 +75,7 @@ fn exec<'a>(alloc: Global) -> Result<Command<'a>, AllocError>
 fn check<'a>(alloc: Global) -> Result<Command<'a>, AllocError>
     ensures { IfOk result (λ built. IsApp built (command_app (codes "check") check_rules)) }
 {
-    let empty = Command::new(alloc, "check")
-        .about(help::CHECK)
-        .after_help(help::CHECK_END);
+    let empty = named(alloc, "check", help::CHECK, help::CHECK_END);
     let pool = empty.arg(positional(alloc, "POOL", "The pool to check"))?;
     let repair = pool.arg(option(
         alloc,
@@ -99,9 +91,7 @@ fn check<'a>(alloc: Global) -> Result<Command<'a>, AllocError>
 fn info<'a>(alloc: Global) -> Result<Command<'a>, AllocError>
     ensures { IfOk result (λ built. IsApp built (command_app (codes "info") pool_rules)) }
 {
-    let empty = Command::new(alloc, "info")
-        .about(help::INFO)
-        .after_help(help::INFO_END);
+    let empty = named(alloc, "info", help::INFO, help::INFO_END);
     let pool = empty.arg(positional(alloc, "POOL", "The pool to show"))?;
     Ok(pool)
 }
@@ -110,11 +100,16 @@ fn info<'a>(alloc: Global) -> Result<Command<'a>, AllocError>
 fn dump<'a>(alloc: Global) -> Result<Command<'a>, AllocError>
     ensures { IfOk result (λ built. IsApp built (command_app (codes "dump") pool_rules)) }
 {
-    let empty = Command::new(alloc, "dump")
-        .about(help::DUMP)
-        .after_help(help::DUMP_END);
+    let empty = named(alloc, "dump", help::DUMP, help::DUMP_END);
     let pool = empty.arg(positional(alloc, "POOL", "The pool to show"))?;
     Ok(pool)
+}
+
+/// A command without words, with what it does and what it writes and answers.
+fn named<'a>(alloc: Global, name: &'a str, about: &'a str, after: &'a str) -> Command<'a>
+    ensures { IsApp result (new_app name.entry.now) }
+{
+    Command::new(alloc, name).about(about).after_help(after)
 }
 
 /// A word that is known by its place, and has to be there.

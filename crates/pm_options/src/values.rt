@@ -88,7 +88,7 @@ pub fn text<'a>(
 {
     match value(given, name) {
         Some(text) => Ok(text),
-        None => Err(missing(alloc, name)?),
+        None => Err(OptionsFault::Usage(missing(alloc, name)?)),
     }
 }
 
@@ -101,7 +101,7 @@ fn number_in(alloc: Global, given: &ArgMatches<'_>, name: &str) -> Result<u64, O
     let text = text(alloc, given, name)?;
     match number(text) {
         Some(number) => Ok(number),
-        None => Err(bad_value(alloc, name, text)?),
+        None => Err(OptionsFault::Usage(bad_value(alloc, name, text)?)),
     }
 }
 
@@ -116,7 +116,7 @@ fn number_or_zero(alloc: Global, given: &ArgMatches<'_>, name: &str) -> Result<u
     };
     match number(text) {
         Some(number) => Ok(number),
-        None => Err(bad_value(alloc, name, text)?),
+        None => Err(OptionsFault::Usage(bad_value(alloc, name, text)?)),
     }
 }
 
@@ -131,18 +131,19 @@ fn stops_in(alloc: Global, given: &ArgMatches<'_>) -> Result<Vec<(u64, u64)>, Op
     };
     match stops(alloc, text)? {
         Some(found) => Ok(found),
-        None => Err(bad_value(alloc, "stops", text)?),
+        None => Err(OptionsFault::Usage(bad_value(alloc, "stops", text)?)),
     }
 }
 
-/// The fault of a word that is missing.
-fn missing(alloc: Global, name: &str) -> Result<OptionsFault, AllocError> {
-    let text = format!(in alloc; "error: '{name}' is missing\n\nFor more information, try '--help'.\n")?;
-    Ok(OptionsFault::Usage(text))
+/// What is said of a word that is missing, which `clap` tells by itself.
+fn missing(alloc: Global, name: &str) -> Result<String, AllocError> {
+    format!(in alloc; "error: '{name}' is missing\n\n{MORE}")
 }
 
-/// The fault of a value that has not its option's form.
-fn bad_value(alloc: Global, name: &str, value: &str) -> Result<OptionsFault, AllocError> {
-    let text = format!(in alloc; "error: invalid value '{value}' for '--{name}'\n\nFor more information, try '--help'.\n")?;
-    Ok(OptionsFault::Usage(text))
+/// What is said of a value that has not its option's form.
+fn bad_value(alloc: Global, name: &str, value: &str) -> Result<String, AllocError> {
+    format!(in alloc; "error: invalid value '{value}' for '--{name}'\n\n{MORE}")
 }
+
+/// The last line of what is said of a faulty line, as `clap` has it.
+const MORE: &str = "For more information, try '--help'.\n";
