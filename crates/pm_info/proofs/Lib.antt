@@ -1,2 +1,4 @@
-pub mod Counts
+pub mod Puts
+pub mod Runs
 pub mod Sizes
+pub mod Sums

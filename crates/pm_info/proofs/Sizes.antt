@@ -1,8 +1,9 @@
 -- How large an image with a meaning is, and how many objects it has at most.
-use Rattle.std.proofs.Common.{eqb, ◌≡◌, ℕ, zero, suc, ◌+◌, ◌*◌, ◌≤◌, Bool, true, false, cond, List, [], ◌∷◌, ◌++◌, length, length-append, map, Option, Some, None, refl, sym, ◌∙◌, ap, subst, arith}
-use Rattle.std.specs.List.{All, filter, find, flat_map, range_with_len}
+use Rattle.std.proofs.Common.{eqb, leb, ◌≡◌, ℕ, zero, suc, ◌+◌, ◌*◌, ◌≤◌, ◌&&◌, Bool, true, false, cond, List, [], ◌∷◌, ◌++◌, length, length-append, map, Option, Some, None, refl, sym, ◌∙◌, ap, subst, arith}
+use Rattle.std.specs.List.{filter, find, flat_map, list_all, range_with_len}
 use Rattle.std.specs.Option.{option_map_or}
 use Rattle.std.specs.Int.{bit_at}
+use Rattle.std.proofs.lemmas.Bool.{false≢true, leb-true}
 use Rattle.std.proofs.lemmas.List.{length-map}
 use Rattle.std.proofs.lemmas.List.FromFn.{length-range_with_len}
 use Rattle.pm_layout.specs.Sizes.{block_place, blocks_by_class, blocks_of}
@@ -39,17 +40,22 @@ filtered_few {X = X} p (x ∷ xs) = one (p x) (filtered_few p xs) where
   one true rest = omega arith
   one false rest = omega arith
 
-few_in : (p : ℕ × ℕ → Bool) (es : List (ℕ × ℕ)) → All (λ e. e.1 ≤ 64) es → option_map_or (λ e. e.1) (find p es) 0 ≤ 64
-few_in p [] all = omega arith
-few_in p (e ∷ es) all = one (p e) where
-  one : (b : Bool) → option_map_or (λ x. x.1) (cond b (Some e) (find p es)) 0 ≤ 64
-  one true = all.0
-  one false = few_in p es all.1
+-- what is found passes a test that all pass
+found_of_all : {X : Type 0} (p q : X → Bool) (xs : List X) (x : X) → list_all q xs ≡ true → find p xs ≡ Some x → q x ≡ true
+found_of_all p q [] x all is = absurd cc
+found_of_all {X = X} p q (y ∷ ys) x all is = go (p y) (q y) refl all is (found_of_all p q ys x) where
+  go : (b t : Bool) → q y ≡ t → (t && list_all q ys) ≡ true → cond b (Some y) (find p ys) ≡ Some x → (list_all q ys ≡ true → find p ys ≡ Some x → q x ≡ true) → q x ≡ true
+  go true true passes rest found later = let same : y ≡ x = cc in ap q (sym same) ∙ passes
+  go false true passes rest found later = later rest found
+  go b false fails rest found later = absurd (false≢true rest)
+
+few_found : (entry : Option (ℕ × ℕ)) → ((e : ℕ × ℕ) → entry ≡ Some e → e.1 ≤ 64) → option_map_or (λ e. e.1) entry 0 ≤ 64
+few_found None each = omega arith
+few_found (Some e) each = each e refl
 
 class_few : (lines : ℕ) → blocks_of lines ≤ 64
 class_few lines =
-    few_in (λ entry. eqb entry.0 lines) blocks_by_class
-    (omega arith, (omega arith, (omega arith, (omega arith, (omega arith, (omega arith, (omega arith, (omega arith, tt))))))))
+    few_found (find (λ e. eqb e.0 lines) blocks_by_class) (λ e is. leb-true e.1 64 (found_of_all (λ x. eqb x.0 lines) (λ x. leb x.1 64) blocks_by_class e refl is))
 
 run_few : (place bitmap lines : ℕ) → length (run_blocks place bitmap lines) ≤ 64
 unfolding run_blocks
@@ -57,7 +63,7 @@ run_few place bitmap lines =
     let found = filtered_few (λ i. eqb (bit_at bitmap i) 1) (range_with_len 0 (blocks_of lines)) in
     let long = length-range_with_len 0 (blocks_of lines) in
     let few = class_few lines in
-    let same = length-map (filter (λ i. eqb (bit_at bitmap i) 1) (range_with_len 0 (blocks_of lines))) (λ (i : ℕ). record { place = block_place place lines i; lines = lines }) in
+    let same = length-map {B = Block} (filter (λ i. eqb (bit_at bitmap i) 1) (range_with_len 0 (blocks_of lines))) (λ (i : ℕ). record { place = block_place place lines i; lines = lines }) in
     omega (arith, found, long, few, same)
 
 kind_few : (class : Option Class) (place bitmap : ℕ) → length (blocks_in class place bitmap) ≤ 64

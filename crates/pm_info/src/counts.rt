@@ -50,9 +50,7 @@ fn runs_in(words: &RawImage, lanes: u64, zones: u64) -> u64
 {
     let mut count = 0;
     for chunk in 0..CHUNKS_PER_ZONE * zones {
-        if is_run(words.word(descriptor_at(lanes, chunk))) {
-            count += 1;
-        }
+        count += u64::from(is_run(words.word(descriptor_at(lanes, chunk))));
     }
     count
 }
@@ -70,7 +68,8 @@ fn descriptor_at(lanes: u64, chunk: u64) -> u64
 fn is_run(descriptor: u64) -> bool
     ensures { result ≡ is_run (class_in descriptor) }
 {
-    descriptor % DESCRIPTOR_UNIT == RUN && blocks_of(descriptor / DESCRIPTOR_UNIT) > 0
+    let is_of_run = descriptor % DESCRIPTOR_UNIT == RUN;
+    is_of_run && blocks_of(descriptor / DESCRIPTOR_UNIT) > 0
 }
 
 /// The sealed ones of so many lanes.
@@ -80,9 +79,7 @@ pub fn sealed_count(image: &RawImage, lanes: u64) -> u64
 {
     let mut count = 0;
     for lane in 0..lanes {
-        if is_sealed(image, lane) {
-            count += 1;
-        }
+        count += u64::from(is_sealed(image, lane));
     }
     count
 }
@@ -107,9 +104,7 @@ fn lane_records(image: &RawImage, lane: u64) -> u64
 {
     let mut count = 0;
     for slot in 0..UNDO_SLOTS {
-        if valid_record(image, lane, slot).is_some() {
-            count += 1;
-        }
+        count += u64::from(valid_record(image, lane, slot).is_some());
     }
     count
 }

