@@ -1,7 +1,7 @@
 -- Words are one command, or ask for help, or are faulty.
 use Rattle.std.specs.Prelude.{String}
 use Rattle.std.specs.declared.alloc.Global.{Global}
-use Rattle.std.proofs.Common.{◌≡◌, ◌⊎◌, inl, inr, true, List, [], ◌∷◌, Option, Some, None, refl, sym, ◌∙◌, ap, subst, codes}
+use Rattle.std.proofs.Common.{eqb, get_or, ◌≡◌, ℕ, false, ◌⊎◌, inl, inr, true, List, [], ◌∷◌, Option, Some, None, refl, sym, ◌∙◌, ap, subst, codes}
 use Rattle.clap.specs.Words.{App, HasMatchesOf, IsAmong, Row, Text, app_of, fault_of, is_simple, is_simple_and_free, subcommand_of}
 use Rattle.clap.specs.declared.builder.command.Command.{Command as Clap}
 use Rattle.clap.specs.declared.error.kind.ErrorKind.{ErrorKind}
@@ -14,14 +14,16 @@ use Rattle.pm_options.specs.Words.{Check, Create, Exec, HasCheck, HasCreate, Has
 use Rattle.pm_options.specs.declared.command.Command.{Command}
 use Rattle.pm_options.specs.declared.command.Command.TheVariants as command
 
-pair_of : Option (Text × List Row) → Text × List Row
-pair_of None = ([], [])
-pair_of (Some pair) = pair
+abbrev name_in : Option (Text × List Row) → Text
+name_in None = []
+name_in (Some pair) = pair.0
+
+abbrev rows_in : Option (Text × List Row) → List Row
+rows_in None = []
+rows_in (Some pair) = pair.1
 
 one_given : (words : List Text) (name other : Text) (rows more : List Row) → IsGiven words name rows → IsGiven words other more → (name ≡ other) × (rows ≡ more)
-one_given words name other rows more given also =
-    let same : (name, rows) ≡ (other, more) = ap pair_of (sym given.command ∙ also.command) in
-    (ap (λ (pair : Text × List Row). pair.0) same, ap (λ (pair : Text × List Row). pair.1) same)
+one_given words name other rows more given also = (ap name_in (sym given.command ∙ also.command), ap rows_in (sym given.command ∙ also.command))
 
 -- the words name a command, and none of the commands has these values for it
 pub no_command : (words : List Text) (name : Text) (rows : List Row) → IsGiven words name rows
@@ -48,6 +50,65 @@ no_command words name rows given no_create no_exec no_check no_info no_dump = re
       let same = one_given words name (codes "dump") rows is.0 given is.1 in
       no_dump same.0 pool (subst (λ (rs : List Row). HasValue rs (codes "POOL") pool) (sym same.1) is.2);
 }
+
+-- the commands differ in their second letter
+abbrev letter : Text → ℕ
+letter text = get_or text 1 0
+
+apart : (name one other : Text) → name ≡ one → name ≡ other → eqb (letter one) (letter one) ≡ true → eqb (letter one) (letter other) ≡ false → ⊥
+apart name one other is also self differs =
+    let clash : true ≡ false = sym self ∙ ap (λ (text : Text). eqb (letter one) (letter text)) (sym is ∙ also) ∙ differs in absurd cc
+
+-- the words name `create`, whose values it has not
+pub not_create : (name : Text) (rows : List Row) → name ≡ codes "create" → ((c : Create) → ¬ HasCreate rows c) → (words : List Text) → IsGiven words name rows → IsNoCommand words
+not_create name rows is none words given =
+    no_command words name rows given (λ same. none)
+    (λ other. absurd (apart name (codes "create") (codes "exec") is other refl refl))
+    (λ other. absurd (apart name (codes "create") (codes "check") is other refl refl))
+    (λ other. absurd (apart name (codes "create") (codes "info") is other refl refl))
+    (λ other. absurd (apart name (codes "create") (codes "dump") is other refl refl))
+
+pub not_exec : (name : Text) (rows : List Row) → name ≡ codes "exec" → ((e : Exec) → ¬ HasExec rows e) → (words : List Text) → IsGiven words name rows → IsNoCommand words
+not_exec name rows is none words given =
+    no_command words name rows given
+    (λ other. absurd (apart name (codes "exec") (codes "create") is other refl refl))
+    (λ same. none)
+    (λ other. absurd (apart name (codes "exec") (codes "check") is other refl refl))
+    (λ other. absurd (apart name (codes "exec") (codes "info") is other refl refl))
+    (λ other. absurd (apart name (codes "exec") (codes "dump") is other refl refl))
+
+pub not_check : (name : Text) (rows : List Row) → name ≡ codes "check" → ((c : Check) → ¬ HasCheck rows c) → (words : List Text) → IsGiven words name rows → IsNoCommand words
+not_check name rows is none words given =
+    no_command words name rows given
+    (λ other. absurd (apart name (codes "check") (codes "create") is other refl refl))
+    (λ other. absurd (apart name (codes "check") (codes "exec") is other refl refl))
+    (λ same. none)
+    (λ other. absurd (apart name (codes "check") (codes "info") is other refl refl))
+    (λ other. absurd (apart name (codes "check") (codes "dump") is other refl refl))
+
+pub not_info : (name : Text) (rows : List Row) → name ≡ codes "info" → ((pool : Text) → ¬ HasValue rows (codes "POOL") pool) → (words : List Text) → IsGiven words name rows → IsNoCommand words
+not_info name rows is none words given =
+    no_command words name rows given
+    (λ other. absurd (apart name (codes "info") (codes "create") is other refl refl))
+    (λ other. absurd (apart name (codes "info") (codes "exec") is other refl refl))
+    (λ other. absurd (apart name (codes "info") (codes "check") is other refl refl))
+    (λ same. none)
+    (λ other. absurd (apart name (codes "info") (codes "dump") is other refl refl))
+
+pub not_dump : (name : Text) (rows : List Row) → name ≡ codes "dump" → ((pool : Text) → ¬ HasValue rows (codes "POOL") pool) → (words : List Text) → IsGiven words name rows → IsNoCommand words
+not_dump name rows is none words given =
+    no_command words name rows given
+    (λ other. absurd (apart name (codes "dump") (codes "create") is other refl refl))
+    (λ other. absurd (apart name (codes "dump") (codes "exec") is other refl refl))
+    (λ other. absurd (apart name (codes "dump") (codes "check") is other refl refl))
+    (λ other. absurd (apart name (codes "dump") (codes "info") is other refl refl))
+    (λ same. none)
+
+-- the words name none of the commands
+pub not_any : (name : Text) (rows : List Row) → (name ≡ codes "create" → ⊥) → (name ≡ codes "exec" → ⊥) → (name ≡ codes "check" → ⊥) → (name ≡ codes "info" → ⊥) → (name ≡ codes "dump" → ⊥)
+    → (words : List Text) → IsGiven words name rows → IsNoCommand words
+not_any name rows no_create no_exec no_check no_info no_dump words given =
+    no_command words name rows given (λ is. absurd (no_create is)) (λ is. absurd (no_exec is)) (λ is. absurd (no_check is)) (λ is. absurd (no_info is)) (λ is. absurd (no_dump is))
 
 -- words for which `clap` found no command are none
 pub none_found : (words : List Text) → subcommand_of program words ≡ None → IsNoCommand words

@@ -1,9 +1,10 @@
 -- The program's commands and their options, as `clap` reads them: docs/COMMANDS.md.
 use Rattle.std.specs.Prelude.{◌≡◌, Bool, true, false, List, [], ◌∷◌, Some, codes}
-use Rattle.clap.specs.Words.{App, Rule, Shape, Text, app_of, fields_of, new_rule}
+use Rattle.clap.specs.Words.{App, Rule, Shape, Text, app_of, new_rule}
 use Rattle.clap.specs.Simple.{new_shape}
 use Rattle.clap.specs.declared.builder.action.ArgAction.TheVariants.{Set}
 use Rattle.clap.specs.declared.builder.command.Command.{Command}
+use Rattle.clap.specs.declared.builder.command.Command.TheViews.{out-Command}
 
 -- a word that is known by its place, and has to be there
 abbrev pub positional : Text → Rule
@@ -59,4 +60,4 @@ program = record {
 -- a command of `clap`, none of whose arguments is global, is read as this one
 pub record IsApp (built : Command) (app : App) : Type 0 where
   pub is_app : app_of built ≡ app
-  pub local : (fields_of built).has_globals ≡ false
+  pub local : (out-Command built).has_globals ≡ false
