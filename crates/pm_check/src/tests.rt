@@ -47,7 +47,10 @@ fn another_fault_is_not_mended(rt: HostRuntime) -> Result<(), Fail> {
     image.set(2, 8);
     image.set(512, 0);
     let told = check(rt.alloc(), &mut image, true)?;
-    assert_eq!(rt; told, Verdict::Fault(ImageFault::Header(HeaderFault::HeaderMain)));
+    assert_eq!(rt;
+        told,
+        Verdict::Fault(ImageFault::Header(HeaderFault::HeaderMain))
+    );
     assert!(rt; image.len() > 512);
     assert_eq!(rt; image.word(2), 8);
     Ok(())

@@ -43,5 +43,5 @@ gathered_more {X = X} h k count one told counted few is same =
     let as_one : one ≡ length (option_to_list (h k)) = is ∙ ap from_bool same ∙ there (h k) in
     let small = there_few (h k) in
     let parts : length (flat_map (λ j. option_to_list (h j)) (range_with_len 0 (k + 1))) ≡ length (flat_map (λ j. option_to_list (h j)) (range_with_len 0 k)) + length (option_to_list (h k)) =
-        ap length (parts_more (λ j. option_to_list (h j)) k) ∙ length-append (flat_map (λ j. option_to_list (h j)) (range_with_len 0 k)) (option_to_list (h k)) in
+    ap length (parts_more (λ j. option_to_list (h j)) k) ∙ length-append (flat_map (λ j. option_to_list (h j)) (range_with_len 0 k)) (option_to_list (h k)) in
     ((λ i. counted i + as_one i) ∙ sym parts, omega (arith, few, as_one, small))

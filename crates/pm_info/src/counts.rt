@@ -9,7 +9,8 @@ ghost use Rattle.pm_info.specs.Facts.{is_run, runs, runs_by, sealed_lanes, size_
 
 use pm_image::{is_sealed, valid_record};
 use pm_layout::{
-    CHUNKS_PER_ZONE, DESCRIPTOR_UNIT, LANE_WORDS, PAGE_WORDS, RUN, UNDO_SLOTS, ZONE_WORDS, blocks_of,
+    CHUNKS_PER_ZONE, DESCRIPTOR_UNIT, LANE_WORDS, PAGE_WORDS, RUN, UNDO_SLOTS, ZONE_WORDS,
+    blocks_of,
 };
 use pm_objects::{Object, PoolView};
 use pm_raw::RawImage;

@@ -7,8 +7,8 @@
 #![tactic(auto)]
 
 mod counts;
-mod fault;
 mod facts;
+mod fault;
 mod lines;
 
 pub use facts::{info, info_text};

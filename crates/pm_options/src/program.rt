@@ -35,13 +35,7 @@ fn create<'a>(alloc: Global) -> Result<Command<'a>, AllocError>
     let zones = lanes.arg(option(alloc, "zones", "Z", "Zones, 1 to 32", true))?;
     let id = zones.arg(option(alloc, "id", "N", "The pool's id, 1 or more", true))?;
     let layout = id.arg(option(alloc, "layout", "NAME", "The layout name", true))?;
-    let root = layout.arg(option(
-        alloc,
-        "root",
-        "SIZE",
-        "Bytes of the root, 0 for none",
-        true,
-    ))?;
+    let root = layout.arg(option(alloc, "root", "SIZE", "Bytes of the root, 0 for none", true))?;
     Ok(root)
 }
 

@@ -21,7 +21,10 @@ fn any_order(rt: HostRuntime) -> Result<(), Fail> {
         Ok(Command::Create(create)) => {
             assert_eq!(rt; create.pool, "P");
             assert_eq!(rt; create.layout, "demo");
-            assert_eq!(rt; (create.lanes, create.zones, create.id, create.root), (1, 1, 7, 64));
+            assert_eq!(rt;
+                (create.lanes, create.zones, create.id, create.root),
+                (1, 1, 7, 64)
+            );
         }
         _ => panic!(rt; "a command"),
     }

@@ -12,10 +12,7 @@ use pm_script::{number, stops};
 use std::alloc::{AllocError, Global};
 
 /// The values of `create`.
-pub fn create_in<'a>(
-    alloc: Global,
-    given: &ArgMatches<'a>,
-) -> Result<CreateWords<'a>, OptionsFault>
+pub fn create_in<'a>(alloc: Global, given: &ArgMatches<'a>) -> Result<CreateWords<'a>, OptionsFault>
     ensures some { IfOk result (λ c. HasCreate (rows_of (found_of given.now)) (create_asked c)) }
     ensures none { IfErr result (λ e. IfUsage e
         ((c : Create) → ¬ HasCreate (rows_of (found_of given.now)) c)) }
@@ -77,11 +74,7 @@ fn value<'a>(given: &ArgMatches<'a>, name: &str) -> Option<&'a str>
 }
 
 /// The value of an option, or of a word, that has to be there.
-pub fn text<'a>(
-    alloc: Global,
-    given: &ArgMatches<'a>,
-    name: &str,
-) -> Result<&'a str, OptionsFault>
+pub fn text<'a>(alloc: Global, given: &ArgMatches<'a>, name: &str) -> Result<&'a str, OptionsFault>
     ensures some { IfOk result (λ text. HasValue (rows_of (found_of given.now)) name.now text.now) }
     ensures none { IfErr result (λ e. IfUsage e
         ((text : Text) → ¬ HasValue (rows_of (found_of given.now)) name.now text)) }

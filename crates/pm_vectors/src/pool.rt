@@ -1,4 +1,4 @@
-ghost use Rattle.std.specs.Prelude.{◌≡◌, ◌<◌, ◌≤◌, length, IfOk};
+ghost use Rattle.std.specs.Prelude.{◌≡◌, IfOk, slice_set};
 ghost use Rattle.pm_words.specs.Words.{bytes_of};
 ghost use Rattle.pm_vectors.specs.Damages.{damaged, demo_pool, edited};
 
@@ -35,13 +35,21 @@ pub fn damaged_pool(alloc: Global, damage: &Damage) -> Result<Vec<u8>, AllocErro
 }
 
 /// Writes these words over the image's; an edit past its end changes nothing.
+#[tactic(auto, using(std::proofs::lemmas::List::drop_more))]
 fn edit(image: &mut RawImage, edits: &[(u64, u64)])
     ensures { image.new ≡ edited image.old edits.now }
 {
-    for (word, value) in edits {
-        if *word < image.len() {
-            image.set(*word, *value);
-        }
+    for edit in edits {
+        put(image, edit.0, edit.1);
+    }
+}
+
+/// Writes one word; past the image's end nothing changes.
+fn put(image: &mut RawImage, word: u64, value: u64)
+    ensures { image.new ≡ slice_set image.old word value }
+{
+    if word < image.len() {
+        image.set(word, value);
     }
 }
 

@@ -20,12 +20,14 @@ pub returns-in-Ok-means-clause-verdict : goal.returns-in-Ok-means-clause-verdict
 returns-in-Ok-means-clause-verdict c =
     let one : IsOfOnePair c.in-Err-Image.found = search rules in
     let is : IsImageFault c.args.image.now c.in-Err-Image.found = rw c.in-Err-Image.field-0-is at c.in-Err-Image.ensures.fault in
-    let asked : IsTrue c.args.repair = search rules in
-    (asked, record {
-      fault = is;
-      good_pair = good_pair c.args.image.now c.in_ok-mended.mended c.in-Err-Image.found one is c.in_ok-mended.ensures.main c.in_ok-mended.ensures.copy;
-      whole = (c.in-Ok-means.field-0, c.in-Ok-means.ensures.pool);
-    })
+    let asked : IsTrue c.args.repair = search rules in (
+      asked,
+      record {
+        fault = is;
+        good_pair = good_pair c.args.image.now c.in_ok-mended.mended c.in-Err-Image.found one is c.in_ok-mended.ensures.main c.in_ok-mended.ensures.copy;
+        whole = (c.in-Ok-means.field-0, c.in-Ok-means.ensures.pool);
+      },
+    )
 
 pub returns-in-Err-Image-means-clause-verdict : goal.returns-in-Err-Image-means-clause-verdict
 returns-in-Err-Image-means-clause-verdict c =

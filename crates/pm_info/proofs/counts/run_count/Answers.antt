@@ -28,5 +28,5 @@ returns c =
     let lanes : ℕ = c.args.pool.now.lanes in
     let behind : (chunk : ℕ) → area_word lanes ≤ descriptor_word lanes chunk = λ chunk. omega arith in
     let same : (chunk : ℕ) → get_or c.recover.new.image (descriptor_word lanes chunk) 0 ≡ recovered_at c.args.image.now lanes (descriptor_word lanes chunk) =
-        λ chunk. done.words (descriptor_word lanes chunk) (inr (behind chunk)) ∙ ap (λ (ws : List ℕ). recovered_at ws lanes (descriptor_word lanes chunk)) c.in_ok-recovered.ensures in
+    λ chunk. done.words (descriptor_word lanes chunk) (inr (behind chunk)) ∙ ap (λ (ws : List ℕ). recovered_at ws lanes (descriptor_word lanes chunk)) c.in_ok-recovered.ensures in
     c.runs_in.ensures ∙ (λ i. count_by (λ chunk. is_run (class_in (same chunk i))) (range_with_len 0 (64 * c.args.pool.now.zones)))
