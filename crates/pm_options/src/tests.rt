@@ -30,3 +30,37 @@ fn any_order(rt: HostRuntime) -> Result<(), Fail> {
     }
     Ok(())
 }
+
+/// Requests for help and for the version, which are no fault.
+#[test]
+fn help(rt: HostRuntime) -> Result<(), Fail> {
+    for line in ["--help", "--version", "check --help", "info --version"] {
+        let words = words(rt.alloc(), line)?;
+        assert!(rt; matches!(command_of(rt.alloc(), &words), Ok(Command::Help(_))), "{line}");
+    }
+    Ok(())
+}
+
+/// Faulty lines: no command, an unknown one or option, a word too few or too many, a value left out or out of form, an option twice.
+#[test]
+fn faulty_lines(rt: HostRuntime) -> Result<(), Fail> {
+    for line in [
+        "frob",
+        "info",
+        "info P Q",
+        "info P --keep 1",
+        "check P --repair",
+        "check P --repair A --repair B",
+        "create P --lanes 1 --zones 1 --id 7 --layout demo",
+        "create P --lanes +1 --zones 1 --id 7 --layout demo --root 64",
+        "create P --lanes 18446744073709551616 --zones 1 --id 7 --layout demo --root 64",
+        "exec P --script S --out Q --layout demo --stops 0:1,0:2",
+        "exec P --script S --out Q --layout demo --stops 0:",
+        "exec P --script S --out Q --layout demo --keep x",
+    ] {
+        let words = words(rt.alloc(), line)?;
+        let told = command_of(rt.alloc(), &words);
+        assert!(rt; matches!(told, Err(OptionsFault::Usage(_))), "{line}");
+    }
+    Ok(())
+}
