@@ -36,7 +36,10 @@ fn any_order(rt: HostRuntime) -> Result<(), Fail> {
 fn help(rt: HostRuntime) -> Result<(), Fail> {
     for line in ["--help", "--version", "check --help", "info --version"] {
         let words = words(rt.alloc(), line)?;
-        assert!(rt; matches!(command_of(rt.alloc(), &words), Ok(Command::Help(_))), "{line}");
+        assert!(rt;
+            matches!(command_of(rt.alloc(), &words), Ok(Command::Help(_))),
+            "{line}"
+        );
     }
     Ok(())
 }
