@@ -1,0 +1,2 @@
+pub mod PageFaults
+pub mod Verdicts
