@@ -2,3 +2,4 @@ pub mod Layout
 pub mod Kinds
 pub mod Sizes
 pub mod Areas
+pub mod Chunks
