@@ -57,6 +57,10 @@ valid g (Small c i) = g.runs c && nat_lt i (blocks_of (g.geo.class c))
 valid g (Big f) = g.geo.first f == f
 valid g Root = true
 
+-- the lane has the block, or found it
+abbrev pub has : Hold → Block → Bool
+has h B = own h B || h.found B
+
 -- the place lies in a chunk that the lane makes a run
 abbrev pub is_in_making : Hold → Place → Bool
 is_in_making h (InRun c w) = h.making c
@@ -194,8 +198,8 @@ pub record HoldFits (sh : Shape) (writer reader : ℕ → ℕ → Bool) (descr :
   -- and no other block is held by it
   pub holds : (B : Block) → g.holder B ≡ suc k → h.mine B ≡ true
   -- it knows the class of a run that it has blocks of, and the chunks of a huge block that it has
-  pub class : (c i : ℕ) → (own h (Small c i) || h.found (Small c i)) ≡ true → h.class c ≡ g.geo.class c
-  pub span : (f : ℕ) → (own h (Big f) || h.found (Big f)) ≡ true → (c : ℕ) → (g.geo.first c == f) ≡ in_span f (h.span f) c
+  pub class : (c i : ℕ) → has h (Small c i) ≡ true → h.class c ≡ g.geo.class c
+  pub span : (f : ℕ) → has h (Big f) ≡ true → (c : ℕ) → (g.geo.first c == f) ≡ in_span f (h.span f) c
   -- a chunk that it makes a run is its own, and its descriptor is stored
   pub making : (c : ℕ) → h.making c ≡ true → (h.mine (Big c) ≡ true) × (descr c ≡ g.geo.class c) × (1 ≤ g.geo.class c) × (0 < blocks_of (g.geo.class c))
   pub free : (c : ℕ) → h.mine (Big (g.geo.first c)) ≡ true → g.runs c ≡ false
@@ -210,7 +214,7 @@ pub record CallFits (flies : ℕ → Diff → Type 0) (span : ℕ → ℕ) (ph :
 
 -- what comes alive with the call it has made: the initialised lines of new blocks
 abbrev pub BornFits : State → Ghost → Hold → Diff → Type 0
-BornFits S g h d = (p : Place) (b : ℕ) → b < 64 → owns g.geo S h p b ≡ true → live S g.geo g.runs p ≡ false → live (after_diff d S) g.geo g.runs p ≡ true → given (d p b) ≡ true
+BornFits S g h d = (p : Place) (b : ℕ) → owns g.geo S h p b ≡ true → live S g.geo g.runs p ≡ false → live (after_diff d S) g.geo g.runs p ≡ true → given (d p b) ≡ true
 
 -- the root word stays the lane's own when the call is decided: it holds the guards to come
 abbrev pub GuardsFit : State → Ghost → Hold → Diff → Type 0
@@ -225,9 +229,9 @@ pub record SightFits (sh : Shape) (cells : Cells) (S : State) (flies : ℕ → D
   -- the difference is of bits that the lane owns, none of them of a chunk that it makes a run, and a record's words are its own
   pub reach : (p : Place) (b : ℕ) → given (diff x.call p b) ≡ true → owns g.geo S x.hold p b ≡ true
   pub plain : (p : Place) (b : ℕ) → given (diff x.call p b) ≡ true → is_in_making x.hold p ≡ false
-  pub logged : (p : Place) (b : ℕ) → is_decided x.phase ≡ false → x.logged p ≡ true → b < 64 → (owns g.geo S x.hold p b ≡ true) × (is_in_making x.hold p ≡ false)
+  pub logged : (p : Place) (b : ℕ) → is_decided x.phase ≡ false → x.logged p ≡ true → (owns g.geo S x.hold p b ≡ true) × (is_in_making x.hold p ≡ false)
   -- before the decision what it stored under records is in the difference
-  pub stored : (p : Place) (b : ℕ) → is_decided x.phase ≡ false → x.logged p ≡ true → b < 64 → given (x.call.fresh p b) ≡ true
+  pub stored : (p : Place) (b : ℕ) → is_decided x.phase ≡ false → x.logged p ≡ true → given (x.call.fresh p b) ≡ true
   pub fresh : (p : Place) (b : ℕ) (y : Bool) → x.call.fresh p b ≡ Some y → x.picture p b ≡ Some y
   pub born : in_flight x.phase ≡ true → BornFits S g x.hold (diff x.call)
   pub guarded : in_flight x.phase ≡ true → GuardsFit S g x.hold (diff x.call)
