@@ -10,3 +10,4 @@ pub mod View
 pub mod Counts
 pub mod Views
 pub mod Founds
+pub mod LockWords

@@ -1,6 +1,6 @@
 -- Two lanes own no bit in common, and a step of one lane leaves the other lanes' facts as they were.
 use Rattle.std.specs.Prelude.{List, [], ◌∷◌}
-use Rattle.std.proofs.Common.{◌≡◌, ◌≢◌, ℕ, suc, ◌+◌, ◌-◌, ◌*◌, ◌/◌, ◌<◌, ◌≤◌, ◌⊎◌, inl, inr, ⊎_elim, nat_lt, Bool, true, false, cond, ◌&&◌, ◌||◌, eqb, ◌==◌, refl, sym, ap, ◌∙◌, subst, arith, ne_eqb, Option, None, Some}
+use Rattle.std.proofs.Common.{◌≡◌, ◌≢◌, ℕ, suc, ◌+◌, ◌-◌, ◌*◌, ◌/◌, ◌%◌, ◌<◌, ◌≤◌, ◌⊎◌, inl, inr, ⊎_elim, nat_le, nat_lt, Bool, true, false, cond, ◌&&◌, ◌||◌, eqb, ◌==◌, refl, sym, ap, ◌∙◌, subst, arith, ne_eqb, Option, None, Some}
 use Rattle.std.proofs.lemmas.Bool.{cases_eq, cases_Bool, eqb-true, both_ways, and_parts, or_cases, or_left, or_right, or_parts, false_from_ne_true}
 use Rattle.pm_layout.specs.declared.shape.Shape.{Shape}
 use Rattle.pm_layout.specs.Sizes.{blocks_of}
@@ -11,7 +11,7 @@ use Rattle.pm_view.specs.Log.{Phase, Idle, Open, Drawn, Sealing, Applying, Clear
 use Rattle.pm_view.specs.Claims.{making_of}
 use Rattle.pm_world.specs.States.{State, Diff, Call, diff, given, over, after_diff, there, val, lit, shown, bright_huge, live, root_line, guards, read, Cells}
 use Rattle.pm_world.specs.Sights.{Hold, Sight}
-use Rattle.pm_world.specs.Lanes.{Ghost, own, all_held, rights, owns, views, sees, has, valid, is_in_making, is_decided, left, blank, BitFits, open_soils, soils, TurnBefore, TurnFlight, TurnAfter, TurnFits, FlightFits, HoldFits, SightFits, Flies, Alone, GeoFits}
+use Rattle.pm_world.specs.Lanes.{Ghost, own, all_held, rights, owns, views, sees, has, valid, is_in_making, is_decided, left, blank, BitFits, open_soils, soils, is_size, TurnBefore, TurnFlight, TurnAfter, TurnFits, FlightFits, HoldFits, SightFits, Flies, Alone, GeoFits}
 use Rattle.pm_world.proofs.Geometry.{huge_line, alloc_block, live_same}
 
 small_root : (c i : ℕ) → Root ≡ Small c i → ⊥
@@ -29,6 +29,14 @@ big_root f e = both_ways true (ap of e) refl
     of (Small c i) = false
     of (Big f) = false
     of Root = true
+
+pub some_first : (a c : Option Bool) → given a ≡ true → given (first_of_two a c) ≡ true
+some_first None c t = absurd (both_ways false refl t)
+some_first (Some y) c t = refl
+
+pub fresh_given : (a c : Option Bool) → given c ≡ true → given (first_of_two a c) ≡ true
+fresh_given None c t = t
+fresh_given (Some y) c t = refl
 
 -- ---- ONE LANE
 
@@ -94,10 +102,6 @@ module _ (sh : Shape) (cells : Cells) (S : State) (flies : ℕ → Diff → Type
   pub soiled_owned : (p : Place) (b : ℕ) → x.soiled p b ≡ true → owns g.geo S x.hold p b ≡ true
   soiled_owned p b e = go x.phase p (f.soiled p b e).0 (λ u t. undecided_owned p b u t) (λ t. f.reach p b (some_first (latest x.call.entries p b) (x.call.fresh p b) t))
     where
-      some_first : (a c : Option Bool) → given a ≡ true → given (first_of_two a c) ≡ true
-      some_first None c t = absurd (both_ways false refl t)
-      some_first (Some y) c t = refl
-
       open_owned : (p : Place) → open_soils p (x.hold.mine (block_of g.geo p b)) (x.logged p) ≡ true → (x.logged p ≡ true → owns g.geo S x.hold p b ≡ true) → owns g.geo S x.hold p b ≡ true
       open_owned (InRun c w) e l = let B = block_of g.geo (InRun c w) b in ⊎_elim (λ (m : x.hold.mine B ≡ true). mine_own x.hold B m) (λ (m : x.logged (InRun c w) ≡ true). l m) (or_cases (x.hold.mine B) (x.logged (InRun c w)) (and_parts (is_data (InRun c w)) (x.hold.mine B || x.logged (InRun c w)) e).1)
       open_owned (InHuge c w) e l = let B = block_of g.geo (InHuge c w) b in ⊎_elim (λ (m : x.hold.mine B ≡ true). mine_own x.hold B m) (λ (m : x.logged (InHuge c w) ≡ true). l m) (or_cases (x.hold.mine B) (x.logged (InHuge c w)) e)
@@ -350,6 +354,12 @@ module _ (sh : Shape) (k : ℕ) (x : Sight) (holds : ℕ → Hold) (cells cells'
   sees_back (Descr c) b o = subst (λ B. v.hold.found B ≡ true) (block_back (Descr c) b (found_has v.hold (block_of g'.geo (Descr c) b) o)) o
   sees_back RootWord b o = o
 
+  size_back : (p : Place) (b : ℕ) → owns g.geo S v.hold p b ≡ true → is_size g'.geo p ≡ true → is_size g.geo p ≡ true
+  size_back (InRun c u) b o t = subst (λ cl. (nat_le 8 u && (((u / 8 - 1) % cl == 0) && (u % 8 == 1))) ≡ true) (class_kept c (part (g.geo.class c) u b) (own_has v.hold (block_of g.geo (InRun c u) b) o)) t
+  size_back (InHuge c u) b o t = subst (λ y. ((y == c) && (u == 1)) ≡ true) (first_kept c (own_has v.hold (Big (g.geo.first c)) o)) t
+  size_back (Descr c) b o t = t
+  size_back RootWord b o t = t
+
   -- the block of an owned bit stays, and the moving lane does not own it
   owned_block : (p : Place) (b : ℕ) → owns g.geo S v.hold p b ≡ true → block_of g'.geo p b ≡ block_of g.geo p b
   owned_block (InRun c u) b o = block_kept (InRun c u) b (own_has v.hold (block_of g.geo (InRun c u) b) o)
@@ -438,6 +448,10 @@ module _ (sh : Shape) (k : ℕ) (x : Sight) (holds : ℕ → Hold) (cells cells'
     logged = λ p b u t. let y = f.logged p b u t in (owned_kept p b y.0, y.1);
     stored = f.stored;
     fresh = f.fresh;
+    sizes = λ p b t. (
+      false_from_ne_true (given (latest v.call.entries p b)) (λ u. both_ways (given (latest v.call.entries p b)) (f.sizes p b (size_back p b (f.reach p b (some_first (latest v.call.entries p b) (v.call.fresh p b) u)) t)).0 u),
+      λ u. let o = f.reach p b (fresh_given (latest v.call.entries p b) (v.call.fresh p b) u) in subst (λ B. turn (latest v.call.entries) B ≡ Some true) (sym (owned_block p b o)) ((f.sizes p b (size_back p b o t)).1 u),
+    );
     born = λ t p b o' n l. let o = owned_back p b o' in f.born t p b o (sym (live_kept S S' m.set p b o) ∙ n) (sym (live_kept (after_diff (diff v.call) S) (after_diff (diff v.call) S') after_kept p b o) ∙ l);
     guarded = λ t b o'. owned_root (after_diff (diff v.call) S) (after_diff (diff v.call) S') after_kept b (f.guarded t b (owned_root_back S S' m.set b o'));
     soiled = λ p b t. let o = soiled_owned sh cells S (Flies g j) g geo j v f p b t in let y = f.soiled p b t in (subst (λ B. soils v.phase p (v.hold.mine B) (v.logged p) (latest v.call.entries p b) ≡ true) (sym (owned_block p b o)) y.0, y.1);

@@ -1,2 +1,5 @@
 pub mod Geometry
 pub mod Frame
+pub mod Replays
+pub mod Going
+pub mod Draws

@@ -1,5 +1,5 @@
 -- What a lane owns, and how what it claims fits the memory and the settled words, block by block and bit by bit.
-use Rattle.std.specs.Prelude.{◌≡◌, ◌≢◌, ℕ, suc, ◌+◌, ◌<◌, ◌≤◌, ◌%◌, nat_lt, Bool, true, false, cond, ◌&&◌, ◌||◌, not, ◌==◌, List, [], ◌∷◌, Option, None, Some}
+use Rattle.std.specs.Prelude.{◌≡◌, ◌≢◌, ℕ, suc, ◌+◌, ◌-◌, ◌/◌, ◌<◌, ◌≤◌, ◌%◌, nat_le, nat_lt, Bool, true, false, cond, ◌&&◌, ◌||◌, not, ◌==◌, List, [], ◌∷◌, Option, None, Some}
 use Rattle.pm_layout.specs.declared.shape.Shape.{Shape}
 use Rattle.pm_layout.specs.Sizes.{blocks_of}
 use Rattle.pm_layout.specs.Chunks.{chunks_of}
@@ -216,6 +216,13 @@ pub record CallFits (flies : ℕ → Diff → Type 0) (span : ℕ → ℕ) (ph :
 abbrev pub BornFits : State → Ghost → Hold → Diff → Type 0
 BornFits S g h d = (p : Place) (b : ℕ) → owns g.geo S h p b ≡ true → live S g.geo g.runs p ≡ false → live (after_diff d S) g.geo g.runs p ≡ true → given (d p b) ≡ true
 
+-- the size word of a block's header
+abbrev pub is_size : Geometry → Place → Bool
+is_size G (InRun c w) = nat_le 8 w && (((w / 8 - 1) % G.class c == 0) && (w % 8 == 1))
+is_size G (InHuge c w) = (G.first c == c) && (w == 1)
+is_size G (Descr c) = false
+is_size G RootWord = false
+
 -- the root word stays the lane's own when the call is decided: it holds the guards to come
 abbrev pub GuardsFit : State → Ghost → Hold → Diff → Type 0
 GuardsFit S g h d = (b : ℕ) → owns g.geo S h RootWord b ≡ true → owns g.geo (after_diff d S) h RootWord b ≡ true
@@ -233,6 +240,8 @@ pub record SightFits (sh : Shape) (cells : Cells) (S : State) (flies : ℕ → D
   -- before the decision what it stored under records is in the difference
   pub stored : (p : Place) (b : ℕ) → is_decided x.phase ≡ false → x.logged p ≡ true → given (x.call.fresh p b) ≡ true
   pub fresh : (p : Place) (b : ℕ) (y : Bool) → x.call.fresh p b ≡ Some y → x.picture p b ≡ Some y
+  -- no entry changes an object's size, and no store does but in a block that the call allocates
+  pub sizes : (p : Place) (b : ℕ) → is_size g.geo p ≡ true → (given (latest x.call.entries p b) ≡ false) × (given (x.call.fresh p b) ≡ true → turn (latest x.call.entries) (block_of g.geo p b) ≡ Some true)
   pub born : in_flight x.phase ≡ true → BornFits S g x.hold (diff x.call)
   pub guarded : in_flight x.phase ≡ true → GuardsFit S g x.hold (diff x.call)
   pub soiled : (p : Place) (b : ℕ) → x.soiled p b ≡ true → (soils x.phase p (x.hold.mine (block_of g.geo p b)) (x.logged p) (latest x.call.entries p b) ≡ true) × (is_in_making x.hold p ≡ false)
