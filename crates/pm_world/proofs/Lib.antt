@@ -3,3 +3,4 @@ pub mod Frame
 pub mod Replays
 pub mod Going
 pub mod Draws
+pub mod Crashes
