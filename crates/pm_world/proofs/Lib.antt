@@ -5,3 +5,5 @@ pub mod Going
 pub mod Draws
 pub mod Cells
 pub mod Worlds
+pub mod Counting
+pub mod StepPlain

@@ -52,7 +52,7 @@ module _ (o : Opening) (mem : Memory) (views : Views) (g : Past) (x : World o me
       records_most = l.records_most;
       pairs = λ i y q. let t = l.pairs i y q in (a.entry j i 0 ne ∙ t.0, a.entry j i 1 ne ∙ t.1, t.2, t.3);
       pair_part = λ i q. a.entry j (length (views j).log.entries) i ne ∙ l.pair_part i q;
-      records = λ i r q. let t = l.records i r q in (λ y z. a.slot j i y ne ∙ t.0 y z, t.1, t.2, t.3);
+      records = λ i r q. let t = l.records i r q in (λ y z. a.slot j i y ne ∙ t.0 y z, t.1, t.2, t.3, t.4);
       once = l.once;
       olds = λ u p y q b z. let t = l.olds u p y q b z in (owned p b t.0, m.set p b (away p b t.0) ∙ t.1);
       slot_part = λ i q. a.slot j (length (views j).log.records) i ne ∙ l.slot_part i q;
