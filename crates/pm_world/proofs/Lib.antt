@@ -7,3 +7,4 @@ pub mod Cells
 pub mod Worlds
 pub mod Counting
 pub mod StepPlain
+pub mod Values
