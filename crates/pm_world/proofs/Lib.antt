@@ -8,3 +8,4 @@ pub mod Worlds
 pub mod Counting
 pub mod StepPlain
 pub mod Values
+pub mod Births
