@@ -169,3 +169,130 @@ module _ (o : Opening) (mem new : Memory) (views views' : Views) (g : Past) (x :
       ap (λ l. record { number = suc g.length; call = (views k).call } ∷ l) (f.entries ∙ sym (numbered_alike k g.drew (put1 g.drew g.length (views k)) g.length (λ m l. put1_else g.drew g.length (views k) m (λ q. omega arith))))
       ∙ (ap (λ y. record { number = suc g.length; call = y.call } ∷ numbered_by k (put1 g.drew g.length (views k)) g.length) (sym e)
       ∙ sym (cond-true ((put1 g.drew g.length (views k) g.length).fixed.lane == k) (record { number = suc g.length; call = (put1 g.drew g.length (views k) g.length).call } ∷ numbered_by k (put1 g.drew g.length (views k)) g.length) (numbered_by k (put1 g.drew g.length (views k)) g.length) (eq-eqb (put1 g.drew g.length (views k) g.length).fixed.lane k lane)))
+
+  -- ---- the log
+  abbrev Logged : Log → Type 0
+  Logged l = LogFits o.shape k ((cells_of o.shape mem).generation k) ((cells_of o.shape mem).seal k) ((cells_of o.shape mem).entry k) ((cells_of o.shape mem).slot k) (settled_words o g) (owns g.geo (settled_words o g) (sight_of (views k)).hold) (sight_of (views k)).picture l (views k).changes
+
+  open_log : Logged (record (views k).log { phase = Open })
+  open_log = subst (λ ph. Logged (record (views k).log { phase = ph })) a.is_open f.log
+
+  log_drawn : (views k).changes ≡ [] → Logged (record (views k).log { phase = Drawn g.length })
+  log_drawn e = let l = open_log in record { first = l.first; last = l.last; below = l.below; stored = l.stored; bump = l.bump; sealed = l.sealed; entries_most = l.entries_most; records_most = l.records_most; pairs = l.pairs; pair_part = l.pair_part;
+    records = l.records; once = l.once; olds = l.olds; slot_part = l.slot_part; stale = l.stale; area_changes = λ i d q. let z = ap length e in absurd (omega arith); phase = (e, a.whole.0, a.whole.1) }
+
+  chunk_change : (p : Rattle.pm_view.specs.Parts.Part) (c : Undrained) → Rattle.pm_world.specs.Lawful.is_chunk_part p ≡ true → AreaChange Idle (length (views k).log.entries) (views k).log.generation p c
+  chunk_change Rattle.pm_view.specs.Parts.GenerationPart c e = both_ways false refl e
+  chunk_change Rattle.pm_view.specs.Parts.SealPart c e = both_ways false refl e
+  chunk_change Rattle.pm_view.specs.Parts.EntryPart c e = both_ways false refl e
+  chunk_change Rattle.pm_view.specs.Parts.SlotPart c e = both_ways false refl e
+  chunk_change Rattle.pm_view.specs.Parts.RootPart c e = tt
+  chunk_change (Rattle.pm_view.specs.Parts.DescriptorPart d) c e = tt
+  chunk_change (Rattle.pm_view.specs.Parts.ChunkPart d i) c e = tt
+  chunk_change Rattle.pm_view.specs.Parts.OtherPart c e = tt
+
+  log_idle : (views k).log.records ≡ [] → (views k).log.entries ≡ [] → Logged (record (views k).log { phase = Idle })
+  log_idle er ee = let l = open_log in record { first = l.first; last = l.last; below = l.below; stored = l.stored; bump = l.bump; sealed = l.sealed; entries_most = l.entries_most; records_most = l.records_most; pairs = l.pairs; pair_part = l.pair_part;
+    records = l.records; once = l.once; olds = l.olds; slot_part = l.slot_part; stale = l.stale;
+    area_changes = ⊎_elim (λ (e : (views k).changes ≡ []). λ i d q. let z = ap length e in absurd (omega arith))
+        (λ (e : ((views k).log.records ≡ []) × ((views k).log.entries ≡ []) × All (FilledChange (views k)) (views k).changes). λ i d q. let c = Rattle.std.specs.Prelude.slice_index_or (views k).changes i d in
+        chunk_change (Rattle.pm_view.specs.Parts.part_of o.shape k c.word) c (subst (λ n. Rattle.pm_world.specs.Lawful.is_chunk_part (Rattle.pm_view.specs.Parts.part_of o.shape n c.word) ≡ true) f.lane (subst (λ s. Rattle.pm_world.specs.Lawful.is_chunk_part (Rattle.pm_view.specs.Parts.part_of s (views k).fixed.lane c.word) ≡ true) f.shape (e.2 i d q).0))) a.drained;
+    phase = (er, ee, a.whole.0, a.whole.1) }
+
+  alike : (w : ℕ) → new (PoolWord w) ≡ mem (PoolWord w)
+  alike w = same (PoolWord w) (Rattle.pm_world.proofs.Cells.other_sort (PoolWord w) CommitCounter (λ q. omega arith))
+
+  occ_sort : (at : Rattle.pm_view.specs.declared.occ.Occ.Occ) → Rattle.pm_world.specs.Memory.occ_at at ≢ CommitCounter
+  occ_sort (Rattle.pm_view.specs.declared.occ.Occ.TheVariants.Run place) e = let q = ap Rattle.pm_world.proofs.Cells.sort e in omega arith
+  occ_sort (Rattle.pm_view.specs.declared.occ.Occ.TheVariants.Zone zone) e = let q = ap Rattle.pm_world.proofs.Cells.sort e in omega arith
+
+  could : may_draw (views k) ≡ true
+  could = and_from (is_none (views k).number) (list_any (is_low (views k).fixed.shape) (views k).seen) (ap is_none a.first)
+      (list_any_at (is_low (views k).fixed.shape) (views k).seen a.seen.0 (NumberSeen a.found) a.seen.1 (ap (is_low (views k).fixed.shape) a.seen.2 ∙ lt-ltb a.found (greatest_generation (views k).fixed.shape) a.below))
+
+  -- ---- the world, where the words settled stay and the phase after is this one
+  module _ (done : Bool) (ph : Phase) (e : phase_drawn g.length (views k).log.records (views k).log.entries ≡ ph) (e' : is_idle ph ≡ done) (u : (p : Place) (b : ℕ) → (done ≡ false) ⊎ (given (diff (sight_of (views k)).call p b) ≡ false))
+      (log : Logged (record (views k).log { phase = ph })) (number : NumberFits ph (Some (suc g.length))) where
+    longer_now : Longer (ghost_of g) k (sight_of (views k)).call done (ghost_of (past_drawn g (views k))).log (ghost_of (past_drawn g (views k))).who (ghost_of (past_drawn g (views k))).decided
+    longer_now = longer_by done (ap is_idle e ∙ e')
+
+    settled_now : settled_words o (past_drawn g (views k)) ≡ settled_words o g
+    settled_now = settled_same o.shape o.lanes (origin o) (cells_of o.shape mem) (λ j. sight_of (views j)) (ghost_of g) x.bits k ink done (ghost_of (past_drawn g (views k))).log (ghost_of (past_drawn g (views k))).who (ghost_of (past_drawn g (views k))).decided longer_now u
+
+    lane_now : LaneFits o new (past_drawn g (views k)) k (after (views k) (Draw g.length))
+    lane_now = record {
+      lane = f.lane;
+      shape = f.shape;
+      lanes = f.lanes;
+      log = subst (λ s. LogFits o.shape k ((cells_of o.shape new).generation k) ((cells_of o.shape new).seal k) ((cells_of o.shape new).entry k) ((cells_of o.shape new).slot k) s (owns g.geo s (sight_of (views k)).hold) (sight_of (views k)).picture (record (views k).log { phase = phase_drawn g.length (views k).log.records (views k).log.entries }) (views k).changes) (sym settled_now)
+          (subst (λ c. LogFits o.shape k (c.generation k) (c.seal k) (c.entry k) (c.slot k) (settled_words o g) (owns g.geo (settled_words o g) (sight_of (views k)).hold) (sight_of (views k)).picture (record (views k).log { phase = phase_drawn g.length (views k).log.records (views k).log.entries }) (views k).changes) (sym cells_new)
+          (subst (λ z. Logged (record (views k).log { phase = z })) (sym e) log));
+      number = subst (λ z. NumberFits z (Some (suc g.length))) (sym e) number;
+      zones = λ z. ap (λ c. c.zone z == suc k) cells_new ∙ f.zones z;
+      masks = f.masks;
+      room = f.room;
+      within = f.within;
+      alone = λ one. let y = f.alone one in record { words = λ w n q. alike w ∙ y.words w n q; occupancy = λ at n q. same (Rattle.pm_world.specs.Memory.occ_at at) (occ_sort at) ∙ y.occupancy at n q };
+      entries = own_entries;
+    }
+
+    world_now : Rattle.pm_world.specs.Lanes.Bits o.shape o.lanes (origin o) (record (cells_of o.shape mem) { counter = suc (cells_of o.shape mem).counter }) (λ j. sight_of (views' j)) (ghost_of (past_drawn g (views k))) → World o new views' (past_drawn g (views k))
+    world_now bits = world_after o mem views g x k ink new views' (past_drawn g (views k)) (settled_words o g) (after (views k) (Draw g.length)) settled_now
+        (subst (λ c. Rattle.pm_world.proofs.Frame.Around k (sight_of (views k)).hold (λ j. (sight_of (views j)).hold) (cells_of o.shape mem) c (settled_words o g) (settled_words o g) (ghost_of g) (ghost_of (past_drawn g (views k)))) (sym cells_new)
+        (around o.shape o.lanes (origin o) (cells_of o.shape mem) (λ j. sight_of (views j)) (ghost_of g) x.bits k ink done (ghost_of (past_drawn g (views k))).log (ghost_of (past_drawn g (views k))).who (ghost_of (past_drawn g (views k))).decided longer_now u))
+        aside t (subst (λ c. Rattle.pm_world.specs.Lanes.Bits o.shape o.lanes (origin o) c (λ j. sight_of (views' j)) (ghost_of (past_drawn g (views k)))) (sym cells_new) bits) lane_now
+        (λ n l. ⊎_elim (λ (q : n ≡ g.length). subst (λ i. i < o.lanes) (sym (ap (λ i. (put1 g.drew g.length (views k) i).fixed.lane) q ∙ (ap (λ y. y.fixed.lane) (put1_here g.drew g.length (views k)) ∙ f.lane))) ink)
+        (λ (ne : n ≢ g.length). subst (λ y. y.fixed.lane < o.lanes) (sym (put1_else g.drew g.length (views k) n ne)) (x.of_lanes n (omega arith))) (cases_eq n g.length))
+        (λ w. subst (λ n. n < 2 ^ 64) (sym (alike w)) (x.small w)) (λ w h. alike w ∙ x.header w h)
+        (let less = count_less views views' k (after (views k) (Draw g.length)) t could refl o.lanes ink in let room = x.counter_room in let c = counter in let n = count in omega arith)
+        (⊎_elim (λ (q : mem StopWord ≡ 0). inl (same StopWord (Rattle.pm_world.proofs.Cells.other_sort StopWord CommitCounter (λ z. omega arith)) ∙ q)) (λ (q : (j : ℕ) × (j < o.lanes) × IsAtStop (views j)). inr (q.0, q.1, Rattle.pm_world.proofs.Worlds.stops_stay views views' k (after (views k) (Draw g.length)) t (λ z. z) q.0 q.2)) x.stop_word)
+
+  turned_to : (ph : Phase) → phase_drawn g.length (views k).log.records (views k).log.entries ≡ ph → Turned (λ j. sight_of (views j)) (λ j. sight_of (views' j)) k (record (sight_of (views k)) { phase = ph })
+  turned_to ph e = subst (λ z. Turned (λ j. sight_of (views j)) (λ j. sight_of (views' j)) k (record (sight_of (views k)) { phase = z })) e (turned views views' k (after (views k) (Draw g.length)) t)
+
+  -- a call that is to be decided
+  flying_world : phase_drawn g.length (views k).log.records (views k).log.entries ≡ Drawn g.length → (views k).changes ≡ [] → World o new views' (past_drawn g (views k))
+  flying_world e none_ = world_now false (Drawn g.length) e refl (λ p b. inl refl) (log_drawn none_) refl
+      (draws o.shape o.lanes (origin o) (cells_of o.shape mem) (λ j. sight_of (views j)) (ghost_of g) x.bits k ink false (ghost_of (past_drawn g (views k))).log (ghost_of (past_drawn g (views k))).who (ghost_of (past_drawn g (views k))).decided (longer_by false (ap is_idle e)) refl a.is_open
+      (λ p b. subst (λ c. is_soiled (views k).fixed.shape (sight_of (views k)).hold c p b ≡ false) (sym none_) (and_false (is_use (sight_of (views k)).hold p)))
+      (λ B. flight_of ((sight_of (views k)).hold.locked (header o.shape g.geo B)) ((sight_of (views k)).hold.mine B) ((sight_of (views k)).hold.here B) (turn (latest (redos (views k).log.entries)) B) (at_open.turns B) (mark B))
+      (born o.shape (cells_of o.shape mem) (settled_words o g) (Flies (ghost_of g) k) (ghost_of g) x.bits.geo k (views k) (x.bits.each_lane k) a.new_blocks) guarded (λ j. sight_of (views' j)) (turned_to (Drawn g.length) e))
+
+  -- a call that makes nothing final
+  nothing : (rs : List Recorded) (es : List Entry) → rs ≡ [] → es ≡ [] → (p : Place) (b : ℕ) → given (diff (call_of (views k).fixed.shape (views k).claims (record (views k).log { records = rs; entries = es })) p b) ≡ false
+  nothing rs es er ee p b = subst (λ r. given (diff (call_of (views k).fixed.shape (views k).claims (record (views k).log { records = r; entries = es })) p b) ≡ false) (sym er) (subst (λ n. given (diff (call_of (views k).fixed.shape (views k).claims (record (views k).log { records = []; entries = n })) p b) ≡ false) (sym ee)
+      (empty (Rattle.pm_view.specs.Places.is_data p) (turn (latest []) (Rattle.pm_view.specs.Places.block_of (Rattle.pm_view.specs.Claims.geometry (views k).fixed.shape (views k).claims) p b)) ((sight_of (views k)).picture p b) (no_turn (Rattle.pm_view.specs.Places.block_of (Rattle.pm_view.specs.Claims.geometry (views k).fixed.shape (views k).claims) p b))))
+    where
+      no_turn : (B : Block) → turn (latest []) B ≡ None
+      no_turn (Small c i) = refl
+      no_turn (Big c) = refl
+      no_turn Root = refl
+
+      empty : (d : Bool) (r y : Option Bool) → r ≡ None → given (cond (d && (Rattle.pm_world.specs.Sights.is_made r || false)) y None) ≡ false
+      empty d r y q = subst (λ z. given (cond (d && (Rattle.pm_world.specs.Sights.is_made z || false)) y None) ≡ false) (sym q) (ap (λ z. given (cond z y None)) (and_false d))
+
+  idle_turn : (es : List Entry) → es ≡ [] → (B : Block) → turn (latest (redos es)) B ≡ None
+  idle_turn es ee (Small c i) = ap (λ n. latest (redos n) (InRun c 0) i) ee
+  idle_turn es ee (Big c) = ap (λ n. latest (redos n) (Descr c) 1) ee
+  idle_turn es ee Root = refl
+
+  idle_world : (views k).log.records ≡ [] → (views k).log.entries ≡ [] → World o new views' (past_drawn g (views k))
+  idle_world er ee = let e : phase_drawn g.length (views k).log.records (views k).log.entries ≡ Idle = ap (λ r. phase_drawn g.length r (views k).log.entries) er ∙ ap (λ n. phase_drawn g.length [] n) ee in
+      let none_ = nothing (views k).log.records (views k).log.entries er ee in
+      world_now true Idle e refl (λ p b. inr (none_ p b)) (log_idle er ee) tt
+      (draws_idle o.shape o.lanes (origin o) (cells_of o.shape mem) (λ j. sight_of (views j)) (ghost_of g) x.bits k ink true (ghost_of (past_drawn g (views k))).log (ghost_of (past_drawn g (views k))).who (ghost_of (past_drawn g (views k))).decided (longer_by true (ap is_idle e)) refl a.is_open none_ (idle_turn (views k).log.entries ee) (λ j. sight_of (views' j)) (turned_to Idle e))
+
+  pub drawn_world : World o new views' (past_drawn g (views k))
+  drawn_world = ⊎_elim (λ (e : ((views k).log.records ≡ []) × ((views k).log.entries ≡ [])). idle_world e.0 e.1)
+      (λ (e : (n : ℕ) → phase_drawn n (views k).log.records (views k).log.entries ≡ Drawn n). flying_world (e g.length) (⊎_elim (λ (q : (views k).changes ≡ []). q)
+      (λ (q : ((views k).log.records ≡ []) × ((views k).log.entries ≡ []) × All (FilledChange (views k)) (views k).changes). absurd (not_both q.0 q.1 (e g.length))) a.drained)) (drawn_cases (views k).log.records (views k).log.entries)
+    where
+      not_both : (views k).log.records ≡ [] → (views k).log.entries ≡ [] → phase_drawn g.length (views k).log.records (views k).log.entries ≡ Drawn g.length → ⊥
+      not_both er ee q = both_ways true (ap is_idle (sym (ap (λ r. phase_drawn g.length r (views k).log.entries) er ∙ ap (λ n. phase_drawn g.length [] n) ee) ∙ q)) refl
+
+-- THE DRAW OF A NUMBER KEEPS THE WORLD
+pub draw : (n : ℕ) → Keeps (Draw n)
+draw n o mem new views views' g k x ink law moves t = let a = law.allowed in let f = x.each_lane k ink in let e : n ≡ g.length = moves.1 ∙ x.bits.counter in
+    (drawn_world o mem new views views' g x k ink a moves.0.0 (let c = moves.0.1 in omega arith) (subst (λ m. Turn views views' k (after (views k) (Draw m))) e t),
+     (subst (λ l. All (λ (y : Numbered). y.number ≤ n) l) (sym f.entries) (numbers_below k g.drew g.length n (omega arith)),
+     λ one. let l : o.lanes ≡ 1 = sym f.lanes ∙ eqb-true (views k).fixed.lanes 1 one in e ∙ (sym (all_numbered k g.drew g.length (λ m q. let z = x.of_lanes m q in omega arith)) ∙ sym (ap length f.entries))))
