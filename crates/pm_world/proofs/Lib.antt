@@ -4,6 +4,7 @@ pub mod Replays
 pub mod Going
 pub mod Draws
 pub mod Cells
+pub mod WordsApart
 pub mod Worlds
 pub mod Counting
 pub mod StepPlain
