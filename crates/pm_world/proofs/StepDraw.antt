@@ -204,9 +204,9 @@ module _ (o : Opening) (mem new : Memory) (views views' : Views) (g : Past) (x :
   chunk_change Rattle.pm_view.specs.Parts.EntryPart c e = both_ways false refl e
   chunk_change Rattle.pm_view.specs.Parts.SlotPart c e = both_ways false refl e
   chunk_change Rattle.pm_view.specs.Parts.RootPart c e = tt
-  chunk_change (Rattle.pm_view.specs.Parts.DescriptorPart d) c e = tt
+  chunk_change (Rattle.pm_view.specs.Parts.DescriptorPart d) c e = both_ways false refl e
   chunk_change (Rattle.pm_view.specs.Parts.ChunkPart d i) c e = tt
-  chunk_change Rattle.pm_view.specs.Parts.OtherPart c e = tt
+  chunk_change Rattle.pm_view.specs.Parts.OtherPart c e = both_ways false refl e
 
   log_idle : (views k).log.records ≡ [] → (views k).log.entries ≡ [] → Logged (record (views k).log { phase = Idle })
   log_idle er ee = let l = open_log in record {

@@ -13,7 +13,7 @@ use Rattle.pm_world.specs.Sights.{Hold, Sight, sight_of}
 use Rattle.pm_world.specs.Lanes.{Ghost, settled, owns, Flies, SightFits, Bits}
 use Rattle.pm_world.specs.Logs.{LogFits}
 use Rattle.pm_world.specs.Memory.{Memory, PoolWord, ZoneLock, CommitCounter, StopWord, cells_of}
-use Rattle.pm_world.specs.World.{Opening, Views, Past, origin, ghost_of, settled_words, numbered_by, LaneFits, may_draw_count, is_header, World}
+use Rattle.pm_world.specs.World.{Opening, Views, Past, origin, ghost_of, settled_words, numbered_by, AreaFits, LaneFits, may_draw_count, is_header, World}
 use Rattle.pm_world.specs.Laws.{Turn}
 use Rattle.pm_world.proofs.Frame.{Around, owned_kept, bit_away, owns_apart}
 use Rattle.pm_world.proofs.Going.{Turned}
@@ -34,14 +34,10 @@ module _ (o : Opening) (mem : Memory) (views : Views) (g : Past) (x : World o me
   abbrev S : State
   S = settled_words o g
 
-  -- ANOTHER LANE'S FACTS STAY
-  pub lane_stays : (new : Memory) (g' : Past) (S' : State) → settled_words o g' ≡ S' → Around k (sight_of (views k)).hold (λ j. (sight_of (views j)).hold) (cells_of o.shape mem) (cells_of o.shape new) (settled_words o g) S' (ghost_of g) (ghost_of g') → Aside o k mem new g g'
-      → (j : ℕ) → j ≢ k → j < o.lanes → LaneFits o new g' j (views j)
-  lane_stays new g' S' e m a j ne inj = let f = x.each_lane j inj in let l = f.log in record {
-    lane = f.lane;
-    shape = f.shape;
-    lanes = f.lanes;
-    log = subst (λ s. LogFits o.shape j ((cells_of o.shape new).generation j) ((cells_of o.shape new).seal j) ((cells_of o.shape new).entry j) ((cells_of o.shape new).slot j) s (owns g'.geo s (sight_of (views j)).hold) (sight_of (views j)).picture (views j).log (views j).changes) (sym e) record {
+  -- ANOTHER LANE'S LOG STAYS, AND ITS FACTS
+  pub log_stays : (new : Memory) (g' : Past) (S' : State) → settled_words o g' ≡ S' → Around k (sight_of (views k)).hold (λ j. (sight_of (views j)).hold) (cells_of o.shape mem) (cells_of o.shape new) (settled_words o g) S' (ghost_of g) (ghost_of g') → Aside o k mem new g g'
+      → (j : ℕ) → j ≢ k → AreaFits o mem g j (views j) → AreaFits o new g' j (views j)
+  log_stays new g' S' e m a j ne l = subst (λ s. LogFits o.shape j ((cells_of o.shape new).generation j) ((cells_of o.shape new).seal j) ((cells_of o.shape new).entry j) ((cells_of o.shape new).slot j) s (owns g'.geo s (sight_of (views j)).hold) (sight_of (views j)).picture (views j).log (views j).changes) (sym e) record {
       first = l.first;
       last = l.last;
       below = l.below;
@@ -52,22 +48,14 @@ module _ (o : Opening) (mem : Memory) (views : Views) (g : Past) (x : World o me
       records_most = l.records_most;
       pairs = λ i y q. let t = l.pairs i y q in (a.entry j i 0 ne ∙ t.0, a.entry j i 1 ne ∙ t.1, t.2, t.3);
       pair_part = λ i q. a.entry j (length (views j).log.entries) i ne ∙ l.pair_part i q;
-      records = λ i r q. let t = l.records i r q in (λ y z. a.slot j i y ne ∙ t.0 y z, t.1, t.2, t.3, t.4);
+      records = λ i r q. let t = l.records i r q in (λ y z. a.slot j i y ne ∙ t.0 y z, t.1, t.2, t.3, t.4, t.5);
       once = l.once;
       olds = λ u p y q b z. let t = l.olds u p y q b z in (owned p b t.0, m.set p b (away p b t.0) ∙ t.1);
       slot_part = λ i q. a.slot j (length (views j).log.records) i ne ∙ l.slot_part i q;
       stale = λ i u q z t. l.stale i u q z (sym (ap undo_of (slots i)) ∙ t);
       area_changes = l.area_changes;
       phase = l.phase;
-    };
-    number = f.number;
-    zones = λ z. a.zone z j ne ∙ f.zones z;
-    masks = f.masks;
-    room = f.room;
-    within = f.within;
-    alone = λ one. absurd (omega arith);
-    entries = f.entries ∙ sym (a.entries j ne);
-  }
+    }
     where
       fit : (i : ℕ) → SightFits o.shape (cells_of o.shape mem) (settled_words o g) (Flies (ghost_of g) i) (ghost_of g) i (sight_of (views i))
       fit i = x.bits.each_lane i
@@ -81,6 +69,22 @@ module _ (o : Opening) (mem : Memory) (views : Views) (g : Past) (x : World o me
       slots : (i : ℕ) → Rattle.pm_world.specs.Logs.slot_list ((cells_of o.shape new).slot j i) ≡ Rattle.pm_world.specs.Logs.slot_list ((cells_of o.shape mem).slot j i)
       slots i = ap Rattle.pm_world.specs.Logs.slot_list (λ t y. a.slot j i y ne t)
 
+  pub lane_stays : (new : Memory) (g' : Past) (S' : State) → settled_words o g' ≡ S' → Around k (sight_of (views k)).hold (λ j. (sight_of (views j)).hold) (cells_of o.shape mem) (cells_of o.shape new) (settled_words o g) S' (ghost_of g) (ghost_of g') → Aside o k mem new g g'
+      → (j : ℕ) → j ≢ k → j < o.lanes → LaneFits o new g' j (views j)
+  lane_stays new g' S' e m a j ne inj = let f = x.each_lane j inj in record {
+    lane = f.lane;
+    shape = f.shape;
+    lanes = f.lanes;
+    log = log_stays new g' S' e m a j ne f.log;
+    number = f.number;
+    zones = λ z. a.zone z j ne ∙ f.zones z;
+    masks = f.masks;
+    room = f.room;
+    within = f.within;
+    alone = λ one. absurd (omega arith);
+    entries = f.entries ∙ sym (a.entries j ne);
+  }
+
   -- THE WORLD AFTER THE STEP
   pub world_after : (new : Memory) (views' : Views) (g' : Past) (S' : State) (v : View) → settled_words o g' ≡ S'
       → Around k (sight_of (views k)).hold (λ j. (sight_of (views j)).hold) (cells_of o.shape mem) (cells_of o.shape new) (settled_words o g) S' (ghost_of g) (ghost_of g') → Aside o k mem new g g' → Turn views views' k v
@@ -93,6 +97,7 @@ module _ (o : Opening) (mem : Memory) (views : Views) (g : Past) (x : World o me
     size = x.size;
     bits = bits;
     each_lane = λ j inj. ⊎_elim (λ (q : j ≡ k). subst (λ i. LaneFits o new g' i (views' i)) (sym q) (subst (λ y. LaneFits o new g' k y) (sym t.here) f)) (λ (ne : j ≢ k). subst (λ y. LaneFits o new g' j y) (sym (t.else_ j ne)) (lane_stays new g' S' e m a j ne inj)) (cases_eq j k);
+    logs_beyond = λ j out inj. let ne : j ≢ k = λ q. omega arith in subst (AreaFits o new g' j) (sym (t.else_ j ne)) (log_stays new g' S' e m a j ne (x.logs_beyond j out inj));
     idle_beyond = λ j out. subst (λ y. (y.changes ≡ []) × (y.log.phase ≡ Idle)) (sym (t.else_ j (λ q. omega arith))) (x.idle_beyond j out);
     of_lanes = of_lanes;
     small = small;
