@@ -57,12 +57,13 @@ decided_by sights stands zero n = false
 decided_by sights stands (suc k) n = decides (sights k).phase (stands k) n || decided_by sights stands k n
 
 -- THE IMAGE, at places: `im` has its bits, `rec` those recovered
-pub record Image (sh : Shape) (m S : State) (g : Ghost) (sights : ℕ → Sight) (im rec : State) (spoken : ℕ → Diff) (stands : ℕ → Bool) : Type 0 where
+pub record Image (sh : Shape) (pool_lanes : ℕ) (m S : State) (g : Ghost) (sights : ℕ → Sight) (im rec : State) (spoken : ℕ → Diff) (stands : ℕ → Bool) : Type 0 where
   -- a bit is as in memory, or some lane has an undrained change of it, in this use of the word or the other
   pub pool : (p : Place) (b : ℕ) → InPool sh p b → (im p b ≡ m p b) ⊎ ((k : ℕ) × (((sights k).soiled p b ≡ true) ⊎ ((sights k).soiled (twin p) b ≡ true)))
-  pub logs : (k : ℕ) → PhaseSays sh m S g (sights k) (spoken k) (stands k) (sights k).phase
+  pub logs : (k : ℕ) → k < pool_lanes → PhaseSays sh m S g (sights k) (spoken k) (stands k) (sights k).phase
+  pub no_logs : (k : ℕ) → pool_lanes ≤ k → IsSilent sh (spoken k)
   -- where one lane's log alone gives the bit, recovery does so
-  pub joins : (p : Place) (b k : ℕ) → InPool sh p b → ((j : ℕ) → j ≢ k → given (spoken j p b) ≡ false) → rec p b ≡ over (spoken k p b) (im p b)
+  pub joins : (p : Place) (b k : ℕ) → k < pool_lanes → InPool sh p b → ((j : ℕ) → j ≢ k → given (spoken j p b) ≡ false) → rec p b ≡ over (spoken k p b) (im p b)
 
 -- ---- one-bit facts
 
@@ -142,8 +143,8 @@ some_lane P zero = inr (λ j l. absurd (omega arith))
 some_lane P (suc n) = ⊎_elim (λ (t : P n ≡ true). inl (n, t))
     (λ (f : P n ≡ false). ⊎_elim (λ (y : (j : ℕ) × (P j ≡ true)). inl y) (λ (h : (j : ℕ) → j < n → P j ≡ false). inr (λ j l. ⊎_elim (λ (e : j ≡ n). ap P e ∙ f) (λ (ne : j ≢ n). h j (omega arith)) (cases_eq j n))) (some_lane P n)) (cases_Bool (P n))
 
-module _ (sh : Shape) (L : ℕ) (o : State) (cells : Cells) (sights : ℕ → Sight) (g : Ghost) (x : Bits sh L o cells sights g) (im rec : State) (spoken : ℕ → Diff) (stands : ℕ → Bool)
-    (y : Image sh (read cells.pool) (settled o g) g sights im rec spoken stands) where
+module _ (sh : Shape) (L pool_lanes : ℕ) (some : 1 ≤ L) (within : L ≤ pool_lanes) (o : State) (cells : Cells) (sights : ℕ → Sight) (g : Ghost) (x : Bits sh L o cells sights g) (im rec : State) (spoken : ℕ → Diff) (stands : ℕ → Bool)
+    (y : Image sh pool_lanes (read cells.pool) (settled o g) g sights im rec spoken stands) where
   abbrev S : State
   S = settled o g
 
@@ -171,8 +172,8 @@ module _ (sh : Shape) (L : ℕ) (o : State) (cells : Cells) (sights : ℕ → Si
   at : (k : ℕ) (ph : Phase) → (sights k).phase ≡ ph → Fits k (record (sights k) { phase = ph })
   at k ph e = subst (λ z. Fits k (record (sights k) { phase = z })) e (fit k)
 
-  says : (k : ℕ) (ph : Phase) → (sights k).phase ≡ ph → PhaseSays sh (read cells.pool) (settled o g) g (sights k) (spoken k) (stands k) ph
-  says k ph e = subst (PhaseSays sh (read cells.pool) (settled o g) g (sights k) (spoken k) (stands k)) e (y.logs k)
+  says : (k : ℕ) → k < pool_lanes → (ph : Phase) → (sights k).phase ≡ ph → PhaseSays sh (read cells.pool) (settled o g) g (sights k) (spoken k) (stands k) ph
+  says k ink ph e = subst (PhaseSays sh (read cells.pool) (settled o g) g (sights k) (spoken k) (stands k)) e (y.logs k ink)
 
   apart : (j k : ℕ) → j ≢ k → (p : Place) (b : ℕ) → owns g.geo (settled o g) (hold_at j) p b ≡ true → owns g.geo (settled o g) (hold_at k) p b ≡ false
   apart j k ne = owns_apart sh cells (settled o g) (Flies g j) (Flies g k) g x.geo x.alone j k (sights j) (sights k) (fit j) (fit k) ne
@@ -273,15 +274,18 @@ module _ (sh : Shape) (L : ℕ) (o : State) (cells : Cells) (sights : ℕ → Si
   by_entries : (k : ℕ) (p : Place) (b : ℕ) → InPool sh p b → IsOther k p b → Redoes sh (sights k) (spoken k) → given (spoken k p b) ≡ false
   by_entries k p b i u r = ap given (r p b i (inr (unentered k (twin p) b u.1))) ∙ unentered k p b u.0
 
-  unspoken : (k : ℕ) (p : Place) (b : ℕ) → InPool sh p b → IsOther k p b → (ph : Phase) → (sights k).phase ≡ ph → given (spoken k p b) ≡ false
-  unspoken k p b i u Idle e = by_records k p b i u (says k Idle e)
-  unspoken k p b i u Open e = by_records k p b i u (says k Open e)
-  unspoken k p b i u (Drawn n) e = by_records k p b i u (says k (Drawn n) e)
-  unspoken k p b i u (Sealing n) e = ⊎_elim (λ z. by_entries k p b i u z.0) (λ z. by_records k p b i u z.0) (says k (Sealing n) e)
-  unspoken k p b i u (Applying t) e = by_entries k p b i u (says k (Applying t) e)
-  unspoken k p b i u Clearing e = ⊎_elim (λ z. by_entries k p b i u z) (λ z. ap given (z p b i)) (says k Clearing e)
-  unspoken k p b i u (Retiring n) e = ⊎_elim (λ z. by_entries k p b i u z.0) (λ z. by_records k p b i u z.0) (says k (Retiring n) e)
-  unspoken k p b i u Voiding e = ⊎_elim (λ z. ap given (z.0 p b i)) (λ z. by_records k p b i u z) (says k Voiding e)
+  spoken_by : (k : ℕ) → k < pool_lanes → (p : Place) (b : ℕ) → InPool sh p b → IsOther k p b → (ph : Phase) → (sights k).phase ≡ ph → given (spoken k p b) ≡ false
+  spoken_by k ink p b i u Idle e = by_records k p b i u (says k ink Idle e)
+  spoken_by k ink p b i u Open e = by_records k p b i u (says k ink Open e)
+  spoken_by k ink p b i u (Drawn n) e = by_records k p b i u (says k ink (Drawn n) e)
+  spoken_by k ink p b i u (Sealing n) e = ⊎_elim (λ z. by_entries k p b i u z.0) (λ z. by_records k p b i u z.0) (says k ink (Sealing n) e)
+  spoken_by k ink p b i u (Applying t) e = by_entries k p b i u (says k ink (Applying t) e)
+  spoken_by k ink p b i u Clearing e = ⊎_elim (λ z. by_entries k p b i u z) (λ z. ap given (z p b i)) (says k ink Clearing e)
+  spoken_by k ink p b i u (Retiring n) e = ⊎_elim (λ z. by_entries k p b i u z.0) (λ z. by_records k p b i u z.0) (says k ink (Retiring n) e)
+  spoken_by k ink p b i u Voiding e = ⊎_elim (λ z. ap given (z.0 p b i)) (λ z. by_records k p b i u z) (says k ink Voiding e)
+
+  unspoken : (k : ℕ) (p : Place) (b : ℕ) → InPool sh p b → IsOther k p b → given (spoken k p b) ≡ false
+  unspoken k p b i u = ⊎_elim (λ (ink : k < pool_lanes). spoken_by k ink p b i u (sights k).phase refl) (λ (out : pool_lanes ≤ k). ap given (y.no_logs k out p b i)) (cases_lt k pool_lanes)
 
   -- which lane has the bit undrained
   who_soiled : (p : Place) (b : ℕ) → live K g.geo g.runs p ≡ true → (j : ℕ) → ((sights j).soiled p b ≡ true) ⊎ ((sights j).soiled (twin p) b ≡ true) → (sights j).soiled p b ≡ true
@@ -298,8 +302,8 @@ module _ (sh : Shape) (L : ℕ) (o : State) (cells : Cells) (sights : ℕ → Si
   nobody_law : (p : Place) (b : ℕ) → InPool sh p b → ((j : ℕ) → owns g.geo (settled o g) (hold_at j) p b ≡ false) → live K g.geo g.runs p ≡ true → rec p b ≡ K p b
   nobody_law p b i none_ l = let l' : live S g.geo g.runs p ≡ true = sym (live_same g.geo g.runs S K x.geo.twice (λ c r. (x.geo.classes c r).0) p b (λ q e w. kept_nobody q e (λ j. owned_alike g.geo (settled o g) (hold_at j) p q b e w ∙ none_ j))) ∙ l in
       let still : im p b ≡ read cells.pool p b = ⊎_elim (λ (e : im p b ≡ read cells.pool p b). e) (λ (z : (j : ℕ) × (((sights j).soiled p b ≡ true) ⊎ ((sights j).soiled (twin p) b ≡ true))). absurd (both_ways (owns g.geo (settled o g) (hold_at z.0) p b) (none_ z.0) (soils_own z.0 p b (who_soiled p b l z.0 z.1)))) (y.pool p b i) in
-      let other : (j : ℕ) → given (spoken j p b) ≡ false = λ j. unspoken j p b i (none_ j, ⊎_elim (λ (e : twin p ≡ p). subst (λ q. owns g.geo (settled o g) (hold_at j) q b ≡ false) (sym e) (none_ j)) (λ (u : owns g.geo (settled o g) (hold_at j) (twin p) b ≡ false). u) (twin_clear j p b l)) (sights j).phase refl in
-      y.joins p b 0 i (λ j _. other j) ∙ (over_none (spoken 0 p b) (im p b) (other 0) ∙ (still ∙ (x.unowned p b none_ l' ∙ sym (kept_nobody p b none_))))
+      let other : (j : ℕ) → given (spoken j p b) ≡ false = λ j. unspoken j p b i (none_ j, ⊎_elim (λ (e : twin p ≡ p). subst (λ q. owns g.geo (settled o g) (hold_at j) q b ≡ false) (sym e) (none_ j)) (λ (u : owns g.geo (settled o g) (hold_at j) (twin p) b ≡ false). u) (twin_clear j p b l)) in
+      y.joins p b 0 (omega arith) i (λ j _. other j) ∙ (over_none (spoken 0 p b) (im p b) (other 0) ∙ (still ∙ (x.unowned p b none_ l' ∙ sym (kept_nobody p b none_))))
 
   -- undrained bits of an open call are not alive, or recorded
   dry : (k : ℕ) (p : Place) (b : ℕ) → live S g.geo g.runs p ≡ true → (sights k).logged p ≡ false → open_soils p ((hold_at k).mine (block_of g.geo p b)) ((sights k).logged p) ≡ true → ⊥
@@ -373,24 +377,24 @@ module _ (sh : Shape) (L : ℕ) (o : State) (cells : Cells) (sights : ℕ → Si
     silent ph e z clean n lg l' = ap (λ v. over v (im p b)) (n p b i) ∙ (stays clean ∙ ((at k ph e).bits p b t).0 l' (ap given z) lg)
 
     lane_law : k < L → (ph : Phase) → (sights k).phase ≡ ph → Says
-    lane_law ink Idle e = settled_lane (never k Idle e (λ n. refl)) (restored Idle e refl (λ u l' d. dry k p b l' u ((at k Idle e).soiled p b d).0) (says k Idle e))
-    lane_law ink Open e = settled_lane (never k Open e (λ n. refl)) (restored Open e refl (λ u l' d. dry k p b l' u ((at k Open e).soiled p b d).0) (says k Open e))
-    lane_law ink (Drawn n) e = settled_lane (never k (Drawn n) e (λ n. refl)) (restored (Drawn n) e refl (λ u l' d. both_ways false refl ((at k (Drawn n) e).soiled p b d).0) (says k (Drawn n) e))
+    lane_law ink Idle e = settled_lane (never k Idle e (λ n. refl)) (restored Idle e refl (λ u l' d. dry k p b l' u ((at k Idle e).soiled p b d).0) (says k (omega arith) Idle e))
+    lane_law ink Open e = settled_lane (never k Open e (λ n. refl)) (restored Open e refl (λ u l' d. dry k p b l' u ((at k Open e).soiled p b d).0) (says k (omega arith) Open e))
+    lane_law ink (Drawn n) e = settled_lane (never k (Drawn n) e (λ n. refl)) (restored (Drawn n) e refl (λ u l' d. both_ways false refl ((at k (Drawn n) e).soiled p b d).0) (says k (omega arith) (Drawn n) e))
     lane_law ink (Sealing n) e = ⊎_elim (λ z. kept_call ink n (Sealing n) e (and_from (eqb n n) (stands k) (eq-eqb n n refl) z.1) refl refl (λ d. both_ways false refl ((at k (Sealing n) e).soiled p b d).0) refl z.0)
-        (λ z. settled_lane (never k (Sealing n) e (λ m. ap (λ s. eqb n m && s) z.1 ∙ and_no (eqb n m))) (restored (Sealing n) e refl (λ u l' d. both_ways false refl ((at k (Sealing n) e).soiled p b d).0) z.0)) (says k (Sealing n) e)
-    lane_law ink (Applying r) e = settled_lane (never k (Applying r) e (λ n. refl)) (redone (Applying r) e refl (λ d. ((at k (Applying r) e).soiled p b d).0) (says k (Applying r) e))
+        (λ z. settled_lane (never k (Sealing n) e (λ m. ap (λ s. eqb n m && s) z.1 ∙ and_no (eqb n m))) (restored (Sealing n) e refl (λ u l' d. both_ways false refl ((at k (Sealing n) e).soiled p b d).0) z.0)) (says k (omega arith) (Sealing n) e)
+    lane_law ink (Applying r) e = settled_lane (never k (Applying r) e (λ n. refl)) (redone (Applying r) e refl (λ d. ((at k (Applying r) e).soiled p b d).0) (says k (omega arith) (Applying r) e))
     lane_law ink Clearing e = let clean : (sights k).soiled p b ≡ true → ⊥ = λ d. both_ways false refl ((at k Clearing e).soiled p b d).0 in settled_lane (never k Clearing e (λ n. refl))
-        (⊎_elim (λ z. redone Clearing e refl (λ d. absurd (clean d)) z) (λ z. silent Clearing e refl clean z (and_no ((sights k).logged p))) (says k Clearing e))
+        (⊎_elim (λ z. redone Clearing e refl (λ d. absurd (clean d)) z) (λ z. silent Clearing e refl clean z (and_no ((sights k).logged p))) (says k (omega arith) Clearing e))
     lane_law ink (Retiring n) e = ⊎_elim (λ z. kept_call ink n (Retiring n) e (and_from (eqb n n) (stands k) (eq-eqb n n refl) z.1) refl refl (λ d. both_ways false refl ((at k (Retiring n) e).soiled p b d).0) refl z.0)
-        (λ z. settled_lane (never k (Retiring n) e (λ m. ap (λ s. eqb n m && s) z.1 ∙ and_no (eqb n m))) (restored (Retiring n) e refl (λ u l' d. both_ways false refl ((at k (Retiring n) e).soiled p b d).0) z.0)) (says k (Retiring n) e)
+        (λ z. settled_lane (never k (Retiring n) e (λ m. ap (λ s. eqb n m && s) z.1 ∙ and_no (eqb n m))) (restored (Retiring n) e refl (λ u l' d. both_ways false refl ((at k (Retiring n) e).soiled p b d).0) z.0)) (says k (omega arith) (Retiring n) e)
     lane_law ink Voiding e = let clean : (sights k).soiled p b ≡ true → ⊥ = λ d. both_ways false refl ((at k Voiding e).soiled p b d).0 in settled_lane (never k Voiding e (λ n. refl))
         (⊎_elim (λ z. ⊎_elim (λ (w : (sights k).logged p ≡ true) _. ap (λ v. over v (im p b)) (z.0 p b i) ∙ (stays clean ∙ z.1 p b i w)) (λ (w : (sights k).logged p ≡ false). silent Voiding e refl clean z.0 (and_none ((sights k).logged p) true w)) (cases_Bool ((sights k).logged p)))
-        (λ z. restored Voiding e refl (λ u l' d. clean d) z) (says k Voiding e))
+        (λ z. restored Voiding e refl (λ u l' d. clean d) z) (says k (omega arith) Voiding e))
 
   -- THE LAW
   pub means_kept : (p : Place) (b : ℕ) → InPool sh p b → live K g.geo g.runs p ≡ true → rec p b ≡ K p b
   means_kept p b i l = ⊎_elim (λ (z : (j : ℕ) × (owns g.geo (settled o g) (hold_at j) p b ≡ true)). let k = z.0 in ⊎_elim
-      (λ (ink : k < L). y.joins p b k i (λ j ne. unspoken j p b i (apart k j (λ q. ne (sym q)) p b z.1, away k j (λ q. ne (sym q)) p b z.1) (sights j).phase refl) ∙ lane_law k p b i z.1 l ink (sights k).phase refl)
+      (λ (ink : k < L). y.joins p b k (omega arith) i (λ j ne. unspoken j p b i (apart k j (λ q. ne (sym q)) p b z.1, away k j (λ q. ne (sym q)) p b z.1)) ∙ lane_law k p b i z.1 l ink (sights k).phase refl)
       (λ (out : L ≤ k). absurd (both_ways (owns g.geo (settled o g) (hold_at k) p b) (beyond_owns k out p b) z.1)) (cases_lt k L))
       (λ none_. nobody_law p b i none_ l) (owner p b)
 
