@@ -13,3 +13,4 @@ pub mod Births
 pub mod StepDraw
 pub mod Crashes
 pub mod RecoveredBits
+pub mod SurvivingWords
