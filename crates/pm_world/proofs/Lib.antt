@@ -14,3 +14,4 @@ pub mod StepDraw
 pub mod Crashes
 pub mod RecoveredBits
 pub mod SurvivingWords
+pub mod ImageLogs
