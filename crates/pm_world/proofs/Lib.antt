@@ -15,3 +15,4 @@ pub mod Crashes
 pub mod RecoveredBits
 pub mod SurvivingWords
 pub mod ImageLogs
+pub mod LanesInImages
