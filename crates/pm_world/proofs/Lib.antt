@@ -11,3 +11,4 @@ pub mod StepPlain
 pub mod Values
 pub mod Births
 pub mod StepDraw
+pub mod Stores
