@@ -1,12 +1,16 @@
 # `make demo` tells the story of the program; `make test` is the gate.
 POOL := build/demo.pool
 
-.PHONY: build demo test bench refuse clean
+.PHONY: build demo test gate transcripts bench refuse pages clean
 
-# The proved program, at build/pmempool. With no words it prints its usage and ends with status 2.
+# The proved program, at build/pmempool. With no words it prints its usage and ends with status 2, which is how `rt run` is to
+# end here; where `rt` ends otherwise, or did not come to run the program, there is no build/pmempool.
 build:
 	@mkdir -p build
-	cd crates/pmempool && { rt run > ../../build/log 2>&1 || test $$? -eq 2; }
+	@rm -f build/pmempool build/status
+	@echo 'The first build proves every crate: about an hour on four processors, and two on two. A later one proves what has changed.'
+	@{ cd crates/pmempool && rt run; echo $$? > ../../build/status; } 2>&1 | tee build/log
+	@test "$$(cat build/status)" = 2 && grep -q '^rt: running out/pmempool' build/log
 	@cp crates/pmempool/out/pmempool build/pmempool
 
 # A pool is made and shown, and neither overwritten nor made of values out of range; a damaged one is told by its fault. Then a transaction
@@ -69,17 +73,30 @@ bench: build
 test:
 	rt ci
 
+# The gate from nothing, in a clone outside of this folder: its minutes are added to bench/gate.csv.
+gate:
+	@clone=$$(mktemp -d) && git clone -q . $$clone && { tools/gate_minutes.py $$clone --anew; status=$$?; rm -rf $$clone; exit $$status; }
+
+# Each transcript is compared with what is printed: a change of the text is one of both files.
+transcripts:
+	@for crate in pm_transcripts pm_damage_transcripts pm_stop_transcripts; do cp crates/$$crate/stdin crates/$$crate/stdout; done
+
 # The tests with each allocation refused in turn, outside the gate: allocation n of each test, for n up to ALLOCS. A test then ends by its own
 # want of memory, or sees it where it asked for another answer; what was told in its place is printed, to be read. A fault ends it all.
 ALLOCS := 24
 
 refuse:
 	@mkdir -p build
-	@for crate in pm_raw pm_shelf pm_objects pm_image pm_recover solo_memory solo_script pm_text pm_pool pmempool; do for n in $$(seq 1 $(ALLOCS)); do \
+	@for crate in pm_raw pm_shelf pm_objects pm_image pm_recover solo_memory solo_script pm_text pm_pool pm_commands; do for n in $$(seq 1 $(ALLOCS)); do \
 	  status=0; (cd crates/$$crate && rt try --test --fail-alloc $$n) > build/refuse.log 2>&1 || status=$$?; \
 	  echo "$$crate $$n: status $$status"; grep -E 'left:|error:' build/refuse.log | sort | uniq -c; \
 	  if test $$status -eq 4; then cat build/refuse.log; exit 1; fi; \
 	done; done
+
+# The table of claims in docs/VERIFICATION.md, made from the sources; and every link, clause and
+# quotation of the pages is checked. It changes no other page; `tools/pages.py --check` changes none.
+pages:
+	tools/pages.py
 
 clean:
 	rm -rf build

@@ -1,3 +1,6 @@
+ghost use Rattle.std.specs.Prelude.{Some};
+ghost use Rattle.pm_header.specs.Texts.{header_fault_text};
+
 use std::error::Error;
 use std::fmt;
 
@@ -19,13 +22,15 @@ pub enum HeaderFault {
 }
 
 impl fmt::Display for HeaderFault {
+    ghost output = { λ fault. Some (header_fault_text fault) };
+
     fn fmt<W: fmt::Write>(&self, f: &mut fmt::Formatter<W>) -> fmt::Result {
         match self {
-            HeaderFault::NotPool => write!(f, "NotPool"),
-            HeaderFault::HeaderMain => write!(f, "HeaderMain"),
-            HeaderFault::HeaderCopy => write!(f, "HeaderCopy"),
-            HeaderFault::HeaderBoth => write!(f, "HeaderBoth"),
-            HeaderFault::HeaderDiffer => write!(f, "HeaderDiffer"),
+            HeaderFault::NotPool => f.write_str("NotPool"),
+            HeaderFault::HeaderMain => f.write_str("HeaderMain"),
+            HeaderFault::HeaderCopy => f.write_str("HeaderCopy"),
+            HeaderFault::HeaderBoth => f.write_str("HeaderBoth"),
+            HeaderFault::HeaderDiffer => f.write_str("HeaderDiffer"),
             HeaderFault::Version(version) => write!(f, "Version {version}"),
         }
     }

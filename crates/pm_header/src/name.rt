@@ -3,11 +3,11 @@ ghost use Rattle.pm_header.specs.Name.{IsName, IsNameByte, name_bytes};
 
 use std::marker::Model;
 
-/// The most bytes of a layout name.
-pub const MAX_NAME: usize = 63;
+/// The most bytes of a layout name: 63.
+const MAX_NAME: usize = pm_layout::MAX_NAME as usize;
 
-/// Bytes of the line that a name stands in.
-pub(crate) const LINE_BYTES: usize = 64;
+/// The bytes of the line that a name stands in: 64.
+pub(crate) const LINE_BYTES: usize = pm_layout::LINE_BYTES as usize;
 
 /// A layout name: 1 to 63 bytes of 0x21 to 0x7E, so that a zero always follows it in its line. Contracts
 /// see the list of its bytes.

@@ -7,7 +7,8 @@ ghost use Rattle.pm_header.specs.declared.header.Header.{Header};
 use crate::fault::HeaderFault;
 use crate::header::Header;
 use crate::name::{LINE_BYTES, Name};
-use crate::spelling::{COPY_WORD, LINE_WORDS, MAGIC, PAIR_WORDS, VERSION};
+use crate::spelling::{COPY_WORD, LINE_WORDS, MAGIC, PAIR_WORDS};
+use pm_layout::VERSION;
 use pm_words::{bytes_of, sum64};
 
 /// Reads the header that both pairs of the header page's 512 words spell. An error is the page's one fault, and

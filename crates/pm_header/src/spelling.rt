@@ -4,23 +4,20 @@ ghost use Rattle.pm_header.specs.Spelling.{header_line, name_line, pair, with_pa
 use crate::header::Header;
 use pm_words::{sum64, words_of};
 
-/// Words of the header page.
-pub const PAGE_WORDS: usize = 512;
-
-/// The version that this crate writes.
-pub const VERSION: u64 = 1;
+/// The words of the header page: 512.
+pub(crate) const PAGE_WORDS: usize = pm_layout::PAGE_WORDS as usize;
 
 /// The bytes `PMOBPOOL`, as a word.
 pub(crate) const MAGIC: u64 = 0x4c4f_4f50_424f_4d50;
 
-/// Words of a line.
-pub(crate) const LINE_WORDS: usize = 8;
+/// The words of a line: 8.
+pub(crate) const LINE_WORDS: usize = pm_layout::LINE_WORDS as usize;
 
-/// Words of a header and its name.
-pub(crate) const PAIR_WORDS: usize = 16;
+/// The words of a pair, the header line and the name line: 16.
+pub(crate) const PAIR_WORDS: usize = 2 * LINE_WORDS;
 
-/// The word at which the copy begins: line 32 of the page.
-pub(crate) const COPY_WORD: usize = 256;
+/// The word at which the copy begins, in the middle of the page: word 256, the first of line 32.
+pub(crate) const COPY_WORD: usize = PAGE_WORDS / 2;
 
 /// Writes the header and its copy into the header page: lines 0 and 1, and lines 32 and 33. The other words of
 /// the page stay.

@@ -1,4 +1,6 @@
 use super::*;
+use crate::spelling::PAGE_WORDS;
+use pm_layout::VERSION;
 use std::test::Fail;
 
 /// A page with the header of the pool with one lane, one zone, id 7 and layout demo, and the words of `damage` put over it.

@@ -40,6 +40,7 @@ blocks_in None place bitmap = []
 blocks_in (Some (Lines lines)) place bitmap = run_blocks place bitmap lines
 blocks_in (Some (Chunks chunks)) place bitmap = record { place = place; lines = 64 * chunks } ∷ []
 
+-- the blocks of chunk c, by its descriptor and its first word
 unfoldable pub chunk_blocks : (ℕ → ℕ) → ℕ → ℕ → List Block
 chunk_blocks w lanes c = blocks_in (class_in (w (descriptor_word lanes c))) (8 * chunk_word lanes c) (w (chunk_word lanes c))
 

@@ -11,9 +11,11 @@ use Rattle.pm_image.specs.declared.block.Block.{Block}
 abbrev pub header_word : (ℕ → ℕ) → Block → ℕ → ℕ
 header_word w block k = w (block.place / 8 + k)
 
+-- the type number of the object in a block
 abbrev pub kind_in : (ℕ → ℕ) → Block → ℕ
 kind_in w block = header_word w block 0
 
+-- the size in bytes of the object in a block
 abbrev pub size_in : (ℕ → ℕ) → Block → ℕ
 size_in w block = header_word w block 1
 

@@ -23,6 +23,7 @@ is_described w at c None = w at == 0
 is_described w at c (Some (Lines lines)) = true
 is_described w at c (Some (Chunks chunks)) = if nat_le (c % 64 + chunks) 64 then zeros_behind w at chunks else false
 
+-- the descriptor of chunk c is outside the table
 unfoldable pub bad_chunk : (ℕ → ℕ) → ℕ → ℕ → Bool
 bad_chunk w lanes c = let at : ℕ = descriptor_word lanes c in not (is_described w at c (class_in (w at)))
 
@@ -36,6 +37,7 @@ is_bad_bitmap None bitmap = false
 is_bad_bitmap (Some (Lines lines)) bitmap = nat_le (2 ^ blocks_of lines) bitmap
 is_bad_bitmap (Some (Chunks chunks)) bitmap = false
 
+-- chunk c is a run whose bitmap has a bit past its blocks
 unfoldable pub bad_bitmap : (ℕ → ℕ) → ℕ → ℕ → Bool
 bad_bitmap w lanes c = is_bad_bitmap (class_in (w (descriptor_word lanes c))) (w (chunk_word lanes c))
 

@@ -37,6 +37,7 @@ in_descriptors lanes zones word = nat_le (zones_word lanes) word && nat_lt ((wor
 abbrev pub is_target : ℕ → ℕ → ℕ → Bool
 is_target lanes zones word = word == 64 || in_descriptors lanes zones word || in_chunk lanes zones word
 
+-- the operation sets the whole word
 abbrev pub is_set : Op → Bool
 is_set Set = true
 is_set Or = false
@@ -53,6 +54,7 @@ abbrev pub good_entry : List ℕ → ℕ → ℕ → ℕ → ℕ → Option Redo
 good_entry image lanes zones lane i None = false
 good_entry image lanes zones lane i (Some e) = if i + 1 == seal_word image lane then ends_log image lane e else is_target lanes zones (e.place / 8)
 
+-- the lane is sealed, and its entry i is one that no log has
 abbrev pub bad_entry : List ℕ → ℕ → ℕ → ℕ → ℕ → Bool
 bad_entry image lanes zones lane i =
     is_sealed image lane && nat_lt i (seal_word image lane) && not (good_entry image lanes zones lane i (redo_of (entry_pair image lane i)))
@@ -67,6 +69,7 @@ good_record lanes zones u =
     nat_le 1 u.count && nat_le u.count 4 && u.place % 8 == 0 && list_all (λ k. in_chunk lanes zones (u.place / 8 + k)) (range_with_len 0 u.count)
     && not (u.generation == 2 ^ 62)
 
+-- slot i of the lane holds a valid record that no log has
 unfoldable pub bad_slot : List ℕ → ℕ → ℕ → ℕ → ℕ → Bool
 bad_slot image lanes zones lane i = option_map_or (λ u. not (good_record lanes zones u)) (valid_record image lane i) false
 

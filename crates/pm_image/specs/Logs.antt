@@ -73,6 +73,7 @@ abbrev pub restored : Option Undo → ℕ → ℕ → ℕ
 restored None place word = word
 restored (Some u) place word = old_word u place
 
+-- what recovery makes of a word: its entries applied, where it has some, else what a record restores
 abbrev pub recovered_by : List Redo → Option Undo → ℕ → ℕ → ℕ
 recovered_by [] record_there place word = restored record_there place word
 recovered_by (e ∷ es) record_there place word = all_applied (e ∷ es) word

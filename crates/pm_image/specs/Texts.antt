@@ -1,19 +1,13 @@
 -- A fault as people read it: docs/FORMAT.md, "Faults".
 use Rattle.std.specs.Prelude.{ℕ, List, ◌++◌, codes}
 use Rattle.std.specs.Fmt.{decimal}
-use Rattle.pm_header.specs.declared.fault.HeaderFault.{HeaderFault}
-use Rattle.pm_header.specs.declared.fault.HeaderFault.TheVariants.{NotPool, HeaderMain, HeaderCopy, HeaderBoth, HeaderDiffer, Version}
+use Rattle.pm_header.specs.Texts.{header_fault_text}
+use Rattle.pm_image.specs.declared.fault.MeansFault.{MeansFault}
+use Rattle.pm_image.specs.declared.fault.MeansFault.TheVariants as means_fault
 use Rattle.pm_image.specs.declared.fault.ImageFault.{ImageFault}
 use Rattle.pm_image.specs.declared.fault.ImageFault.TheVariants.{Size, Header, Shape, Lane, Redo, Undo, Clash, Chunk, Bitmap, Block, Link, Root}
 
-abbrev pub header_fault_text : HeaderFault → List ℕ
-header_fault_text NotPool = codes "NotPool"
-header_fault_text HeaderMain = codes "HeaderMain"
-header_fault_text HeaderCopy = codes "HeaderCopy"
-header_fault_text HeaderBoth = codes "HeaderBoth"
-header_fault_text HeaderDiffer = codes "HeaderDiffer"
-header_fault_text (Version version) = codes "Version " ++ decimal version
-
+-- the line that a command prints of a fault
 abbrev pub fault_text : ImageFault → List ℕ
 fault_text (Size bytes) = codes "Size " ++ decimal bytes
 fault_text (Header found) = header_fault_text found
@@ -27,3 +21,7 @@ fault_text (Bitmap zone chunk) = codes "Bitmap " ++ (decimal zone ++ (codes " " 
 fault_text (Block off) = codes "Block " ++ decimal off
 fault_text (Link off) = codes "Link " ++ decimal off
 fault_text (Root off) = codes "Root " ++ decimal off
+
+abbrev pub means_fault_text : MeansFault → List ℕ
+means_fault_text (means_fault.Image found) = fault_text found
+means_fault_text means_fault.Memory = codes "no memory"

@@ -12,21 +12,11 @@ ghost use Rattle.pm_image.specs.HeapFaults.{chunk_fault, bitmap_fault, zeros_beh
 use crate::block::Block;
 use crate::fault::ImageFault;
 use pm_layout::{
-    CHUNKS_PER_ZONE, Class, LINE_BYTES, LINES_PER_CHUNK, PAGE_BYTES, Shape, WORD_BYTES, blocks_of,
+    CHUNK_WORDS, CHUNKS_PER_ZONE, Class, DESCRIPTOR_UNIT, HUGE, LINE_BYTES, LINES_PER_CHUNK,
+    PAGE_BYTES, RUN, Shape, WORD_BYTES, blocks_of,
 };
 use pm_raw::RawImage;
 use std::alloc::{AllocError, Global};
-
-/// The descriptor's low byte, for a run and for the first chunk of a block.
-const RUN: u64 = 1;
-
-const WHOLE: u64 = 2;
-
-/// What the rest of a descriptor counts in.
-const DESCRIPTOR_UNIT: u64 = 256;
-
-/// Words of a chunk.
-const CHUNK_WORDS: u64 = 512;
 
 /// The first fault of descriptors and bitmaps.
 #[tactic(auto, unfolding(crate::specs::HeapFaults::chunk_fault, crate::specs::HeapFaults::bitmap_fault))]
@@ -214,7 +204,7 @@ fn class_in(descriptor: u64) -> Option<Class>
     let count = descriptor / DESCRIPTOR_UNIT;
     if kind == RUN && blocks_of(count) > 0 {
         Some(Class::Lines(count))
-    } else if kind == WHOLE && (1 <= count && count <= CHUNKS_PER_ZONE) {
+    } else if kind == HUGE && (1 <= count && count <= CHUNKS_PER_ZONE) {
         Some(Class::Chunks(count))
     } else {
         None

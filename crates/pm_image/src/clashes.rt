@@ -8,13 +8,10 @@ ghost use Rattle.pm_image.specs.Steps.{AreMarks, HasLanes, entry_for};
 
 use crate::lanes::{covers, entry, is_sealed, seal};
 use crate::restoring::Logs;
-use pm_layout::WORD_BYTES;
+use pm_layout::{OLD_WORDS, WORD_BYTES};
 use pm_raw::RawImage;
 use pm_record::{Redo, Undo};
 use std::alloc::{AllocError, Global};
-
-/// The most words of a record.
-const RECORD_WORDS: u64 = 4;
 
 /// How many records and entries speak of each word of an image.
 #[derive(Drop)]
@@ -142,7 +139,7 @@ fn mark_record(found: &Undo, marks: &mut RawImage)
     ensures as_long { length marks.new ≡ length marks.old }
 {
     let first = found.place / WORD_BYTES;
-    for word in first..first + RECORD_WORDS {
+    for word in first..first + OLD_WORDS {
         if word < marks.len() && covers(found, WORD_BYTES * word) {
             marks.set(word, marks.word(word) + 1);
         }

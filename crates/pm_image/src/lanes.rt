@@ -4,42 +4,19 @@ ghost use Rattle.pm_image.specs.Steps.{HasLanes, valid_record};
 ghost use Rattle.pm_record.specs.Redo.{redo_of};
 ghost use Rattle.pm_record.specs.Undo.{undo_of};
 
+use pm_layout::{
+    ENTRIES_AT, ENTRY_WORDS, GENERATION_AT, LANE_WORDS, LINE_WORDS, OLD_WORDS, PAGE_WORDS,
+    REDO_ENTRIES, SEAL_AT, SLOTS_AT, WORD_BYTES,
+};
 use pm_raw::RawImage;
 use pm_record::{Redo, Undo};
-
-/// Words of a lane's area.
-const AREA_WORDS: u64 = 1024;
-
-/// The word at which the first lane's area begins.
-const FIRST_AREA: u64 = 512;
-
-/// The word of an area at which its entries begin.
-const ENTRIES_AT: u64 = 8;
-
-/// The line of an area at which its undo slots begin.
-const SLOTS_AT: u64 = 17;
-
-/// Words of a line.
-const LINE_WORDS: u64 = 8;
-
-/// Bytes of a word.
-const WORD_BYTES: u64 = 8;
-
-/// The most words that a record has.
-const RECORD_WORDS: u64 = 4;
-
-/// The most entries that a lane seals, and the number of its undo slots.
-pub const LOG_LENGTH: u64 = 64;
-
-/// The greatest generation; a lane that has it writes no more.
-pub const MAX_GENERATION: u64 = 1 << 62;
 
 /// How many entries the lane sealed; 0 where it sealed none.
 pub fn seal(image: &RawImage, lane: u64) -> u64
     requires { HasLanes image.now (lane + 1) }
     ensures { result ≡ seal_word image.now lane }
 {
-    image.word(area(lane) + 1)
+    image.word(area(lane) + SEAL_AT)
 }
 
 /// Whether the lane sealed 1 to 64 entries.
@@ -48,7 +25,7 @@ pub fn is_sealed(image: &RawImage, lane: u64) -> bool
     ensures { result ≡ is_sealed image.now lane }
 {
     let seal = seal(image, lane);
-    1 <= seal && seal <= LOG_LENGTH
+    1 <= seal && seal <= REDO_ENTRIES
 }
 
 /// The generation as it stands in the lane's area.
@@ -56,7 +33,7 @@ pub fn generation_word(image: &RawImage, lane: u64) -> u64
     requires { HasLanes image.now (lane + 1) }
     ensures { result ≡ generation_word image.now lane }
 {
-    image.word(area(lane))
+    image.word(area(lane) + GENERATION_AT)
 }
 
 /// The lane's generation: what its last entry sets where it is sealed, else its generation word.
@@ -65,7 +42,8 @@ pub fn generation(image: &RawImage, lane: u64) -> u64
     ensures { result ≡ generation image.now lane }
 {
     if is_sealed(image, lane) {
-        image.word(area(lane) + 7 + 2 * seal(image, lane))
+        // The last entry's value is the last word of the sealed entries.
+        image.word(area(lane) + ENTRIES_AT - 1 + ENTRY_WORDS * seal(image, lane))
     } else {
         generation_word(image, lane)
     }
@@ -77,7 +55,7 @@ pub fn entry(image: &RawImage, lane: u64, i: u64) -> Option<Redo>
     requires number { i < 64 }
     ensures { result ≡ redo_of (entry_pair image.now lane i) }
 {
-    let at = area(lane) + ENTRIES_AT + 2 * i;
+    let at = area(lane) + ENTRIES_AT + ENTRY_WORDS * i;
     let pair = [image.word(at), image.word(at + 1)];
     Redo::decode(&pair)
 }
@@ -112,7 +90,7 @@ pub fn covers(undo: &Undo, place: u64) -> bool
 {
     undo.place <= place
         && (place - undo.place) / WORD_BYTES < undo.count
-        && (place - undo.place) / WORD_BYTES < RECORD_WORDS
+        && (place - undo.place) / WORD_BYTES < OLD_WORDS
         && (place - undo.place) % WORD_BYTES == 0
 }
 
@@ -129,5 +107,5 @@ fn area(lane: u64) -> u64
     requires { lane ≤ 32 }
     ensures { result ≡ 512 + 1024 * lane }
 {
-    FIRST_AREA + AREA_WORDS * lane
+    PAGE_WORDS + LANE_WORDS * lane
 }

@@ -10,7 +10,6 @@ mod block;
 mod chunks;
 mod clashes;
 mod fault;
-mod fault_text;
 mod lanes;
 mod laws;
 mod log_faults;
@@ -22,12 +21,8 @@ mod restoring;
 mod targets;
 
 pub use block::Block;
-pub use fault::{ImageFault, MeansFault};
-pub use fault_text::text_of_fault;
-pub use lanes::{
-    LOG_LENGTH, MAX_GENERATION, generation, generation_word, is_sealed, record_in_slot,
-    valid_record,
-};
+pub use fault::{ImageFault, MeansFault, text_of_fault};
+pub use lanes::{generation, generation_word, is_sealed, record_in_slot, valid_record};
 pub use laws::{
     agreement_goes_back, contents_are_local, heaps_are_local, meanings_are_local,
     meanings_are_pools, meanings_read_the_heap, one_meaning_per_image, recovered_words_are_local,

@@ -8,17 +8,14 @@ ghost use Rattle.pm_image.specs.Steps.{HasLanes};
 
 use crate::clashes::first_clash;
 use crate::fault::ImageFault;
-use crate::lanes::{LOG_LENGTH, MAX_GENERATION, generation_word, seal, valid_record};
+use crate::lanes::{generation_word, seal, valid_record};
 use crate::redo_faults::first_bad_entry;
 use crate::restoring::Logs;
 use crate::targets::are_in_chunks;
-use pm_layout::{Shape, WORD_BYTES};
+use pm_layout::{MAX_GENERATION, OLD_WORDS, REDO_ENTRIES, Shape, UNDO_SLOTS, WORD_BYTES};
 use pm_raw::RawImage;
 use pm_record::Undo;
 use std::alloc::{AllocError, Global};
-
-/// The most words of a record.
-const RECORD_WORDS: u64 = 4;
 
 /// The first fault of the logs, which have these entries and records.
 pub fn first_log_fault(
@@ -36,11 +33,11 @@ pub fn first_log_fault(
         return Ok(Some(ImageFault::Lane(lane)));
     }
     if let Some(n) = first_bad_entry(image, shape) {
-        let (lane, entry) = (n / LOG_LENGTH, n % LOG_LENGTH);
+        let (lane, entry) = (n / REDO_ENTRIES, n % REDO_ENTRIES);
         return Ok(Some(ImageFault::Redo { lane, entry }));
     }
     if let Some(n) = first_bad_slot(image, shape) {
-        let (lane, slot) = (n / LOG_LENGTH, n % LOG_LENGTH);
+        let (lane, slot) = (n / UNDO_SLOTS, n % UNDO_SLOTS);
         return Ok(Some(ImageFault::Undo { lane, slot }));
     }
     match first_clash(alloc, image, shape.lanes, logs)? {
@@ -70,7 +67,7 @@ fn is_good_lane(image: &RawImage, lane: u64) -> bool
 {
     let generation = generation_word(image, lane);
     let seal = seal(image, lane);
-    1 <= generation && generation <= MAX_GENERATION && seal <= LOG_LENGTH
+    1 <= generation && generation <= MAX_GENERATION && seal <= REDO_ENTRIES
 }
 
 /// The first undo slot with a valid record that no log has: slot `n % 64` of lane `n / 64`.
@@ -78,8 +75,8 @@ fn first_bad_slot(image: &RawImage, shape: Shape) -> Option<u64>
     requires { HasLanes image.now shape.lanes }
     ensures { result ≡ find (λ n. bad_slot image.now shape.lanes shape.zones (n / 64) (n % 64)) (range_with_len 0 (64 * shape.lanes)) }
 {
-    for n in 0..LOG_LENGTH * shape.lanes {
-        if is_bad_slot(image, shape, n / LOG_LENGTH, n % LOG_LENGTH) {
+    for n in 0..UNDO_SLOTS * shape.lanes {
+        if is_bad_slot(image, shape, n / UNDO_SLOTS, n % UNDO_SLOTS) {
             return Some(n);
         }
     }
@@ -105,7 +102,7 @@ fn is_good_record(shape: Shape, found: &Undo) -> bool
     ensures { result ≡ good_record shape.lanes shape.zones found.now }
 {
     1 <= found.count
-        && found.count <= RECORD_WORDS
+        && found.count <= OLD_WORDS
         && found.place % WORD_BYTES == 0
         && are_in_chunks(shape, found.place / WORD_BYTES, found.count)
         && !(found.generation == MAX_GENERATION)

@@ -19,8 +19,8 @@ use crate::fault::{ImageFault, MeansFault};
 use crate::log_faults::first_log_fault;
 use crate::objects::{first_object_fault, objects_in, root_word};
 use crate::restoring::{read_logs, recovered_words};
-use pm_header::{Header, PAGE_WORDS, decode};
-use pm_layout::{Shape, WORD_BYTES};
+use pm_header::{Header, decode};
+use pm_layout::{PAGE_WORDS, Shape, WORD_BYTES};
 use pm_objects::{PoolView, Sequence};
 use pm_raw::RawImage;
 use std::alloc::{AllocError, Global};
@@ -124,7 +124,7 @@ fn header_of(image: &RawImage, shape: Shape) -> Result<Header, MeansFault>
     ensures fits { IfOk result (IsHeaderOf shape.lanes shape.zones) }
     ensures fault { IfErr result (λ e. IfImage e (λ found. HasBadPage image.now found ⊎ HasOtherShape image.now found)) }
 {
-    let header = match decode(image.words(0, PAGE_WORDS as u64)) {
+    let header = match decode(image.words(0, PAGE_WORDS)) {
         Ok(header) => header,
         Err(fault) => return Err(MeansFault::Image(ImageFault::Header(fault))),
     };

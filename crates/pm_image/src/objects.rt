@@ -10,32 +10,18 @@ ghost use Rattle.pm_image.specs.Narrowings.{takes_links};
 
 use crate::block::Block;
 use crate::fault::ImageFault;
-use pm_layout::{Class, LINES_PER_CHUNK, MAX_SIZE, ROOT_PLACE, WORD_BYTES, class_of};
+use pm_layout::{
+    Class, FIRST_AT, KIND_AT, LINE_WORDS, LINES_PER_CHUNK, LIST_AT, MAX_SIZE, NEXT_AT, PREV_AT,
+    ROOT_WORD, SIZE_AT, UNUSED_AT, WORD_BYTES, class_of,
+};
 use pm_objects::{Object, Sequence};
 use pm_raw::RawImage;
 use pm_words::bytes_of;
 use std::alloc::{AllocError, Global};
 
-/// The words of a block's header line.
-const KIND: u64 = 0;
-
-const SIZE: u64 = 1;
-
-const NEXT: u64 = 2;
-
-const PREV: u64 = 3;
-
-const LIST: u64 = 4;
-
-const FIRST: u64 = 5;
-
-const UNUSED: [u64; 2] = [6, 7];
-
-/// The words of a line.
-const LINE_WORDS: u64 = 8;
-
-/// From a place in lines, the word of the header line's `next` stands so many words before the object's first.
-const NEXT_BEFORE: u64 = 6;
+/// So many words before an object's first one stands the word of its header line that has the next
+/// member.
+const NEXT_BEFORE: u64 = LINE_WORDS - NEXT_AT;
 
 /// The first fault of the objects in these blocks, and of the root.
 #[tactic(auto, unfolding(crate::specs::HeapFaults::block_fault, crate::specs::HeapFaults::link_fault, crate::specs::HeapFaults::root_fault))]
@@ -70,12 +56,12 @@ fn first_bad_block(words: &RawImage, blocks: &[Block]) -> Option<Block>
 fn is_good_block(words: &RawImage, block: Block) -> bool
     ensures { result ≡ good_block (slice_index words.now) block }
 {
-    let size = header_word(words, block, SIZE);
+    let size = header_word(words, block, SIZE_AT);
     1 <= size
         && size <= MAX_SIZE
         && block_lines(class_of(size)) == block.lines
-        && header_word(words, block, UNUSED[0]) == 0
-        && header_word(words, block, UNUSED[1]) == 0
+        && header_word(words, block, UNUSED_AT[0]) == 0
+        && header_word(words, block, UNUSED_AT[1]) == 0
 }
 
 /// The lines of a block of this class.
@@ -103,10 +89,10 @@ fn first_linked(words: &RawImage, blocks: &[Block]) -> Option<Block>
 fn takes_links(words: &RawImage, block: Block) -> bool
     ensures { result ≡ takes_links (slice_index words.now) block }
 {
-    header_word(words, block, NEXT) == 0
-        && header_word(words, block, PREV) == 0
-        && header_word(words, block, LIST) == 0
-        && header_word(words, block, FIRST) == 0
+    header_word(words, block, NEXT_AT) == 0
+        && header_word(words, block, PREV_AT) == 0
+        && header_word(words, block, LIST_AT) == 0
+        && header_word(words, block, FIRST_AT) == 0
 }
 
 /// Whether the root word names no object.
@@ -131,7 +117,7 @@ fn is_bad_root(words: &RawImage, blocks: &[Block]) -> bool
 pub fn root_word(words: &RawImage) -> u64
     ensures { result ≡ slice_index words.now 64 }
 {
-    word_or_zero(words, ROOT_PLACE / WORD_BYTES)
+    word_or_zero(words, ROOT_WORD)
 }
 
 /// The objects in these blocks, with their offsets.
@@ -162,9 +148,9 @@ fn object_in(
     ensures { IfOk result (λ object. object ≡ object_in (slice_index words.now) count block) }
 {
     let bytes = bytes_in(alloc, words, block)?;
-    let members = members_from(alloc, words, count, header_word(words, block, FIRST))?;
+    let members = members_from(alloc, words, count, header_word(words, block, FIRST_AT))?;
     Ok(Object {
-        kind: header_word(words, block, KIND),
+        kind: header_word(words, block, KIND_AT),
         bytes: Sequence::from_vec(bytes),
         members: Sequence::from_vec(members),
     })
@@ -175,7 +161,7 @@ fn object_in(
 fn bytes_in(alloc: Global, words: &RawImage, block: Block) -> Result<Vec<u8>, AllocError>
     ensures { IfOk result (λ bytes. bytes.items ≡ bytes_in (slice_index words.now) block) }
 {
-    let size = header_word(words, block, SIZE);
+    let size = header_word(words, block, SIZE_AT);
     let first = block.place / WORD_BYTES + LINE_WORDS;
     let mut bytes = Vec::new(alloc);
     for k in 0..size.div_ceil(WORD_BYTES) {

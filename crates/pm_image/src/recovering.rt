@@ -4,13 +4,10 @@ ghost use Rattle.pm_layout.specs.Layout.{IsShape, pool_size};
 ghost use Rattle.pm_image.specs.Logs.{entries, records, entries_for, record_for, covers, old_word, recovered};
 ghost use Rattle.pm_image.specs.Steps.{HasLanes, made, entry_for};
 
-use crate::lanes::{LOG_LENGTH, covers, entry, is_sealed, old_word, seal, valid_record};
-use pm_layout::Shape;
+use crate::lanes::{covers, entry, is_sealed, old_word, seal, valid_record};
+use pm_layout::{Shape, UNDO_SLOTS, WORD_BYTES};
 use pm_raw::RawImage;
 use pm_record::apply;
-
-/// Bytes of a word.
-const WORD_BYTES: u64 = 8;
 
 /// The word of this number as recovery gives it: the image's with the redo entries of sealed lanes for it applied, where
 /// there are any, each lane's in order; else the old word of a valid undo record that covers it; else the
@@ -108,7 +105,7 @@ fn undone_by(image: &RawImage, lane: u64, word: u64) -> Option<u64>
     requires word { word < length image.now }
     ensures { result ≡ option_map (λ u. old_word u (8 * word)) (find (λ u. covers u (8 * word)) (records image.now lane)) }
 {
-    for i in 0..LOG_LENGTH {
+    for i in 0..UNDO_SLOTS {
         if let Some(record) = valid_record(image, lane, i) {
             if covers(&record, WORD_BYTES * word) {
                 return Some(old_word(&record, WORD_BYTES * word));

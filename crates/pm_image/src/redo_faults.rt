@@ -7,9 +7,9 @@ ghost use Rattle.pm_image.specs.Logs.{entry_pair};
 ghost use Rattle.pm_image.specs.LogFaults.{bad_entry, ends_log, good_entry};
 ghost use Rattle.pm_image.specs.Steps.{HasLanes};
 
-use crate::lanes::{LOG_LENGTH, MAX_GENERATION, entry, generation_word, is_sealed, seal};
+use crate::lanes::{entry, generation_word, is_sealed, seal};
 use crate::targets::is_target;
-use pm_layout::{LANE_BYTES, PAGE_BYTES, Shape, WORD_BYTES};
+use pm_layout::{LANE_BYTES, MAX_GENERATION, PAGE_BYTES, REDO_ENTRIES, Shape, WORD_BYTES};
 use pm_raw::RawImage;
 use pm_record::{Op, Redo};
 
@@ -18,8 +18,8 @@ pub fn first_bad_entry(image: &RawImage, shape: Shape) -> Option<u64>
     requires { HasLanes image.now shape.lanes }
     ensures { result ≡ find (λ n. bad_entry image.now shape.lanes shape.zones (n / 64) (n % 64)) (range_with_len 0 (64 * shape.lanes)) }
 {
-    for n in 0..LOG_LENGTH * shape.lanes {
-        if is_bad_entry(image, shape, n / LOG_LENGTH, n % LOG_LENGTH) {
+    for n in 0..REDO_ENTRIES * shape.lanes {
+        if is_bad_entry(image, shape, n / REDO_ENTRIES, n % REDO_ENTRIES) {
             return Some(n);
         }
     }

@@ -7,16 +7,11 @@ ghost use Rattle.pm_record.specs.Redo.{redo_of};
 ghost use Rattle.pm_image.specs.Logs.{entry_pair, entries, records, covers, old_word, recovered_words};
 ghost use Rattle.pm_image.specs.Steps.{HasLanes, made, valid_record, logged, AreRestored, AreAsLogged};
 
-use crate::lanes::{LOG_LENGTH, covers, entry, is_sealed, old_word, seal, valid_record};
+use crate::lanes::{covers, entry, is_sealed, old_word, seal, valid_record};
+use pm_layout::{OLD_WORDS, UNDO_SLOTS, WORD_BYTES};
 use pm_raw::RawImage;
 use pm_record::{Redo, Undo, apply};
 use std::alloc::{AllocError, Global};
-
-/// Bytes of a word.
-const WORD_BYTES: u64 = 8;
-
-/// The most words of a record.
-const RECORD_WORDS: u64 = 4;
 
 /// What the lanes' logs have.
 #[derive(Drop)]
@@ -94,7 +89,7 @@ fn push_records(image: &RawImage, lane: u64, found: &mut Vec<Undo>) -> Result<()
     requires { HasLanes image.now (lane + 1) }
     ensures { OnOk result (found.new.items ≡ found.old.items ++ records image.now lane) }
 {
-    for i in 0..LOG_LENGTH {
+    for i in 0..UNDO_SLOTS {
         push_record(image, lane, i, found)?;
     }
     Ok(())
@@ -147,7 +142,7 @@ fn restore_records(image: &RawImage, logs: &Logs, words: &mut RawImage)
     ensures { AreAsLogged [] logs.now.records.items logs.now.entries.items logs.now.records.items image.now words.new }
 {
     for one in &logs.records {
-        restore(image, logs, one.place / WORD_BYTES, RECORD_WORDS, words);
+        restore(image, logs, one.place / WORD_BYTES, OLD_WORDS, words);
     }
 }
 

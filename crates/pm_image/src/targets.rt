@@ -4,13 +4,13 @@ ghost use Rattle.std.specs.Prelude.{◌≡◌, ◌+◌, ◌^◌, ◌<◌, ◌≤
 ghost use Rattle.std.specs.List.{range_with_len, list_all};
 ghost use Rattle.pm_image.specs.LogFaults.{in_chunk, in_descriptors, is_target};
 
-use pm_layout::{CHUNKS_PER_ZONE, PAGE_BYTES, ROOT_PLACE, Shape, WORD_BYTES, ZONE_BYTES};
+use pm_layout::{CHUNKS_PER_ZONE, PAGE_WORDS, ROOT_WORD, Shape, WORD_BYTES, ZONE_WORDS};
 
 /// Whether a redo entry may change the word: the root's word, a descriptor, or a word in a chunk.
 pub fn is_target(shape: Shape, word: u64) -> bool
     ensures { result ≡ is_target shape.lanes shape.zones word }
 {
-    word == ROOT_PLACE / WORD_BYTES || is_in_descriptors(shape, word) || is_in_chunk(shape, word)
+    word == ROOT_WORD || is_in_descriptors(shape, word) || is_in_chunk(shape, word)
 }
 
 /// Whether the word is a descriptor.
@@ -19,8 +19,8 @@ fn is_in_descriptors(shape: Shape, word: u64) -> bool
 {
     let from = shape.zone_at(0) / WORD_BYTES;
     from <= word
-        && (word - from) / (ZONE_BYTES / WORD_BYTES) < shape.zones
-        && (word - from) % (ZONE_BYTES / WORD_BYTES) < CHUNKS_PER_ZONE
+        && (word - from) / ZONE_WORDS < shape.zones
+        && (word - from) % ZONE_WORDS < CHUNKS_PER_ZONE
 }
 
 /// Whether so many words from this one on are in chunks.
@@ -43,6 +43,6 @@ fn is_in_chunk(shape: Shape, word: u64) -> bool
 {
     let from = shape.zone_at(0) / WORD_BYTES;
     from <= word
-        && (word - from) / (ZONE_BYTES / WORD_BYTES) < shape.zones
-        && PAGE_BYTES / WORD_BYTES <= (word - from) % (ZONE_BYTES / WORD_BYTES)
+        && (word - from) / ZONE_WORDS < shape.zones
+        && PAGE_WORDS <= (word - from) % ZONE_WORDS
 }

@@ -1,6 +1,6 @@
 -- Where the parts of a lane's log stand, by the pool's shape, and how much room a log has. Words and lines go by their numbers: a word has 8
 -- bytes, a line 8 words. A second version of the layout changes these functions and nothing that takes them.
-use Rattle.std.specs.Prelude.{ℕ, ◌+◌, ◌*◌, ◌^◌}
+use Rattle.std.specs.Prelude.{ℕ, ◌+◌, ◌*◌}
 use Rattle.pm_layout.specs.declared.shape.Shape.{Shape}
 
 -- the undo slots of a lane
@@ -34,7 +34,3 @@ word_of_entry shape lane entry = 520 + 1024 * lane + 2 * entry
 -- the line of a lane's undo slot
 abbrev pub line_of_slot : Shape → ℕ → ℕ → ℕ
 line_of_slot shape lane slot = 81 + 128 * lane + slot
-
--- the greatest generation; a lane that has it writes no more
-abbrev pub greatest_generation : Shape → ℕ
-greatest_generation shape = 2 ^ 62

@@ -3,3 +3,4 @@ pub mod Kinds
 pub mod Sizes
 pub mod Areas
 pub mod Chunks
+pub mod Texts

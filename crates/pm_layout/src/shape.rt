@@ -22,7 +22,8 @@ pub struct Shape {
     pub lanes: u64,
     /// How many zones there are.
     pub zones: u64,
-    pub ghost version_is: { version ≡ 1 },
+    pub ghost version_from: { 1 ≤ version },
+    pub ghost version_to: { version ≤ 1 },
     pub ghost lanes_from: { 1 ≤ lanes },
     pub ghost lanes_to: { lanes ≤ 32 },
     pub ghost zones_from: { 1 ≤ zones },
@@ -34,6 +35,11 @@ pub struct Shape {
 pub struct BadShape;
 
 impl fmt::Display for BadShape {
+    ghost use Rattle.std.specs.Prelude.{Some};
+    ghost use Rattle.pm_layout.specs.Texts.{bad_shape_text};
+
+    ghost output = { λ _. Some bad_shape_text };
+
     fn fmt<W: fmt::Write>(&self, f: &mut fmt::Formatter<W>) -> fmt::Result {
         f.write_str("BadShape")
     }

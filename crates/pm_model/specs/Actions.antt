@@ -10,6 +10,7 @@ use Rattle.pm_objects.specs.declared.pool.Object.{Object}
 use Rattle.pm_objects.specs.declared.pool.PoolView.{PoolView}
 use Rattle.pm_model.specs.Bytes.{bytes_of, put_bytes, put_object}
 
+-- what is to be done to an existing object by a publish, other than to free it
 pub data Action : Type 0 where
   -- eight bytes of an object, from an offset on, become this number's
   SetWord : Oid → ℕ → ℕ → Action
@@ -26,6 +27,7 @@ max_entries = 64
 abbrev pub object_of : Action → Oid
 object_of (SetWord id off value) = id
 
+-- the first byte of the object after those that the action changes
 abbrev pub end_of : Action → ℕ
 end_of (SetWord id off value) = off + 8
 
@@ -71,9 +73,11 @@ pub record Pending : Type 0 where
   -- one of them was asked for of an object that was to be freed already
   pub late : Bool
 
+-- words that are to be set are pending, and nothing else
 abbrev pub only_sets : List Action → Pending
 only_sets actions = record { sets = actions; frees = []; reserved = []; late = false }
 
+-- nothing is pending: so it is as a pool is opened, and after a publish or a cancel
 abbrev pub none_pending : Pending
 none_pending = only_sets []
 
@@ -81,6 +85,7 @@ none_pending = only_sets []
 abbrev pub is_plain : Pending → Bool
 is_plain p = nat_eq (length p.frees) 0 && nat_eq (length p.reserved) 0
 
+-- how many actions are pending, of all kinds
 abbrev pub pending_count : Pending → ℕ
 pending_count p = length p.frees + length p.reserved + length p.sets
 
@@ -88,13 +93,16 @@ pending_count p = length p.frees + length p.reserved + length p.sets
 abbrev pub is_to_be_freed : Pending → ℕ → Bool
 is_to_be_freed p off = list_any (λ (id : Oid). id.off == off) p.frees
 
--- with one more
+-- with one more word to set: pmemobj_set_value(3). On an object whose free is deferred already it
+-- is late
 abbrev pub with_set : Action → Pending → Pending
 with_set a p = record p { sets = p.sets ++ a ∷ []; late = is_to_be_freed p (object_of a).off || p.late }
 
+-- with the free of an object deferred: pmemobj_defer_free(3)
 abbrev pub with_free : Oid → Pending → Pending
 with_free id p = record p { frees = p.frees ++ id ∷ []; late = is_to_be_freed p id.off || p.late }
 
+-- with a new object reserved at an offset, of a type and so many zeros: pmemobj_reserve(3)
 abbrev pub with_reservation : ℕ → ℕ → ℕ → Pending → Pending
 with_reservation off kind size p = record p { reserved = p.reserved ++ record { off = off; kind = kind; bytes = replicate size 0 } ∷ [] }
 

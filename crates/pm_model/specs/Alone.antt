@@ -25,6 +25,7 @@ seen_alone spent full tx op = record { spent = spent; busy = false; missing = wa
 abbrev pub refusal_alone : Bool → Bool → Transaction → Operation → Option Refusal
 refusal_alone spent full tx op = first_refusal (seen_alone spent full tx op) tx op
 
+-- the refusal, where there is one, else the value
 abbrev pub reply_by : Option Refusal → Option Value → Option Value
 reply_by None value = value
 reply_by (Some r) value = Some (Refused r)

@@ -20,7 +20,8 @@ use Rattle.pm_model.specs.Actions.{Reservation, none_pending, object_reserved, w
 use Rattle.pm_model.specs.Actions.Action.{SetWord}
 use Rattle.pm_model.specs.Checks.{Seen, Range, words_in, wants_of, is_action, first_refusal}
 
--- an operation and its reply: a value, a refusal among them, or none where it is just done
+-- an operation of a call as it ran, with its reply: a value, a refusal among them, or none where
+-- it is just done
 pub record Told : Type 0 where
   pub operation : Operation
   pub reply : Option Value
@@ -104,6 +105,7 @@ after_reply (Alloc size kind) (Some (Offset off)) tx = allocated off size kind t
 after_reply (Reserve size kind) (Some (Offset off)) tx = reserved off size kind tx
 after_reply op reply tx = performed op tx
 
+-- the transaction after an operation with its reply
 abbrev pub after : Told → Transaction → Transaction
 after told tx = after_reply told.operation told.reply tx
 

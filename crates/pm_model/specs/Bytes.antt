@@ -13,6 +13,7 @@ put_bytes at new bytes = take at bytes ++ new ++ drop (at + length new) bytes
 abbrev pub bytes_at : ℕ → ℕ → List ℕ → List ℕ
 bytes_at at len bytes = take len (drop at bytes)
 
+-- an object with new bytes from a place on
 abbrev pub with_bytes : ℕ → List ℕ → Object → Object
 with_bytes at new object = record object { bytes = put_bytes at new object.bytes }
 
@@ -46,6 +47,7 @@ records_from open_one (w ∷ words) =
     if w == open_one.0 + open_one.1 && nat_lt open_one.1 4 then records_from (open_one.0, open_one.1 + 1) words
     else open_one ∷ records_from (w, 1) words
 
+-- the records of some words in rising order
 unfoldable pub records_of : List ℕ → List (ℕ × ℕ)
 records_of [] = []
 records_of (w ∷ words) = records_from (w, 1) words

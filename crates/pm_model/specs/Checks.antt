@@ -33,6 +33,7 @@ pub record Range : Type 0 where
   pub off : ℕ
   pub len : ℕ
 
+-- the range that an operation records, writes or reads
 abbrev pub range_of : Operation → Option Range
 range_of (AddRange id off len) = Some (record { id = id; off = off; len = len })
 range_of (Write id off bytes) = Some (record { id = id; off = off; len = length bytes })
@@ -43,34 +44,42 @@ range_of op = None
 abbrev pub words_in : Range → List ℕ
 words_in range = covered_words (range.id.off + range.off) range.len
 
+-- the locks that an operation requests
 abbrev pub wants_of : Operation → List Want
 wants_of (Begin wants) = wants
 wants_of op = []
 
+-- the operation opens a level
 abbrev pub is_begin : Operation → Bool
 is_begin (Begin wants) = true
 is_begin op = false
 
+-- it records a range: pmemobj_tx_add_range(3)
 abbrev pub is_record : Operation → Bool
 is_record (AddRange id off len) = true
 is_record op = false
 
+-- it writes bytes
 abbrev pub is_write : Operation → Bool
 is_write (Write id off bytes) = true
 is_write op = false
 
+-- it publishes what is pending
 abbrev pub is_publish : Operation → Bool
 is_publish Publish = true
 is_publish op = false
 
+-- it allocates an object
 abbrev pub is_alloc : Operation → Bool
 is_alloc (Alloc size kind) = true
 is_alloc op = false
 
+-- it frees an object
 abbrev pub is_free : Operation → Bool
 is_free (Free id) = true
 is_free op = false
 
+-- it reserves an object
 abbrev pub is_reserve : Operation → Bool
 is_reserve (Reserve size kind) = true
 is_reserve op = false
@@ -79,6 +88,7 @@ is_reserve op = false
 abbrev pub seeks_block : Operation → Bool
 seeks_block op = is_alloc op || is_reserve op
 
+-- it defers the free of an object
 abbrev pub is_defer : Operation → Bool
 is_defer (DeferFree id) = true
 is_defer op = false
@@ -96,7 +106,7 @@ is_action op = false
 abbrev pub needs_write : Operation → Bool
 needs_write op = is_record op || is_write op
 
--- NotWork: a transaction is open, and not for work
+-- NotWork: a transaction is open, and not in its working stage
 abbrev pub finds_no_work : Transaction → Bool
 finds_no_work tx = nat_le 1 tx.level && not (is_working tx.stage)
 
@@ -112,7 +122,8 @@ is_spent seen tx = tx.level == 0 && seen.spent
 abbrev pub is_too_deep : Transaction → Operation → Bool
 is_too_deep tx op = is_begin op && nat_le 64 tx.level
 
--- LocksFull: with what is wanted of objects that are not new, of ids that have a place, more than 64 locks would be held
+-- LocksFull: with the requests for existing objects, of ids that have a place, more than 64 locks
+-- would be held
 abbrev pub passes_locks : Transaction → Operation → Bool
 passes_locks tx op =
     nat_lt 64 (length (locked_all (filter (λ (want : Want). not (is_new tx want.id.off) && has_place tx.pool want.id) (wants_of op)) tx.locks))
@@ -137,6 +148,7 @@ lacks_reservation pool p op = false
 abbrev pub is_not_held : Transaction → Bool → Oid → Bool
 is_not_held tx write id = not (id.pool == tx.pool.id && holds_object tx id.off write)
 
+-- the lock that a range needs is not held
 abbrev pub is_lock_missing : Transaction → Bool → Range → Bool
 is_lock_missing tx write range = is_not_held tx write range.id
 
@@ -144,6 +156,7 @@ is_lock_missing tx write range = is_not_held tx write range.id
 abbrev pub is_unlocked_action : Transaction → Action → Bool
 is_unlocked_action tx a = is_not_held tx true (object_of a)
 
+-- an object that is to be freed or set is not held for writing
 abbrev pub publishes_unlocked : Transaction → Operation → Bool
 publishes_unlocked tx op = is_publish op && (list_any (is_not_held tx true) tx.actions.frees || list_any (is_unlocked_action tx) tx.actions.sets)
 
@@ -152,10 +165,11 @@ abbrev pub frees_unlocked : Transaction → Operation → Bool
 frees_unlocked tx (Free id) = is_not_held tx true id
 frees_unlocked tx op = false
 
+-- NotLocked: to a publish, a free or a range a lock that it needs is not held
 abbrev pub is_not_locked : Transaction → Operation → Bool
 is_not_locked tx op = publishes_unlocked tx op || frees_unlocked tx op || option_map_or (is_lock_missing tx (needs_write op)) (range_of op) false
 
--- NoObject by place: a lock is wanted of an id that has no place
+-- NoObject by place: a lock is requested of an id that has no place
 abbrev pub wants_no_place : Transaction → Operation → Bool
 wants_no_place tx op = list_any (λ (want : Want). not (has_place tx.pool want.id)) (wants_of op)
 
@@ -163,6 +177,8 @@ wants_no_place tx op = list_any (λ (want : Want). not (has_place tx.pool want.i
 abbrev pub takes_lock : Transaction → Operation → Bool
 takes_lock tx op = list_any (λ (want : Want). not (holds_object tx want.id.off want.write)) (wants_of op)
 
+-- Busy applies: inside a transaction a lock was another lane's. An outermost begin waits for its
+-- locks
 abbrev pub is_busy : Seen → Transaction → Operation → Bool
 is_busy seen tx op = nat_le 1 tx.level && takes_lock tx op && seen.busy
 
@@ -170,10 +186,12 @@ is_busy seen tx op = nat_le 1 tx.level && takes_lock tx op && seen.busy
 abbrev pub takes_first_lock : Transaction → Operation → Bool
 takes_first_lock tx op = list_any (λ (want : Want). not (holds_object tx want.id.off false)) (wants_of op)
 
+-- NoObject applies: no object was found under a lock that the operation took first
 abbrev pub is_missing : Seen → Transaction → Operation → Bool
 is_missing seen tx op = takes_first_lock tx op && seen.missing
 
--- the objects that an operation is about, by their offsets: what is wanted, published or freed, or has the range
+-- the objects that an operation is about, by their offsets: of which locks are requested, which
+-- are published or freed, or which have the range
 abbrev pub objects_named : Transaction → Operation → List ℕ
 objects_named tx (Begin wants) = map (λ (want : Want). want.id.off) wants
 objects_named tx Publish = offsets_named tx.actions
@@ -184,6 +202,8 @@ objects_named tx op = option_map_or (λ (range : Range). range.id.off ∷ []) (r
 abbrev pub publishes_late : Pending → Operation → Bool
 publishes_late p op = is_publish op && p.late
 
+-- NoObject applies: the operation is about an object that the transaction freed, or publishes
+-- what is late
 abbrev pub names_gone : Transaction → Operation → Bool
 names_gone tx op = publishes_late tx.actions op || list_any (is_gone tx) (objects_named tx op)
 
@@ -191,6 +211,7 @@ names_gone tx op = publishes_late tx.actions op || list_any (is_gone tx) (object
 abbrev pub is_root : PoolView → Oid → Bool
 is_root pool id = option_map_or (λ root. root == id.off) pool.root false
 
+-- RootKept applies: a free or a publish would free the root
 abbrev pub frees_root : Transaction → Operation → Bool
 frees_root tx (Free id) = is_root tx.pool id
 frees_root tx Publish = list_any (is_root tx.pool) tx.actions.frees
@@ -201,6 +222,7 @@ abbrev pub is_listed : Objects → ℕ → Bool
 is_listed objects off =
     is_among (all_members objects) off || option_map_or (λ (object : Object). nat_le 1 (length object.members)) (object_at objects off) false
 
+-- Listed applies: a free or a publish would free an object in a list or with members
 abbrev pub frees_listed : Transaction → Operation → Bool
 frees_listed tx (Free id) = is_listed tx.pool.objects id.off
 frees_listed tx Publish = list_any (λ (id : Oid). is_listed tx.pool.objects id.off) tx.actions.frees
@@ -210,6 +232,7 @@ frees_listed tx op = false
 abbrev pub passes_end_of : Transaction → Range → Bool
 passes_end_of tx range = nat_lt (length (bytes_of tx.pool.objects range.id.off)) (range.off + range.len)
 
+-- a word that is to be set passes the end of its object
 abbrev pub publishes_past_end : Transaction → Operation → Bool
 publishes_past_end tx op = is_publish op && list_any (passes_object tx.pool.objects) tx.actions.sets
 
@@ -218,6 +241,7 @@ abbrev pub puts_past_end : Pending → Operation → Bool
 puts_past_end p (WriteReserved id off bytes) = nat_lt (length (bytes_reserved p id.off)) (off + length bytes)
 puts_past_end p op = false
 
+-- OutOfRange applies: a range, a word to be set, or bytes to be put pass the end
 abbrev pub passes_end : Transaction → Operation → Bool
 passes_end tx op = puts_past_end tx.actions op || (publishes_past_end tx op || option_map_or (passes_end_of tx) (range_of op) false)
 
@@ -225,6 +249,7 @@ passes_end tx op = puts_past_end tx.actions op || (publishes_past_end tx op || o
 abbrev pub has_unrecorded : Transaction → Range → Bool
 has_unrecorded tx range = not (is_new tx range.id.off) && not (list_all (is_among tx.recorded) (words_in range))
 
+-- NotAdded applies: a write covers a word that is not recorded
 abbrev pub is_not_added : Transaction → Operation → Bool
 is_not_added tx op = is_write op && option_map_or (has_unrecorded tx) (range_of op) false
 
@@ -232,6 +257,7 @@ is_not_added tx op = is_write op && option_map_or (has_unrecorded tx) (range_of 
 abbrev pub overfills : Transaction → Range → Bool
 overfills tx range = not (is_new tx range.id.off) && nat_lt 64 (tx.records + length (records_of (new_words tx.recorded (words_in range))))
 
+-- LogFull applies: the words of a range that is to be recorded have no room
 abbrev pub passes_log : Transaction → Operation → Bool
 passes_log tx op = is_record op && option_map_or (overfills tx) (range_of op) false
 

@@ -23,6 +23,7 @@ pub record ReplaysEntries (pool : PoolView) (entries : List Entry) (last : PoolV
   pub replays : Replays (opened pool) acts end
   pub ends : end.pool ≡ last
 
+-- the call took a number, was not answered, and is not in the image
 abbrev pub is_lost : Fate → Bool
 is_lost fate.Lost = true
 is_lost f = false

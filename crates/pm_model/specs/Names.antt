@@ -16,6 +16,7 @@ use Rattle.pm_model.specs.Answers.{Told}
 use Rattle.pm_model.specs.Step.{State, Act, Step}
 use Rattle.pm_model.specs.Framed.{IsFramed, AreApart, AreAllApart, Follows}
 
+-- a part of a state that calls may change or read
 pub data Name : Type 0 where
   -- what no call changes: the pool's id, layout name and shape
   Fixed : Name
@@ -26,6 +27,7 @@ pub data Name : Type 0 where
   -- what a lane has pending
   ActionsOf : ℕ → Name
 
+-- what a state has in such a part
 pub data Content : Type 0 where
   FixedIs : ℕ → List ℕ → ℕ → ℕ → Content
   RootIs : Option ℕ → Content
@@ -43,6 +45,7 @@ content s (ActionsOf lane) = ActionsAre (s.actions lane)
 abbrev pub IsMap : State → Type 0
 IsMap s = IsStrictlyIncreasing (offsets s.pool.objects)
 
+-- the reply is a refusal
 abbrev pub is_refusal : Option Value → Bool
 is_refusal (Some (Refused r)) = true
 is_refusal reply = false
@@ -51,7 +54,8 @@ is_refusal reply = false
 abbrev pub asks_for_blocks : Operation → Bool
 asks_for_blocks op = seeks_block op || is_defer op
 
--- the operation with this reply did so, or is a free: it asks whether blocks overlap, or whether an object is the root or in a list, which no name tells
+-- the operation with this reply did so, or is a free: it asks whether blocks overlap, or whether
+-- an object is the root or in a list, which no name has
 abbrev pub changes_blocks : Operation → Option Value → Bool
 changes_blocks op reply = is_free op || (asks_for_blocks op && not (is_refusal reply))
 
@@ -63,12 +67,13 @@ keeps_blocks act = is_plain act.actions && list_all (λ (t : Told). not (changes
 abbrev pub AllKeepBlocks : List Act → Type 0
 AllKeepBlocks calls = All (λ (act : Act). keeps_blocks act ≡ true) calls
 
--- what the call locked: what its begins wanted. Of a begin that was refused nothing is kept to the call's end
+-- what the call locked: what its begins requested. Of a begin that was refused nothing is kept to
+-- the call's end
 unfoldable pub wants_taken : List Told → List Want
 wants_taken [] = []
 wants_taken (t ∷ told) = (if is_refusal t.reply then [] else wants_of t.operation) ++ wants_taken told
 
--- a lock of the object at the offset is among what is wanted, for writing if so asked
+-- a lock of the object at the offset is among the requests, for writing if so asked
 abbrev pub is_wanted : List Want → ℕ → Bool → Bool
 is_wanted wants off write = list_any (λ (want : Want). want.id.off == off && (want.write || not write)) wants
 
@@ -107,6 +112,7 @@ IsFramedCall act = IsFramed content Step writes touches act
 abbrev pub Apart : Act → Act → Type 0
 Apart a b = AreApart writes touches a b
 
+-- the call is apart from each of these
 abbrev pub ApartFromAll : Act → List Act → Type 0
 ApartFromAll a calls = AreAllApart writes touches a calls
 

@@ -13,10 +13,11 @@ with_object off object (entry ∷ objects) = if nat_lt off entry.0 then (off, ob
 unfoldable pub without_object : ℕ → Objects → Objects
 without_object off objects = filter (λ entry. not (entry.0 == off)) objects
 
--- a pool with one object more, and one without the object at an offset
+-- a pool with one object more
 abbrev pub pool_with : ℕ → Object → PoolView → PoolView
 pool_with off object pool = record pool { objects = with_object off object pool.objects }
 
+-- a pool without the object at an offset
 abbrev pub pool_without : ℕ → PoolView → PoolView
 pool_without off pool = record pool { objects = without_object off pool.objects }
 

@@ -24,7 +24,7 @@ pub record Outside : Type 0 where
   pub pool : PoolView
   pub actions : Pending
 
--- a transaction of its own that is at rest
+-- a transaction of its own in which nothing was done yet
 abbrev pub as_resting : Outside → Transaction
 as_resting s = resting s.pool s.actions
 

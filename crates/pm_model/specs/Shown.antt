@@ -30,6 +30,7 @@ unfoldable pub error_of : List Told → TxErr
 error_of [] = error.None
 error_of (t ∷ told) = error_by t.operation t.reply (error_of told)
 
+-- the operation aborts the transaction by the user's wish: pmemobj_tx_abort
 abbrev pub is_abort : Operation → Bool
 is_abort (Abort errnum) = true
 is_abort op = false
@@ -56,11 +57,12 @@ abbrev pub answer_of : List Told → Option Value
 answer_of [] = None
 answer_of (t ∷ told) = t.reply
 
--- the values of a call on these lines. One outside of a transaction has none where it is refused: its fate tells that
+-- the values of a call on these lines. One outside of a transaction has none where it is refused:
+-- its fate has that
 abbrev pub values_shown : List ℕ → List Told → List (ℕ × Value)
 values_shown lines told = if is_outside told && is_refusal (answer_of told) then [] else values_of lines told
 
--- the operation gave the transaction up
+-- the operation aborted the transaction
 abbrev pub aborts : Told → Bool
 aborts t = (not (is_action t.operation) && is_refusal t.reply) || is_abort t.operation
 
@@ -98,6 +100,7 @@ IsFateOutside reply (fate.Refused r) = reply ≡ Some (Refused r)
 IsFateOutside reply (fate.Aborted e) = ⊥
 IsFateOutside reply f = is_refusal reply ≡ false
 
+-- a call of these operations, outside of a transaction or one, may have this fate
 abbrev pub IsFate : Bool → List Told → Fate → Type 0
 IsFate true told f = IsFateOutside (answer_of told) f
 IsFate false told f = IsFateOf (error_of told) f

@@ -28,7 +28,7 @@ unfoldable pub RunsOn : Transaction → List Told → Transaction → Type 0
 RunsOn tx [] last = (is_working tx.stage ≡ false) × (last ≡ tx)
 RunsOn tx (t ∷ told) last = (is_working tx.stage ≡ true) × Answers tx t.operation t.reply × RunsOn (after t tx) told last
 
--- a transaction of these operations leads from a transaction at rest to this end
+-- these operations lead from where no transaction is open to this end
 unfoldable pub RunsFrom : Transaction → List Told → Transaction → Type 0
 RunsFrom tx [] last = ⊥
 RunsFrom tx (t ∷ told) last = Answers tx t.operation t.reply × RunsOn (after t tx) told last

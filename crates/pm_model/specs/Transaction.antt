@@ -19,6 +19,7 @@ pub record Lock : Type 0 where
   pub off : ℕ
   pub write : Bool
 
+-- a transaction in one moment
 pub record Transaction : Type 0 where
   -- the pool as the outermost level began, and its copy with what was changed since
   pub before : PoolView
@@ -51,6 +52,7 @@ resting pool actions =
 abbrev pub at_rest : PoolView → Transaction
 at_rest pool = resting pool none_pending
 
+-- the stage TX_STAGE_WORK
 abbrev pub is_working : Stage → Bool
 is_working stage.Work = true
 is_working s = false
@@ -60,13 +62,13 @@ abbrev pub is_unharmed : TxErr → Bool
 is_unharmed error.None = true
 is_unharmed e = false
 
--- the locks with one more: an object has one lock, for writing where it was ever wanted so
+-- the locks with one more: an object has one lock, for writing where it was ever requested so
 unfoldable pub locked : ℕ → Bool → List Lock → List Lock
 locked off write [] = record { off = off; write = write } ∷ []
 locked off write (lock ∷ locks) =
     if lock.off == off then record { off = off; write = lock.write || write } ∷ locks else lock ∷ locked off write locks
 
--- the locks with all that are wanted
+-- the locks with all that are requested
 unfoldable pub locked_all : List Want → List Lock → List Lock
 locked_all [] locks = locks
 locked_all (want ∷ wants) locks = locked_all wants (locked want.id.off want.write locks)
@@ -91,7 +93,7 @@ is_gone tx off = is_among tx.freed off || is_dropped tx off
 abbrev pub holds_object : Transaction → ℕ → Bool → Bool
 holds_object tx off write = is_new tx off || is_locked tx.locks off write
 
--- what is wanted of objects that are not new: of a new one no lock is taken
+-- the requests for existing objects: of a new one no lock is taken
 abbrev pub wants_of_old : Transaction → List Want → List Want
 wants_of_old tx wants = filter (λ (want : Want). not (is_new tx want.id.off)) wants
 
@@ -103,30 +105,32 @@ entries_of tx = length tx.moved + length tx.made + length tx.freed
 abbrev pub made_at : ℕ → Object → Transaction → Transaction
 made_at off object tx = record tx { pool = pool_with off object tx.pool; made = tx.made ++ off ∷ [] }
 
--- the object at the offset is freed: one that was made here is dropped
+-- the object at the offset is freed: the block of one that was made here stays reserved to the end
 abbrev pub released : ℕ → Transaction → Transaction
 released off tx =
     if is_among tx.made off
     then record tx { pool = pool_without off tx.pool; made = filter (λ other. not (other == off)) tx.made; dropped = tx.dropped ++ filter (λ entry. entry.0 == off) tx.pool.objects }
     else record tx { pool = pool_without off tx.pool; freed = tx.freed ++ off ∷ [] }
 
--- objects are freed, and what is reserved comes to be, one after another
+-- objects are freed, one after another
 abbrev pub all_released : List Oid → Transaction → Transaction
 all_released [] tx = tx
 all_released (id ∷ ids) tx = all_released ids (released id.off tx)
 
+-- objects that were reserved are allocated, one after another
 abbrev pub all_made : List Reservation → Transaction → Transaction
 all_made [] tx = tx
 all_made (r ∷ rs) tx = all_made rs (made_at r.off (object_reserved r) tx)
 
--- What is pending is published: the objects that are to be freed are, those that are reserved come to be, and the words that are to be set wait for the commit
+-- the words that are pending are the transaction's, and nothing is pending any more
 abbrev pub given_over : Transaction → Transaction
 given_over tx = record tx { moved = tx.moved ++ tx.actions.sets; actions = none_pending }
 
+-- a publish inside: frees, then new objects; the words that are to be set wait for the commit
 abbrev pub published : Transaction → Transaction
 published tx = all_made tx.actions.reserved (all_released tx.actions.frees (given_over tx))
 
--- one level more, with the locks that it wants
+-- one level more, with the locks that it requests
 abbrev pub begun : List Want → Transaction → Transaction
 begun wants tx = record tx { level = tx.level + 1; stage = stage.Work; locks = locked_all (wants_of_old tx wants) tx.locks }
 
@@ -134,7 +138,8 @@ begun wants tx = record tx { level = tx.level + 1; stage = stage.Work; locks = l
 abbrev pub committed : Transaction → Transaction
 committed tx = record tx { stage = stage.OnCommit }
 
--- all of it is given up for this reason, what was published, made and freed among it. A refused outermost begin leaves level 1
+-- the transaction is aborted for this reason: the pool is as it was, and what was published, made
+-- and freed is forgotten. A refused outermost begin leaves level 1
 abbrev pub aborted : TxErr → Transaction → Transaction
 aborted e tx =
     record tx { pool = tx.before; level = if tx.level == 0 then 1 else tx.level; stage = stage.OnAbort; moved = []; made = []; dropped = []; freed = []; error = e }
@@ -143,12 +148,13 @@ aborted e tx =
 abbrev pub ended_inner : Transaction → Transaction
 ended_inner tx = record tx { level = tx.level - 1; stage = if is_unharmed tx.error then stage.Work else stage.OnAbort }
 
--- one level less: at the outermost one what was published is performed, the locks are given back, and no transaction is open. Actions that are
+-- one level less: at the outermost one what was published is performed, the locks are released,
+-- and no transaction is open. Actions that are
 -- pending stay so
 abbrev pub ended : Transaction → Transaction
 ended tx = if nat_le tx.level 1 then resting (with_actions tx.moved tx.pool) tx.actions else ended_inner tx
 
--- one stage on: in work it commits, at rest it changes nothing
+-- one stage on: in work it commits, with no transaction open it changes nothing
 abbrev pub processed_from : Stage → Transaction → Transaction
 processed_from stage.Work tx = committed tx
 processed_from stage.OnCommit tx = record tx { stage = stage.Finally }
@@ -156,5 +162,6 @@ processed_from stage.OnAbort tx = record tx { stage = stage.Finally }
 processed_from stage.Finally tx = record tx { stage = stage.None }
 processed_from stage.None tx = tx
 
+-- the next stage: pmemobj_tx_process
 abbrev pub processed : Transaction → Transaction
 processed tx = processed_from tx.stage tx

@@ -14,6 +14,7 @@ use Rattle.pm_objects.specs.declared.pool.PoolView.{PoolView}
 abbrev pub Objects : Type 0
 Objects = List (ℕ × Object)
 
+-- the offsets of the objects, in rising order
 abbrev pub offsets : Objects → List ℕ
 offsets objects = map (λ entry. entry.0) objects
 

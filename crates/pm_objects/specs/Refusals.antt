@@ -3,6 +3,7 @@ use Rattle.std.specs.Prelude.{ℕ}
 use Rattle.pm_objects.specs.declared.refusal.Refusal.{Refusal}
 use Rattle.pm_objects.specs.declared.refusal.Refusal.TheVariants.{NotWork, InTx, NoTx, BadSize, NoObject, NotLocked, OutOfRange, NotAdded, LogFull, ActionsFull, NoSpace, Listed, Busy, Spent, Stopped, NotInList, Short, RootKept, Deep, LocksFull, Unaligned, NotReserved}
 
+-- the place of a refusal in the list of reasons, from 1
 abbrev pub refusal_number : Refusal → ℕ
 refusal_number NotWork = 1
 refusal_number InTx = 2

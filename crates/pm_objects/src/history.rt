@@ -1,7 +1,8 @@
 use crate::calls::Call;
 use crate::refusal::Refusal;
 use crate::sequence::Sequence;
-use thiserror::Error;
+use std::error::Error;
+use std::fmt;
 
 /// What an answered line gives.
 #[derive(Drop)]
@@ -28,21 +29,35 @@ pub struct Reply {
 }
 
 /// The error of a transaction: pmemobj_tx_errno.
-#[derive(Clone, Copy, Debug, PartialEq, Eq, Error)]
+#[derive(Clone, Copy, Debug, PartialEq, Eq)]
 pub enum TxErr {
     /// The transaction was not aborted.
-    #[error("no error")]
     None,
     /// It was aborted with the number 0.
-    #[error("ECANCELED")]
     Canceled,
     /// It was aborted with this number.
-    #[error("{0}")]
     User(u32),
     /// A refusal aborted it.
-    #[error("{0}")]
     Refused(Refusal),
 }
+
+impl fmt::Display for TxErr {
+    ghost use Rattle.std.specs.Prelude.{Some};
+    ghost use Rattle.pm_objects.specs.Texts.{error_text};
+
+    ghost output = { λ error. Some (error_text error) };
+
+    fn fmt<W: fmt::Write>(&self, f: &mut fmt::Formatter<W>) -> fmt::Result {
+        match self {
+            TxErr::None => f.write_str("no error"),
+            TxErr::Canceled => f.write_str("ECANCELED"),
+            TxErr::User(number) => write!(f, "{number}"),
+            TxErr::Refused(refusal) => write!(f, "{refusal}"),
+        }
+    }
+}
+
+impl Error for TxErr {}
 
 /// What became of a call that drew a number.
 #[derive(Clone, Copy, Debug, PartialEq, Eq)]

@@ -3,7 +3,7 @@
 //! Promises every crate above one vocabulary: contracts see each type as its definition's value, bytes
 //! and lists as lists, so that what the code answers can be compared with what a definition says.
 //! A `PoolView` is a pool as a finite map, in rising offsets; `IsPool` (specs/Pool.antt) says what a
-//! pool is. It stands on `pm_layout` for the blocks that objects take, and on `thiserror`.
+//! pool is. It stands on `pm_layout` for the blocks that objects take.
 #![tactic(auto)]
 
 mod calls;
@@ -22,7 +22,7 @@ pub use laws::objects_are_a_map;
 pub use pool::{Object, PoolView};
 pub use refusal::Refusal;
 pub use sequence::Sequence;
-pub use stops::{MAX_LANES, Stops};
+pub use stops::Stops;
 
 #[cfg(test)]
 mod tests;

@@ -1,75 +1,54 @@
 ghost use Rattle.std.specs.Prelude.{◌≡◌};
 
-use thiserror::Error;
+use std::error::Error;
+use std::fmt;
 
 /// Why a call is refused: docs/MODEL.md, "Refusals".
-#[derive(Clone, Copy, Debug, PartialEq, Eq, Error)]
+#[derive(Clone, Copy, Debug, PartialEq, Eq)]
 pub enum Refusal {
     /// The transaction is not in its working stage.
-    #[error("NotWork")]
     NotWork,
     /// A call for outside was made inside a transaction.
-    #[error("InTx")]
     InTx,
     /// A call for inside was made outside a transaction.
-    #[error("NoTx")]
     NoTx,
     /// The size is 0 or above 262,080.
-    #[error("BadSize")]
     BadSize,
     /// No object is there.
-    #[error("NoObject")]
     NoObject,
     /// The lane holds no lock that the access needs.
-    #[error("NotLocked")]
     NotLocked,
     /// The range passes the object's end.
-    #[error("OutOfRange")]
     OutOfRange,
     /// A word to be written was not recorded.
-    #[error("NotAdded")]
     NotAdded,
     /// The undo log has no room for the records.
-    #[error("LogFull")]
     LogFull,
     /// The redo log or the list of pending actions has no room.
-    #[error("ActionsFull")]
     ActionsFull,
     /// No free block fits.
-    #[error("NoSpace")]
     NoSpace,
     /// The object is in a list, or has members.
-    #[error("Listed")]
     Listed,
     /// Another lane holds the lock.
-    #[error("Busy")]
     Busy,
     /// The lane's generation or the commit counter is at its end.
-    #[error("Spent")]
     Spent,
     /// The lane is at its stop number.
-    #[error("Stopped")]
     Stopped,
     /// The object is not a member of the list.
-    #[error("NotInList")]
     NotInList,
     /// The list has this many members, and the slice fewer places.
-    #[error("Short {0}")]
     Short(u64),
     /// The root is kept.
-    #[error("RootKept")]
     RootKept,
     /// The transaction is nested 64 deep already.
-    #[error("Deep")]
     Deep,
     /// The lane would hold more than 64 locks.
-    #[error("LocksFull")]
     LocksFull,
     /// The offset is no multiple of 8.
-    #[error("Unaligned")]
     Unaligned,
     /// The id is none of the lane's reservations.
-    #[error("NotReserved")]
     NotReserved,
 }
 
@@ -106,3 +85,39 @@ impl Refusal {
         }
     }
 }
+
+impl fmt::Display for Refusal {
+    ghost use Rattle.std.specs.Prelude.{Some};
+    ghost use Rattle.pm_objects.specs.Texts.{refusal_text};
+
+    ghost output = { λ refusal. Some (refusal_text refusal) };
+
+    fn fmt<W: fmt::Write>(&self, f: &mut fmt::Formatter<W>) -> fmt::Result {
+        match self {
+            Refusal::NotWork => f.write_str("NotWork"),
+            Refusal::InTx => f.write_str("InTx"),
+            Refusal::NoTx => f.write_str("NoTx"),
+            Refusal::BadSize => f.write_str("BadSize"),
+            Refusal::NoObject => f.write_str("NoObject"),
+            Refusal::NotLocked => f.write_str("NotLocked"),
+            Refusal::OutOfRange => f.write_str("OutOfRange"),
+            Refusal::NotAdded => f.write_str("NotAdded"),
+            Refusal::LogFull => f.write_str("LogFull"),
+            Refusal::ActionsFull => f.write_str("ActionsFull"),
+            Refusal::NoSpace => f.write_str("NoSpace"),
+            Refusal::Listed => f.write_str("Listed"),
+            Refusal::Busy => f.write_str("Busy"),
+            Refusal::Spent => f.write_str("Spent"),
+            Refusal::Stopped => f.write_str("Stopped"),
+            Refusal::NotInList => f.write_str("NotInList"),
+            Refusal::Short(members) => write!(f, "Short {members}"),
+            Refusal::RootKept => f.write_str("RootKept"),
+            Refusal::Deep => f.write_str("Deep"),
+            Refusal::LocksFull => f.write_str("LocksFull"),
+            Refusal::Unaligned => f.write_str("Unaligned"),
+            Refusal::NotReserved => f.write_str("NotReserved"),
+        }
+    }
+}
+
+impl Error for Refusal {}

@@ -2,8 +2,8 @@ ghost use Rattle.std.specs.Prelude.{◌≡◌, ◌<◌, length, None, Some, repl
 
 use std::marker::Model;
 
-/// The most lanes that a pool has.
-pub const MAX_LANES: usize = 32;
+/// The most lanes that a pool has: 32.
+const MAX_LANES: usize = pm_layout::MAX_LANES as usize;
 
 /// For each lane, 0 to 31, after how many counted calls it stops, or that it doesn't. Contracts see the list of 32.
 #[derive(Drop)]

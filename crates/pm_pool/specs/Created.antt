@@ -23,6 +23,7 @@ pub record CanCreate (number : ℕ) (name : List ℕ) (size : ℕ) : Type 0 wher
   pub layout : IsName name
   pub root : size ≤ 262080
 
+-- the header of the new pool, of version 1
 abbrev pub header_of : Wanted → Header
 header_of w = record { version = 1; id = w.id; lanes = w.lanes; zones = w.zones; bytes = pool_size w.lanes w.zones; name = w.layout }
 

@@ -3,8 +3,8 @@ ghost use Rattle.pm_header.specs.Name.{IsName};
 ghost use Rattle.pm_pool.specs.Created.{CanCreate, created};
 
 use crate::parts::{put_generations, put_header_page, put_root, root_offset};
-use pm_header::{Header, Name, PAGE_WORDS, VERSION, encode};
-use pm_layout::{MAX_SIZE, ROOT_PLACE, Shape, WORD_BYTES};
+use pm_header::{Header, Name, encode};
+use pm_layout::{MAX_SIZE, PAGE_WORDS, ROOT_WORD, Shape, VERSION, WORD_BYTES};
 use pm_raw::RawImage;
 use std::alloc::{AllocError, Global};
 
@@ -58,8 +58,8 @@ fn make(alloc: Global, shape: Shape, id: u64, name: Name, root: u64) -> Result<R
     requires { root ≤ 262080 }
     ensures { IfOk result (λ image. image ≡ created (record { lanes = shape.lanes; zones = shape.zones; id = id; layout = name; root = root })) }
 {
-    let mut page = [0; PAGE_WORDS];
-    page[(ROOT_PLACE / WORD_BYTES) as usize] = root_offset(shape, root);
+    let mut page = [0; PAGE_WORDS as usize];
+    page[ROOT_WORD as usize] = root_offset(shape, root);
     let header = Header {
         version: VERSION,
         id,

@@ -3,7 +3,7 @@ ghost use Rattle.pm_layout.specs.Layout.{lane_place, zone_place, chunk_place, po
 ghost use Rattle.pm_layout.specs.Sizes.{class_of};
 ghost use Rattle.pm_pool.specs.Created.{root_block, root_offset, zone_word};
 
-use pm_layout::{Class, LINE_BYTES, Shape, WORD_BYTES, block_at, class_of, descriptor_of};
+use pm_layout::{Class, LINE_BYTES, SIZE_AT, Shape, WORD_BYTES, block_at, class_of, descriptor_of};
 use pm_raw::RawImage;
 
 /// The generation that a new lane has.
@@ -54,7 +54,7 @@ pub fn put_root(image: &mut RawImage, shape: Shape, root: u64)
     if let Class::Lines(_) = class {
         image.set(shape.chunk_at(0, 0) / WORD_BYTES, FIRST_BLOCK);
     }
-    image.set(root_block(shape, root) / WORD_BYTES + 1, root);
+    image.set(root_block(shape, root) / WORD_BYTES + SIZE_AT, root);
 }
 
 /// The root's offset; 0 for no root.

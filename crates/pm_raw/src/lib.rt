@@ -2,7 +2,8 @@
 //!
 //! `RawImage` promises the layers above it a block of a fixed number of words, which are zero at
 //! first, and that a read or a write of a word or a line reaches those words and no other.
-//! Contracts see an image as the list of its words. It stands on `Vec` alone, and starts no thread.
+//! Contracts see an image as the list of its words. It stands on `Vec` and on `pm_layout` for
+//! the words of a line, and starts no thread.
 #![tactic(auto)]
 
 ghost use Rattle.std.specs.Prelude.{◌≡◌, ◌+◌, ◌*◌, ◌<◌, ◌≤◌, ◌↔◌, [], length, replicate, slice_index, slice_range, slice_set, IsTrue, IfOk};
@@ -15,8 +16,8 @@ use std::marker::Model;
 #[cfg(test)]
 mod tests;
 
-/// How many words a line has.
-const LINE_WORDS: usize = 8;
+/// The words of a line, 8, as an index counts them.
+const LINE_WORDS: usize = pm_layout::LINE_WORDS as usize;
 
 /// The words of a pool. How many there are never changes.
 #[derive(Drop)]

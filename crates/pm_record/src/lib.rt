@@ -2,7 +2,7 @@
 //!
 //! Promises whoever writes or replays a log that `encode` writes exactly a record's words, that `decode` finds
 //! it in them and takes nothing else for one, and that an entry changes no bit but its own, twice as once.
-//! It stands on `pm_words` for sums; docs/FORMAT.md, "Undo slots" and "Redo entries", has the spelling.
+//! It stands on `pm_words` for sums and `pm_layout` for numbers; docs/FORMAT.md, "Undo slots" and "Redo entries", has the spelling.
 #![tactic(auto)]
 
 mod laws;

@@ -3,8 +3,7 @@ ghost use Rattle.std.specs.Int.{bit_at};
 ghost use Rattle.pm_record.specs.Redo.{redo_words, redo_of, redo_mask, applied, op_code, op_of};
 ghost use Rattle.pm_record.specs.declared.redo.Redo.{Redo};
 
-/// Bytes of a word: places of entries are multiples of it, so that an operation's number fits below.
-const WORD_BYTES: u64 = 8;
+use pm_layout::WORD_BYTES;
 
 /// What an entry does to its word.
 #[derive(Clone, Copy, Debug, PartialEq, Eq, Default, Drop)]
@@ -51,6 +50,7 @@ impl Redo {
         ensures found { (e : Redo) → e.place % 8 ≡ 0 → pair.now ≡ redo_words e → result ≡ Some e }
         ensures none { IsNone result ↔ (2 < slice_index pair.now 0 % 8) }
     {
+        // Places are multiples of the bytes of a word, and the operation's number is below them.
         let code = pair[0] % WORD_BYTES;
         let op = Op::from_code(code)?;
         Some(Redo {

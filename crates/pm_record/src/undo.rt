@@ -2,13 +2,14 @@ ghost use Rattle.std.specs.Prelude.{◌≡◌, ◌↔◌, false, length, IsNone,
 ghost use Rattle.pm_record.specs.Undo.{undo_words, is_record, undo_of};
 ghost use Rattle.pm_record.specs.declared.undo.Undo.{Undo};
 
+use pm_layout::{OLD_WORDS, SLOT_WORDS};
 use pm_words::sum64;
 
-/// The word of a slot at which the four old words begin.
-const OLD_AT: usize = 3;
+/// The word of a slot at which the four old words begin: word 3.
+const OLD_AT: usize = SUM_AT - OLD_WORDS as usize;
 
-/// The word of a slot that holds the sum of those before it.
-const SUM_AT: usize = 7;
+/// The word of a slot that holds the sum of those before it: the last one, word 7.
+const SUM_AT: usize = SLOT_WORDS as usize - 1;
 
 /// Words as they were, to be put back. Any numbers make a record: whether its place and count mean something is its
 /// reader's to judge.
@@ -21,7 +22,7 @@ pub struct Undo {
     /// How many of the old words count, 1 to 4 in a record that a pool writes.
     pub count: u64,
     /// The old words, 0 past the count.
-    pub old: [u64; 4],
+    pub old: [u64; OLD_WORDS as usize],
 }
 
 impl Undo {
@@ -50,7 +51,7 @@ impl Undo {
         if slot[SUM_AT] != sum64(&slot[..SUM_AT]) {
             return None;
         }
-        let mut old = [0; 4];
+        let mut old = [0; OLD_WORDS as usize];
         old.copy_from_slice(&slot[OLD_AT..SUM_AT]);
         Some(Undo {
             generation: slot[0],

@@ -1,3 +1,4 @@
 pub mod Recovery
 pub mod Answers
 pub mod Steps
+pub mod Texts

@@ -4,7 +4,7 @@ ghost use Rattle.std.specs.Prelude.{◌≡◌, ◌⊎◌, ◌+◌, ◌*◌, ◌<
 ghost use Rattle.pm_recover.specs.Recovery.{IsOutside};
 ghost use Rattle.pm_recover.specs.Steps.{AreApplied};
 
-use pm_layout::{LANE_BYTES, PAGE_BYTES, WORD_BYTES};
+use pm_layout::{LANE_WORDS, PAGE_WORDS, WORD_BYTES};
 use pm_raw::RawImage;
 use pm_record::{Redo, apply};
 
@@ -35,6 +35,5 @@ fn is_outside(lanes: u64, word: u64) -> bool
     requires { lanes ≤ 32 }
     ensures { IsTrue result ↔ IsOutside lanes word }
 {
-    let areas = PAGE_BYTES / WORD_BYTES;
-    word < areas || areas + LANE_BYTES / WORD_BYTES * lanes <= word
+    word < PAGE_WORDS || PAGE_WORDS + LANE_WORDS * lanes <= word
 }

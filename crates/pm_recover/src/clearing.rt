@@ -6,25 +6,20 @@ ghost use Rattle.pm_image.specs.Steps.{HasLanes};
 ghost use Rattle.pm_recover.specs.Recovery.{IsOfSlot, without_stray};
 ghost use Rattle.pm_recover.specs.Steps.{AreCleared};
 
-use pm_image::{LOG_LENGTH, record_in_slot};
-use pm_layout::{LANE_BYTES, LINE_BYTES, PAGE_BYTES, WORD_BYTES};
+use pm_image::record_in_slot;
+use pm_layout::{LANE_LINES, LANE_WORDS, PAGE_LINES, PAGE_WORDS, SLOT_WORDS, SLOTS_AT, UNDO_SLOTS};
 use pm_raw::RawImage;
 
-/// Words of a slot.
-const SLOT_WORDS: u64 = LINE_BYTES / WORD_BYTES;
-
-/// The line of the first lane's first slot, and lines from a lane's slots to the next one's.
-const FIRST_SLOT: u64 = 81;
-
-const LANE_LINES: u64 = LANE_BYTES / LINE_BYTES;
+/// The line of the first lane's first slot: line 81.
+const FIRST_SLOT: u64 = PAGE_LINES + SLOTS_AT;
 
 /// Clears each stray record of so many lanes.
 pub fn clear_strays(image: &mut RawImage, lanes: u64)
     requires { HasLanes image.old lanes }
     ensures { AreCleared image.old image.new (64 * lanes) }
 {
-    for number in 0..LOG_LENGTH * lanes {
-        clear_stray(image, number / LOG_LENGTH, number % LOG_LENGTH);
+    for number in 0..UNDO_SLOTS * lanes {
+        clear_stray(image, number / UNDO_SLOTS, number % UNDO_SLOTS);
     }
 }
 
@@ -36,7 +31,7 @@ fn clear_stray(image: &mut RawImage, lane: u64, slot: u64)
     ensures slot { undo_slot image.new lane slot ≡ without_stray (generation_word image.old lane) (undo_slot image.old lane slot) }
     ensures others { (i : ℕ) → (IsOfSlot lane slot i → ⊥) → slice_index image.new i ≡ slice_index image.old i }
 {
-    let generation = image.word((PAGE_BYTES + LANE_BYTES * lane) / WORD_BYTES);
+    let generation = image.word(PAGE_WORDS + LANE_WORDS * lane);
     if let Some(found) = record_in_slot(image, lane, slot)
         && found.generation >= generation
     {

@@ -7,8 +7,8 @@ ghost use Rattle.pm_image.specs.Logs.{records};
 ghost use Rattle.pm_image.specs.Steps.{valid_record};
 ghost use Rattle.pm_recover.specs.Steps.{AreRestored, HasSoundLogs};
 
-use pm_image::{LOG_LENGTH, valid_record};
-use pm_layout::WORD_BYTES;
+use pm_image::valid_record;
+use pm_layout::{UNDO_SLOTS, WORD_BYTES};
 use pm_raw::RawImage;
 use pm_record::Undo;
 
@@ -27,7 +27,7 @@ fn restore_lane(image: &mut RawImage, lane: u64)
     requires { HasSoundLogs image.old (lane + 1) }
     ensures { AreRestored (records image.old lane) image.old image.new }
 {
-    for slot in (0..LOG_LENGTH).rev() {
+    for slot in (0..UNDO_SLOTS).rev() {
         restore_slot(image, lane, slot);
     }
 }

@@ -6,8 +6,8 @@ ghost use Rattle.pm_image.specs.Steps.{HasLanes};
 ghost use Rattle.pm_recover.specs.Recovery.{generation_after, has_record, has_torn_slot, is_raised};
 ghost use Rattle.pm_recover.specs.Steps.{AreSettled, HasSoundLogs};
 
-use pm_image::{LOG_LENGTH, MAX_GENERATION, generation, is_sealed, record_in_slot, valid_record};
-use pm_layout::{LANE_BYTES, PAGE_BYTES, WORD_BYTES};
+use pm_image::{generation, is_sealed, record_in_slot, valid_record};
+use pm_layout::{GENERATION_AT, LANE_WORDS, MAX_GENERATION, PAGE_WORDS, SEAL_AT, UNDO_SLOTS};
 use pm_raw::RawImage;
 
 /// Ends the logs of so many lanes.
@@ -30,9 +30,9 @@ fn settle_lane(image: &mut RawImage, lane: u64)
     ensures others { (i : ℕ) → i ≢ area_word lane → i ≢ area_word lane + 1 → slice_index image.new i ≡ slice_index image.old i }
 {
     let generation = generation_after(image, lane);
-    let area = (PAGE_BYTES + LANE_BYTES * lane) / WORD_BYTES;
-    image.set(area, generation);
-    image.set(area + 1, 0);
+    let area = PAGE_WORDS + LANE_WORDS * lane;
+    image.set(area + GENERATION_AT, generation);
+    image.set(area + SEAL_AT, 0);
 }
 
 /// The generation that the lane goes on with: that of its last entry where it is sealed, the next one where it left a record or a
@@ -65,7 +65,7 @@ fn has_record(image: &RawImage, lane: u64) -> bool
     requires { HasLanes image.now (lane + 1) }
     ensures { result ≡ has_record image.now lane }
 {
-    for slot in 0..LOG_LENGTH {
+    for slot in 0..UNDO_SLOTS {
         if valid_record(image, lane, slot).is_some() {
             return true;
         }
@@ -78,7 +78,7 @@ fn has_torn_slot(image: &RawImage, lane: u64) -> bool
     requires { HasLanes image.now (lane + 1) }
     ensures { result ≡ has_torn_slot image.now lane }
 {
-    for slot in 0..LOG_LENGTH {
+    for slot in 0..UNDO_SLOTS {
         if record_in_slot(image, lane, slot).is_none() {
             return true;
         }

@@ -1,8 +1,9 @@
 ghost use Rattle.std.specs.Prelude.{◌≡◌, ◌<◌, length, IfOk};
 
 use super::*;
-use pm_header::{Header, Name, PAGE_WORDS, encode};
+use pm_header::{Header, Name, encode};
 use pm_image::ImageFault;
+use pm_layout::PAGE_WORDS;
 use pm_raw::RawImage;
 use pm_record::Undo;
 use std::alloc::Global;
@@ -28,7 +29,7 @@ const FIRST_SLOT: u64 = 81;
 type Slot = (u64, u64, u64);
 
 /// The header page of an empty pool of that length.
-fn page() -> Result<[u64; PAGE_WORDS], Fail> {
+fn page() -> Result<[u64; PAGE_WORDS as usize], Fail> {
     let name = Name::new("demo".as_bytes()).ok_or("a name")?;
     let header = Header {
         version: 1,
@@ -38,7 +39,7 @@ fn page() -> Result<[u64; PAGE_WORDS], Fail> {
         bytes: 8 * WORDS,
         name,
     };
-    let mut page = [0; PAGE_WORDS];
+    let mut page = [0; PAGE_WORDS as usize];
     encode(&header, &mut page);
     Ok(page)
 }
@@ -49,7 +50,7 @@ fn pool(alloc: Global, generation: u64, slots: &[Slot]) -> Result<RawImage, Fail
 {
     let mut image = RawImage::new(alloc, WORDS)?;
     let page = page()?;
-    for i in 0..PAGE_WORDS {
+    for i in 0..PAGE_WORDS as usize {
         image.set(i as u64, page[i]);
     }
     image.set(GENERATION, generation);

@@ -4,4 +4,5 @@ pub mod Operands
 pub mod Reading
 pub mod Scripts
 pub mod Stops
+pub mod Texts
 pub mod Words

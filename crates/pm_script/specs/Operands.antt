@@ -41,6 +41,7 @@ size_in_range n = if nat_le 1 n && nat_le n 4096 then Some n else None
 abbrev pub size_of : List ℕ → Option ℕ
 size_of word = option_and_then size_in_range (number_of word)
 
+-- each of the following: the word has the form
 abbrev pub is_number : List ℕ → Bool
 is_number word = is_some (number_of word)
 

@@ -114,6 +114,7 @@ said context (word ∷ operands) = option_and_then (λ keyword. statement_of con
 
 -- ---- where a line stands
 
+-- the open transaction is the lane's
 abbrev pub is_of_lane : ℕ → OpenTransaction → Bool
 is_of_lane lane transaction = transaction.lane == lane
 
@@ -209,6 +210,7 @@ has_ids context keyword operands = true
 abbrev pub is_lane : List ℕ → Bool
 is_lane word = option_map_or (λ lane. nat_lt lane 32) (number_of word) false
 
+-- LaneNumber: the number of a `lane` line is 0 to 31
 abbrev pub has_lane_number : Keyword → List (List ℕ) → Bool
 has_lane_number Lane (lane ∷ []) = is_lane lane
 has_lane_number keyword operands = true
@@ -385,6 +387,7 @@ pub data AreCalls : List ScriptOp → Type 0 where
   transaction : (one others : List ScriptOp) → IsTransaction one → AreCalls others → AreCalls (one ++ others)
   outside : (one : ScriptOp) (others : List ScriptOp) → IsOutside one → AreCalls others → AreCalls (one ∷ others)
 
+-- what the lines of a script say
 abbrev pub operations : List ScriptLine → List ScriptOp
 operations lines = map (λ (line : ScriptLine). line.operation) lines
 

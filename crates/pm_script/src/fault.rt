@@ -1,68 +1,102 @@
-ghost use Rattle.std.specs.Prelude.{◌≡◌, alloc_error};
+ghost use Rattle.std.specs.Prelude.{◌≡◌, Some, alloc_error};
 ghost use Rattle.pm_script.specs.Reading.{fault_at};
+ghost use Rattle.pm_script.specs.Texts.{bad_line_text, script_fault_text, why_text};
 ghost use Rattle.pm_script.specs.declared.fault.LineFault.TheVariants as line_fault;
 ghost use Rattle.pm_script.specs.declared.fault.ScriptFault.TheVariants.{Memory};
 
 use std::alloc::{AllocError, AllocFailed};
-use thiserror::Error;
+use std::error::Error;
+use std::fmt;
 
 /// What is wrong with a line of a script, in the order in which one line is tried.
-#[derive(Clone, Copy, Debug, PartialEq, Eq, Error)]
+#[derive(Clone, Copy, Debug, PartialEq, Eq)]
 pub enum Why {
     /// A byte is not one of 0x20 to 0x7E.
-    #[error("Text")]
     Text,
     /// The first word is none of a script's.
-    #[error("Word")]
     Word,
     /// The first word takes another number of operands.
-    #[error("Count")]
     Count,
     /// An operand is not the number that it is to be, or is out of its range.
-    #[error("Number")]
     Number,
     /// An operand is not 1 to 4,096 bytes of two hexadecimal digits each.
-    #[error("Hex")]
     Hex,
     /// An operand names no object, as by a letter that no line of the lane has bound, or is not the letter that it is to be.
-    #[error("Letter")]
     Letter,
     /// A lane of 32 or more.
-    #[error("LaneNumber")]
     LaneNumber,
     /// No lane was named before.
-    #[error("NoLane")]
     NoLane,
     /// A begin while a transaction of the lane is open.
-    #[error("Inside")]
     Inside,
     /// An add, a write, a read, an alloc, a free or a commit while no transaction of the lane is open.
-    #[error("Outside")]
     Outside,
     /// The transaction that the line begins is never closed.
-    #[error("Open")]
     Open,
 }
 
+impl fmt::Display for Why {
+    ghost output = { λ why. Some (why_text why) };
+
+    fn fmt<W: fmt::Write>(&self, f: &mut fmt::Formatter<W>) -> fmt::Result {
+        f.write_str(match self {
+            Why::Text => "Text",
+            Why::Word => "Word",
+            Why::Count => "Count",
+            Why::Number => "Number",
+            Why::Hex => "Hex",
+            Why::Letter => "Letter",
+            Why::LaneNumber => "LaneNumber",
+            Why::NoLane => "NoLane",
+            Why::Inside => "Inside",
+            Why::Outside => "Outside",
+            Why::Open => "Open",
+        })
+    }
+}
+
+impl Error for Why {}
+
 /// The first bad line of a script.
-#[derive(Clone, Copy, Debug, PartialEq, Eq, Error)]
-#[error("bad script line {line} {why}")]
+#[derive(Clone, Copy, Debug, PartialEq, Eq)]
 pub struct BadLine {
     /// The line's number, from 1 on.
     pub line: u64,
     pub why: Why,
 }
 
+impl fmt::Display for BadLine {
+    ghost output = { λ bad. Some (bad_line_text bad) };
+
+    fn fmt<W: fmt::Write>(&self, f: &mut fmt::Formatter<W>) -> fmt::Result {
+        let BadLine { line, why } = self;
+        write!(f, "bad script line {line} {why}")
+    }
+}
+
+impl Error for BadLine {}
+
 /// Why a text gave no script.
-#[derive(Clone, Copy, Debug, PartialEq, Eq, Error)]
+#[derive(Clone, Copy, Debug, PartialEq, Eq)]
 pub enum ScriptFault {
     /// The text is no script: this is its first bad line.
-    #[error("{0}")]
     Bad(BadLine),
     /// There was no memory.
-    #[error("no memory")]
     Memory(AllocError),
 }
+
+impl fmt::Display for ScriptFault {
+    ghost output = { λ fault. Some (script_fault_text fault) };
+
+    fn fmt<W: fmt::Write>(&self, f: &mut fmt::Formatter<W>) -> fmt::Result {
+        match self {
+            ScriptFault::Bad(bad) => write!(f, "{bad}"),
+            ScriptFault::Memory(_) => f.write_str("no memory"),
+        }
+    }
+}
+
+impl Error for ScriptFault {}
 
 impl From<AllocError> for ScriptFault {
     ghost from_gives = { λ _ fault. fault ≡ Memory alloc_error };

@@ -10,11 +10,9 @@ use crate::fault::{LineFault, Why};
 use crate::numbers::number;
 use crate::operands::{bytes_of, id_of, letter_of, size_of, want_of};
 use crate::script::ScriptOp;
+use pm_layout::MAX_LANES;
 use pm_objects::Sequence;
 use std::alloc::Global;
-
-/// How many lanes there are.
-const LANES: u64 = 32;
 
 /// The first word of a line.
 #[derive(Clone, Copy, Debug, PartialEq, Eq)]
@@ -102,7 +100,7 @@ fn lane_of(operands: &[&str]) -> Result<Statement, LineFault>
         return Err(LineFault::Bad(Why::Count));
     };
     let lane = number(lane).ok_or(Why::Number)?;
-    if lane >= LANES {
+    if lane >= MAX_LANES {
         return Err(LineFault::Bad(Why::LaneNumber));
     }
     Ok(Statement::Lane(lane))

@@ -4,14 +4,18 @@ ghost use Rattle.pm_shelf.specs.Plan.{one_more};
 
 use crate::{Shelf, ShelfFault};
 use std::fs::File;
-use std::io;
 use std::io::{ErrorKind, Read, Write};
 use std::rt::Files;
+use std::{fs, io};
 
 /// The files of the system, each named by its path. It tells nothing of what they hold, and never
 /// answers `Missing` or `Exists`: each error of the file system is `Failed`, and raises the count
 /// of faults by one, up to the largest `u64`. Only want of memory in a read is `Memory`. A write
 /// makes a new file and touches none that is there; it doesn't wait until the disk has the bytes.
+/// Where it fails after it made the file, as on a full disk or for want of memory, it removes that
+/// file again, and nothing is left half written. Where the removal fails too, the file stays with a
+/// part of the bytes, and the answer is still the write's. Where the file could not be made, as
+/// where the name is there already, nothing is removed.
 #[derive(Drop)]
 pub struct FileShelf<R> {
     rt: R,
@@ -57,8 +61,15 @@ fn read_front<R: Files>(rt: &R, path: &str, limit: u64, into: &mut Vec<u8>) -> i
     Ok(())
 }
 
+/// Makes a file with these bytes, or none: a file that it made and could not write it removes.
 fn write_new<R: Files>(rt: &R, path: &str, bytes: &[u8]) -> io::Result<()> {
-    File::create_new(rt, path)?.write_all(bytes)
+    // The file is closed at the end of this line.
+    let written = File::create_new(rt, path)?.write_all(bytes);
+    if written.is_err() {
+        // The write failed already, and whatever becomes of the removal, that is the answer.
+        let _ = fs::remove_file(rt, path);
+    }
+    written
 }
 
 impl<R: Files> Shelf for FileShelf<R> {

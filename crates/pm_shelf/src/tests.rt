@@ -1,9 +1,11 @@
 use super::*;
-use std::alloc::Global;
+use std::alloc::{Allocator, Global};
 use std::env::temp_dir;
 use std::fmt::Display;
-use std::io::ErrorKind;
+use std::fs::{Metadata, OpenFile, OpenOptions};
+use std::io::{ErrorKind, Read, Seek, SeekFrom, Write};
 use std::process::id;
+use std::rt::Files;
 use std::test::Fail;
 use std::{fs, io};
 
@@ -21,6 +23,117 @@ impl Print for ClosedOutput {
 
     fn write_all(&self, _bytes: &[u8]) -> io::Result<()> {
         Err(ErrorKind::BrokenPipe.into())
+    }
+}
+
+/// The files of a runtime on a disk that has room for two bytes more, and on which a file can be
+/// removed or not.
+#[derive(Drop)]
+struct FullDisk<R> {
+    rt: R,
+    removes: bool,
+}
+
+/// A file that takes two bytes at its first write, and then no more.
+#[derive(Drop)]
+struct FullFile<F> {
+    file: F,
+    is_full: bool,
+}
+
+impl<F: Read> Read for FullFile<F> {
+    fn read(&mut self, buf: &mut [u8]) -> io::Result<usize> {
+        self.file.read(buf)
+    }
+}
+
+impl<F: Write> Write for FullFile<F> {
+    fn write(&mut self, buf: &[u8]) -> io::Result<usize> {
+        if self.is_full {
+            return Err(ErrorKind::StorageFull.into());
+        }
+        self.is_full = true;
+        self.file.write(&buf[..buf.len().min(2)])
+    }
+
+    fn flush(&mut self) -> io::Result<()> {
+        self.file.flush()
+    }
+}
+
+impl<F: Seek> Seek for FullFile<F> {
+    fn seek(&mut self, pos: SeekFrom) -> io::Result<u64> {
+        self.file.seek(pos)
+    }
+}
+
+impl<F: OpenFile> OpenFile for FullFile<F> {
+    fn metadata(&self) -> io::Result<Metadata> {
+        self.file.metadata()
+    }
+
+    fn set_len(&self, size: u64) -> io::Result<()> {
+        self.file.set_len(size)
+    }
+
+    fn sync_all(&self) -> io::Result<()> {
+        self.file.sync_all()
+    }
+
+    fn sync_data(&self) -> io::Result<()> {
+        self.file.sync_data()
+    }
+}
+
+impl<R: Files> Files for FullDisk<R> {
+    type File = FullFile<R::File>;
+
+    type Dir = R::Dir;
+
+    fn open_file(&self, how: &OpenOptions, path: &str) -> io::Result<FullFile<R::File>> {
+        Ok(FullFile {
+            file: self.rt.open_file(how, path)?,
+            is_full: false,
+        })
+    }
+
+    fn open_dir(&self, path: &str) -> io::Result<R::Dir> {
+        self.rt.open_dir(path)
+    }
+
+    fn metadata(&self, path: &str) -> io::Result<Metadata> {
+        self.rt.metadata(path)
+    }
+
+    fn symlink_metadata(&self, path: &str) -> io::Result<Metadata> {
+        self.rt.symlink_metadata(path)
+    }
+
+    fn copy(&self, from: &str, to: &str) -> io::Result<u64> {
+        self.rt.copy(from, to)
+    }
+
+    fn rename(&self, from: &str, to: &str) -> io::Result<()> {
+        self.rt.rename(from, to)
+    }
+
+    fn remove_file(&self, path: &str) -> io::Result<()> {
+        if !self.removes {
+            return Err(ErrorKind::PermissionDenied.into());
+        }
+        self.rt.remove_file(path)
+    }
+
+    fn create_dir(&self, path: &str) -> io::Result<()> {
+        self.rt.create_dir(path)
+    }
+
+    fn remove_dir(&self, path: &str) -> io::Result<()> {
+        self.rt.remove_dir(path)
+    }
+
+    fn remove_dir_all<B: Allocator>(&self, alloc: B, path: &str) -> io::Result<()> {
+        self.rt.remove_dir_all(alloc, path)
     }
 }
 
@@ -133,6 +246,51 @@ fn a_file_is_written_once(rt: HostRuntime) -> Result<(), Fail> {
         assert_eq!(rt; result, Err(ShelfFault::Failed), "{path}");
         assert_eq!(rt; shelf.faults(), faults, "{path}");
     }
+    Ok(())
+}
+
+/// A write that fails leaves a file only where it could not remove the one that it made, or where
+/// the file is not its own.
+#[test]
+fn a_failed_write_leaves_no_part(rt: HostRuntime) -> Result<(), Fail> {
+    let folder = temp_dir(&rt)?;
+    let name = format!(in rt.alloc(); "pm_shelf_part_{}", id(rt.process()))?;
+    let path = folder.as_path().join(rt.alloc(), name.as_str())?;
+    let path = path.as_path().as_str();
+    let beneath = format!(in rt.alloc(); "{path}/name")?;
+    let mut shelf = FileShelf::new(&rt);
+    // No file can be made in a folder that is not there.
+    assert_eq!(rt;
+        write(&mut shelf, beneath.as_str(), "1234"),
+        Err(ShelfFault::Failed)
+    );
+    assert!(rt; fs::metadata(&rt, beneath.as_str()).is_err());
+
+    for (removes, text, want, left) in [
+        (true, "1234", Err(ShelfFault::Failed), None),
+        (true, "12", Ok(()), Some("12")),
+        // The file is another write's.
+        (true, "3456", Err(ShelfFault::Failed), Some("12")),
+        (false, "3456", Err(ShelfFault::Failed), Some("12")),
+    ] {
+        let mut full = FileShelf::new(FullDisk { rt: &rt, removes });
+        assert_eq!(rt; write(&mut full, path, text), want, "{text}");
+        let (result, bytes) = read(rt.alloc(), &mut shelf, path, 9);
+        assert_eq!(rt; result.is_ok(), left.is_some(), "{text}");
+        assert_eq!(rt; bytes.as_slice(), left.unwrap_or("").as_bytes(), "{text}");
+    }
+    fs::remove_file(&rt, path)?;
+
+    let mut stuck = FileShelf::new(FullDisk {
+        rt: &rt,
+        removes: false,
+    });
+    assert_eq!(rt; write(&mut stuck, path, "1234"), Err(ShelfFault::Failed));
+    assert_eq!(rt; stuck.faults(), 1);
+    let (result, bytes) = read(rt.alloc(), &mut shelf, path, 9);
+    assert_eq!(rt; result, Ok(()));
+    assert_eq!(rt; bytes.as_slice(), b"12".as_slice());
+    fs::remove_file(&rt, path)?;
     Ok(())
 }
 

@@ -5,55 +5,12 @@ use Rattle.std.specs.List.{enumerate_from, flat_map}
 use Rattle.pm_objects.specs.declared.history.Entry.{Entry}
 use Rattle.pm_objects.specs.declared.history.Fate.{Fate}
 use Rattle.pm_objects.specs.declared.history.Fate.TheVariants as fate
-use Rattle.pm_objects.specs.declared.history.TxErr.{TxErr}
-use Rattle.pm_objects.specs.declared.history.TxErr.TheVariants as error
 use Rattle.pm_objects.specs.declared.history.Value.{Value}
 use Rattle.pm_objects.specs.declared.history.Value.TheVariants as value
-use Rattle.pm_objects.specs.declared.refusal.Refusal.{Refusal}
-use Rattle.pm_objects.specs.declared.refusal.Refusal.TheVariants.{NotWork, InTx, NoTx, BadSize, NoObject, NotLocked, OutOfRange, NotAdded, LogFull, ActionsFull, NoSpace, Listed, Busy, Spent, Stopped, NotInList, Short, RootKept, Deep, LocksFull, Unaligned, NotReserved}
+use Rattle.pm_objects.specs.Texts.{error_text, refusal_text}
 use Rattle.pm_text.specs.Dump.{hex_of}
 use Rattle.pm_text.specs.declared.report.LaneEnd.{LaneEnd}
 use Rattle.pm_text.specs.declared.report.LaneEnd.TheVariants as end
-
--- a refusal's name, `Short` without its number
-abbrev pub refusal_name : Refusal → List ℕ
-refusal_name NotWork = codes "NotWork"
-refusal_name InTx = codes "InTx"
-refusal_name NoTx = codes "NoTx"
-refusal_name BadSize = codes "BadSize"
-refusal_name NoObject = codes "NoObject"
-refusal_name NotLocked = codes "NotLocked"
-refusal_name OutOfRange = codes "OutOfRange"
-refusal_name NotAdded = codes "NotAdded"
-refusal_name LogFull = codes "LogFull"
-refusal_name ActionsFull = codes "ActionsFull"
-refusal_name NoSpace = codes "NoSpace"
-refusal_name Listed = codes "Listed"
-refusal_name Busy = codes "Busy"
-refusal_name Spent = codes "Spent"
-refusal_name Stopped = codes "Stopped"
-refusal_name NotInList = codes "NotInList"
-refusal_name (Short members) = codes "Short"
-refusal_name RootKept = codes "RootKept"
-refusal_name Deep = codes "Deep"
-refusal_name LocksFull = codes "LocksFull"
-refusal_name Unaligned = codes "Unaligned"
-refusal_name NotReserved = codes "NotReserved"
-
--- what stands behind the name
-abbrev pub refusal_number : Refusal → List ℕ
-refusal_number (Short members) = codes " " ++ decimal members
-refusal_number refusal = []
-
-abbrev pub refusal_text : Refusal → List ℕ
-refusal_text refusal = refusal_name refusal ++ refusal_number refusal
-
--- why a transaction was aborted
-abbrev pub error_text : TxErr → List ℕ
-error_text error.None = codes "no error"
-error_text error.Canceled = codes "ECANCELED"
-error_text (error.User number) = decimal number
-error_text (error.Refused refusal) = refusal_text refusal
 
 -- what became of a call, and for one that was aborted the line that did it
 abbrev pub fate_text : Fate → ℕ → List ℕ

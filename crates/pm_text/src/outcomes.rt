@@ -1,6 +1,7 @@
 //! What a call came to, appended to a text: its fate, its values, and why it was refused.
 ghost use Rattle.std.specs.Prelude.{◌≡◌, ◌++◌, OnOk};
-ghost use Rattle.pm_text.specs.Report.{error_text, fate_text, members_text, refusal_name, refusal_text, value_text};
+ghost use Rattle.pm_objects.specs.Texts.{error_text, refusal_text};
+ghost use Rattle.pm_text.specs.Report.{fate_text, members_text, value_text};
 
 use crate::digits::{push_decimal, push_hex};
 use pm_objects::{Fate, Refusal, TxErr, Value};
@@ -32,13 +33,8 @@ pub(crate) fn push_fate(out: &mut Vec<u8>, fate: Fate, at: u64) -> Result<(), Al
 fn push_error(out: &mut Vec<u8>, error: TxErr) -> Result<(), AllocError>
     ensures { OnOk result (out.new.items ≡ out.old.items ++ error_text error) }
 {
-    match error {
-        TxErr::None => out.extend_from_slice(b"no error")?,
-        TxErr::Canceled => out.extend_from_slice(b"ECANCELED")?,
-        TxErr::User(number) => push_decimal(out, u64::from(number))?,
-        TxErr::Refused(refusal) => push_refusal(out, refusal)?,
-    }
-    Ok(())
+    let text = error.to_string(*out.allocator())?;
+    out.extend_from_slice(text.as_bytes())
 }
 
 /// Appends a value.
@@ -70,44 +66,10 @@ fn push_members(out: &mut Vec<u8>, offs: &[u64]) -> Result<(), AllocError>
     Ok(())
 }
 
-/// Appends a refusal's name, and the number behind `Short`.
+/// Appends a refusal's text.
 fn push_refusal(out: &mut Vec<u8>, refusal: Refusal) -> Result<(), AllocError>
     ensures { OnOk result (out.new.items ≡ out.old.items ++ refusal_text refusal) }
 {
-    out.extend_from_slice(refusal_name(refusal))?;
-    if let Refusal::Short(members) = refusal {
-        out.push(b' ')?;
-        push_decimal(out, members)?;
-    }
-    Ok(())
-}
-
-/// A refusal's name, `Short` without its number.
-fn refusal_name(refusal: Refusal) -> &'static [u8]
-    ensures { result.now ≡ refusal_name refusal }
-{
-    match refusal {
-        Refusal::NotWork => b"NotWork",
-        Refusal::InTx => b"InTx",
-        Refusal::NoTx => b"NoTx",
-        Refusal::BadSize => b"BadSize",
-        Refusal::NoObject => b"NoObject",
-        Refusal::NotLocked => b"NotLocked",
-        Refusal::OutOfRange => b"OutOfRange",
-        Refusal::NotAdded => b"NotAdded",
-        Refusal::LogFull => b"LogFull",
-        Refusal::ActionsFull => b"ActionsFull",
-        Refusal::NoSpace => b"NoSpace",
-        Refusal::Listed => b"Listed",
-        Refusal::Busy => b"Busy",
-        Refusal::Spent => b"Spent",
-        Refusal::Stopped => b"Stopped",
-        Refusal::NotInList => b"NotInList",
-        Refusal::Short(_) => b"Short",
-        Refusal::RootKept => b"RootKept",
-        Refusal::Deep => b"Deep",
-        Refusal::LocksFull => b"LocksFull",
-        Refusal::Unaligned => b"Unaligned",
-        Refusal::NotReserved => b"NotReserved",
-    }
+    let text = refusal.to_string(*out.allocator())?;
+    out.extend_from_slice(text.as_bytes())
 }

@@ -11,3 +11,4 @@ pub mod Counts
 pub mod Views
 pub mod Founds
 pub mod LockWords
+pub mod Limits

@@ -21,8 +21,10 @@ patched from bytes word =
     let old : List ℕ = bytes_of (word ∷ []) in
     word_at (take from old ++ bytes ++ drop (from + length bytes) old) 0
 
+-- each number of the list is a byte
 abbrev pub AreBytes : List ℕ → Type 0
 AreBytes bytes = (i : ℕ) → slice_index bytes i < 256
 
+-- each number of the list is a word
 abbrev pub AreWords : List ℕ → Type 0
 AreWords words = (i : ℕ) → slice_index words i < 2 ^ 64

@@ -1,10 +1,6 @@
 ghost use Rattle.std.specs.Prelude.{◌≡◌, ◌/◌};
 
-/// Bytes of a word.
-const WORD_BYTES: u64 = 8;
-
-/// Bytes of a line.
-const LINE_BYTES: u64 = 64;
+use pm_layout::{LINE_BYTES, WORD_BYTES};
 
 /// The line of 64 bytes that holds the byte at this place.
 pub fn line_of(place: u64) -> u64

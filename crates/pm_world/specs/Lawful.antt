@@ -3,7 +3,8 @@ use Rattle.std.specs.Prelude.{◌≡◌, ◌≢◌, ◌⊎◌, ℕ, zero, suc, �
 use Rattle.std.specs.Int.{bit_at}
 use Rattle.std.specs.List.{list_any}
 use Rattle.pm_layout.specs.declared.shape.Shape.{Shape}
-use Rattle.pm_layout.specs.Areas.{undo_slots, slot_words, old_words, redo_entries, word_of_generation, word_of_seal, word_of_entry, line_of_slot, greatest_generation}
+use Rattle.pm_layout.specs.Areas.{undo_slots, slot_words, old_words, redo_entries, word_of_generation, word_of_seal, word_of_entry, line_of_slot}
+use Rattle.pm_view.specs.Limits.{greatest_generation}
 use Rattle.pm_layout.specs.Chunks.{words_of, chunks_of, word_of_chunk, page_of_chunk, line_of_chunk}
 use Rattle.pm_layout.specs.Sizes.{blocks_of}
 use Rattle.pm_record.specs.Redo.{op_code}

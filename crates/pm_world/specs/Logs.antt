@@ -2,7 +2,8 @@
 use Rattle.std.specs.Prelude.{◌≡◌, ◌≢◌, ◌⊎◌, ℕ, suc, ◌+◌, ◌-◌, ◌*◌, ◌/◌, ◌^◌, ◌<◌, ◌≤◌, Bool, true, false, cond, ◌==◌, not, All, Any, Contains, List, [], ◌∷◌, ◌++◌, length, replicate, slice_get, slice_index, Option, None, Some, IfSome}
 use Rattle.std.specs.Int.{bit_at}
 use Rattle.pm_layout.specs.declared.shape.Shape.{Shape}
-use Rattle.pm_layout.specs.Areas.{undo_slots, slot_words, old_words, redo_entries, word_of_generation, word_of_seal, line_of_slot, greatest_generation}
+use Rattle.pm_layout.specs.Areas.{undo_slots, slot_words, old_words, redo_entries, word_of_generation, word_of_seal, line_of_slot}
+use Rattle.pm_view.specs.Limits.{greatest_generation}
 use Rattle.pm_record.specs.Undo.{undo_of, undo_words}
 use Rattle.pm_record.specs.declared.undo.Undo.{Undo}
 use Rattle.pm_record.specs.declared.redo.Op.{Op}

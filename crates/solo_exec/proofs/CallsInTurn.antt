@@ -32,14 +32,16 @@ use Rattle.solo_exec.proofs.Starts.{start_lane}
 use Rattle.solo_pending.specs.declared.pending.PendingActions.{PendingActions}
 use Rattle.solo_exec.specs.declared.ending.CallAnswer.{CallAnswer}
 
--- a shape is how many lanes and zones there are
+-- a shape is how many lanes and zones there are: layouts have one version
 one_shape : (a b : Shape) → a.lanes ≡ b.lanes → a.zones ≡ b.zones → a ≡ b
 one_shape a b lanes zones =
-    let is_same : (m z : ℕ) → Type 0 = λ m z. (l : 1 ≤ m) (h : m ≤ 32) (k : 1 ≤ z) (j : z ≤ 32) → a ≡ record { lanes = m; zones = z; lanes_from = l; lanes_to = h; zones_from = k; zones_to = j } in
-    subst (λ m. is_same m b.zones) lanes
-    (subst (is_same a.lanes) zones
-    (λ l h k j i. record { lanes = a.lanes; zones = a.zones; lanes_from = le_prop a.lanes_from l i; lanes_to = le_prop a.lanes_to h i; zones_from = le_prop a.zones_from k i; zones_to = le_prop a.zones_to j i }))
-    b.lanes_from b.lanes_to b.zones_from b.zones_to
+    let is_same : (n m z : ℕ) → Type 0 = λ n m z. (f : 1 ≤ n) (t : n ≤ 1) (l : 1 ≤ m) (h : m ≤ 32) (k : 1 ≤ z) (j : z ≤ 32) → a ≡ record { version = n; lanes = m; zones = z; version_from = f; version_to = t; lanes_from = l; lanes_to = h; zones_from = k; zones_to = j } in
+    let version : a.version ≡ b.version = (let from = a.version_from in let to = a.version_to in let other_from = b.version_from in let other_to = b.version_to in omega (arith, from, to, other_from, other_to)) in
+    subst (λ n. is_same n b.lanes b.zones) version
+    (subst (λ m. is_same a.version m b.zones) lanes
+    (subst (is_same a.version a.lanes) zones
+    (λ f t l h k j i. record { version = a.version; lanes = a.lanes; zones = a.zones; version_from = le_prop a.version_from f i; version_to = le_prop a.version_to t i; lanes_from = le_prop a.lanes_from l i; lanes_to = le_prop a.lanes_to h i; zones_from = le_prop a.zones_from k i; zones_to = le_prop a.zones_to j i })))
+    b.version_from b.version_to b.lanes_from b.lanes_to b.zones_from b.zones_to
 
 -- its entry is the last
 entries_then : (names : Names) (calls : List (List ScriptLine)) (history : List Entry) (entries : List Numbered) (call : List ScriptLine) (e : Entry) (n : Numbered)

@@ -1,4 +1,9 @@
+use Rattle.std.proofs.Common.{List, ap, ◌∙◌}
+use Rattle.solo_view.specs.declared.change.Change.{Change}
+use Rattle.solo_view.specs.Changes.{drained}
 use Rattle.solo_view.specs.Steps.Step.{Drain}
+use Rattle.solo_memory.specs.Solo.{Solo}
+use Rattle.solo_memory.specs.contracts.solo.SoloMem.{the_view}
 use Rattle.solo_memory.proofs.Making.{stopped_instead, drained_made}
 use Rattle.solo_memory.proofs.solo_lane.SoloMemLaneMem.drain.Goals as goal
 
@@ -6,4 +11,7 @@ pub returns-in_err-count-clause-made : goal.returns-in_err-count-clause-made
 returns-in_err-count-clause-made c = stopped_instead c.args.self.now c.count.new.self (λ _. Drain) c.from_residual.result c.from_residual.ensures.0 c.in_err-count.ensures.err c.in_err-count.ensures.stop
 
 pub returns-clause-made : goal.returns-clause-made
-returns-clause-made c = drained_made c.args.self.now c.count.new.self _ c.in_ok-count.ensures.more c.in_ok-count.ensures.fits c.in_ok-count.ensures.ok cc
+returns-clause-made c =
+    let changes = ap (λ (left : List Change). the_view (record c.self.inside { changes = left })) c.drain.ensures in
+    drained_made c.args.self.now c.count.new.self _ c.in_ok-count.ensures.more c.in_ok-count.ensures.fits c.in_ok-count.ensures.ok
+    (changes ∙ ap (λ (before : Solo). record before { changes = drained before.changes }) c.self.view_is)

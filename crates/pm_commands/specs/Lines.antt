@@ -1,0 +1,106 @@
+-- The lines that commands print, each with its line feed: docs/COMMANDS.md.
+use Rattle.std.specs.Prelude.{ℕ, ◌==◌, if◌then◌else◌, List, ◌++◌, codes}
+use Rattle.std.specs.Fmt.{decimal}
+use Rattle.pm_layout.specs.Layout.{pool_size}
+use Rattle.pm_pool.specs.Created.{Wanted, root_offset}
+use Rattle.pm_image.specs.Texts.{fault_text}
+use Rattle.pm_image.specs.declared.fault.ImageFault.{ImageFault}
+use Rattle.pm_commands.specs.declared.failure.Refusal.{Refusal}
+use Rattle.pm_commands.specs.declared.failure.Refusal.TheVariants.{BadShape, BadId, BadLayout, BadSize}
+use Rattle.pm_commands.specs.declared.failure.Failure.{Failure}
+use Rattle.pm_commands.specs.declared.failure.Failure.TheVariants.{Usage, Refused, Faulty, OtherLayout, FewerLanes, NotRead, TooLong, BadScript, NotWritten, NoMemory}
+use Rattle.solo_script.specs.declared.fault.BadLine.{BadLine}
+use Rattle.solo_script.specs.declared.fault.Why.{Why}
+use Rattle.solo_script.specs.declared.fault.Why.TheVariants as why
+use Rattle.pm_commands.specs.declared.status.Status.{Status}
+use Rattle.pm_commands.specs.declared.status.Status.TheVariants as status
+
+abbrev pub refusal_text : Refusal → List ℕ
+refusal_text BadShape = codes "BadShape"
+refusal_text BadId = codes "BadId"
+refusal_text BadLayout = codes "BadLayout"
+refusal_text BadSize = codes "BadSize"
+
+abbrev pub usage_line : List ℕ
+usage_line = codes "usage\n"
+
+abbrev pub refused_line : Refusal → List ℕ
+refused_line refusal = codes "refused " ++ refusal_text refusal ++ codes "\n"
+
+-- the image's fault
+abbrev pub faulty_line : ImageFault → List ℕ
+faulty_line found = codes "refused " ++ fault_text found ++ codes "\n"
+
+-- the pool has another layout name than was asked for
+abbrev pub other_layout_line : List ℕ → List ℕ → List ℕ
+other_layout_line asked kept = codes "refused Layout asked " ++ asked ++ codes " kept " ++ kept ++ codes "\n"
+
+-- the script is of more lanes than run
+abbrev pub fewer_lanes_line : ℕ → ℕ → List ℕ
+fewer_lanes_line asked kept = codes "refused Lanes asked " ++ (decimal asked ++ (codes " kept " ++ (decimal kept ++ codes "\n")))
+
+-- why a line is bad
+abbrev pub why_text : Why → List ℕ
+why_text why.Text = codes "Text"
+why_text why.Word = codes "Word"
+why_text why.Count = codes "Count"
+why_text why.Number = codes "Number"
+why_text why.Hex = codes "Hex"
+why_text why.Letter = codes "Letter"
+why_text why.LaneNumber = codes "LaneNumber"
+why_text why.NoLane = codes "NoLane"
+why_text why.Inside = codes "Inside"
+why_text why.Outside = codes "Outside"
+why_text why.Open = codes "Open"
+
+-- the script's first bad line
+abbrev pub bad_script_line : BadLine → List ℕ
+bad_script_line bad = codes "bad script line " ++ (decimal bad.line ++ (codes " " ++ (why_text bad.why ++ codes "\n")))
+
+abbrev pub read_fault_line : List ℕ → List ℕ
+read_fault_line name = codes "read fault " ++ name ++ codes "\n"
+
+abbrev pub too_long_line : List ℕ → List ℕ
+too_long_line name = codes "too long " ++ name ++ codes "\n"
+
+abbrev pub write_fault_line : List ℕ → List ℕ
+write_fault_line name = codes "write fault " ++ name ++ codes "\n"
+
+abbrev pub no_memory_line : List ℕ
+no_memory_line = codes "no memory\n"
+
+-- what is printed where a command ends without its answer
+abbrev pub failure_line : Failure → List ℕ
+failure_line Usage = usage_line
+failure_line (Refused refusal) = refused_line refusal
+failure_line (Faulty found) = faulty_line found
+failure_line (OtherLayout asked kept) = other_layout_line asked.now kept
+failure_line (FewerLanes asked kept) = fewer_lanes_line asked kept
+failure_line (NotRead name) = read_fault_line name.now
+failure_line (TooLong name) = too_long_line name.now
+failure_line (BadScript bad) = bad_script_line bad
+failure_line (NotWritten name) = write_fault_line name.now
+failure_line NoMemory = no_memory_line
+
+-- the status that goes with it
+abbrev pub failure_status : Failure → Status
+failure_status Usage = status.Usage
+failure_status (Refused refusal) = status.Refused
+failure_status (Faulty found) = status.Refused
+failure_status (OtherLayout asked kept) = status.Refused
+failure_status (FewerLanes asked kept) = status.Refused
+failure_status (NotRead name) = status.ReadFault
+failure_status (TooLong name) = status.ReadFault
+failure_status (BadScript bad) = status.BadScript
+failure_status (NotWritten name) = status.WriteFault
+failure_status NoMemory = status.NoMemory
+
+abbrev pub root_text : ℕ → ℕ → List ℕ
+root_text lanes root = if root == 0 then codes "none" else decimal (root_offset lanes root)
+
+abbrev pub created_line_of : ℕ → ℕ → ℕ → List ℕ
+created_line_of lanes zones root = codes "created " ++ (decimal (pool_size lanes zones) ++ (codes " root " ++ (root_text lanes root ++ codes "\n")))
+
+-- what `create` prints
+abbrev pub created_line : Wanted → List ℕ
+created_line w = created_line_of w.lanes w.zones w.root
