@@ -11,6 +11,7 @@ pub mod StepPlain
 pub mod Values
 pub mod Births
 pub mod StepDraw
+pub mod Stores
 pub mod Crashes
 pub mod RecoveredBits
 pub mod SurvivingWords

@@ -103,6 +103,12 @@ pub all_numbered : (k : ℕ) (drew : ℕ → View) (n : ℕ) → ((m : ℕ) → 
 all_numbered k drew zero h = refl
 all_numbered k drew (suc n) h = ap (λ t. length (cond t (record { number = suc n; call = (drew n).call } ∷ numbered_by k drew n) (numbered_by k drew n))) (eq-eqb (drew n).fixed.lane k (h n (omega arith))) ∙ ap suc (all_numbered k drew n (λ m l. h m (omega arith)))
 
+undecided : (n : ℕ) (rs : List Recorded) (es : List Entry) → Rattle.pm_world.specs.Lanes.is_decided (phase_drawn n rs es) ≡ false
+undecided n [] [] = refl
+undecided n [] (e ∷ es) = refl
+undecided n (r ∷ rs) [] = refl
+undecided n (r ∷ rs) (e ∷ es) = refl
+
 flight_of : (l m h : Bool) (a : Option Bool) → TurnBefore l m h a → (a ≡ Some true → m ≡ true → l ≡ true) → TurnFlight l m h a
 flight_of l m h None f u = tt
 flight_of l m h (Some true) f u = (f, u refl f)
@@ -259,6 +265,7 @@ module _ (o : Opening) (mem new : Memory) (views views' : Views) (g : Past) (x :
       log = subst (λ s. LogFits o.shape k ((cells_of o.shape new).generation k) ((cells_of o.shape new).seal k) ((cells_of o.shape new).entry k) ((cells_of o.shape new).slot k) s (owns g.geo s (sight_of (views k)).hold) (sight_of (views k)).picture (record (views k).log { phase = phase_drawn g.length (views k).log.records (views k).log.entries }) (views k).changes) (sym settled_now)
           (subst (λ c. LogFits o.shape k (c.generation k) (c.seal k) (c.entry k) (c.slot k) (settled_words o g) (owns g.geo (settled_words o g) (sight_of (views k)).hold) (sight_of (views k)).picture (record (views k).log { phase = phase_drawn g.length (views k).log.records (views k).log.entries }) (views k).changes) (sym cells_new)
           (subst (λ z. Logged (record (views k).log { phase = z })) (sym e) log));
+      made = λ t. absurd (both_ways (Rattle.pm_world.specs.Lanes.is_decided (phase_drawn g.length (views k).log.records (views k).log.entries)) (undecided g.length (views k).log.records (views k).log.entries) t);
       number = subst (λ z. NumberFits z (Some (suc g.length))) (sym e) number;
       zones = λ z. ap (λ c. c.zone z == suc k) cells_new ∙ f.zones z;
       masks = f.masks;

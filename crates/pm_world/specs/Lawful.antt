@@ -15,11 +15,11 @@ use Rattle.pm_objects.specs.declared.history.Value.TheVariants.{Offset}
 use Rattle.pm_view.specs.declared.occ.Occ.{Occ}
 use Rattle.pm_view.specs.declared.occ.Occ.TheVariants.{Run, Zone}
 use Rattle.pm_view.specs.Changes.{Undrained}
-use Rattle.pm_view.specs.Places.{Place, InRun, InHuge, Descr, RootWord, Block, Small, Big, Root, block_of, is_data, word_of, place_after, is_place}
+use Rattle.pm_view.specs.Places.{Place, InRun, InHuge, Descr, RootWord, Block, Small, Big, Root, block_of, in_span, is_data, word_of, place_after, is_place}
 use Rattle.pm_view.specs.Entries.{Entry, entry_head, given_bit, latest, redos, turn}
 use Rattle.pm_view.specs.Parts.{Part, GenerationPart, SealPart, EntryPart, SlotPart, RootPart, DescriptorPart, ChunkPart, OtherPart}
 use Rattle.pm_view.specs.Log.{Phase, Idle, Open, Drawn, Sealing, Applying, Clearing, Retiring, Voiding, Recorded, is_early, old_of, place_at}
-use Rattle.pm_view.specs.Claims.{Claim, locked, reads, holds, class, making, header_in, found, here, mine, span, geometry, block_at, passes, is_among, is_block_of, run_chunk, ones}
+use Rattle.pm_view.specs.Claims.{Claim, locked, reads, holds, class, making, header_in, found, here, mine, span, first, geometry, block_at, passes, is_among, is_block_of, run_chunk, ones}
 use Rattle.pm_view.specs.Counts.{is_counted, MayCount, IsAtStop, HasRoom, FlushesSome, DropsSome}
 use Rattle.pm_view.specs.Founds.{knows}
 use Rattle.pm_view.specs.Steps.{Step}
@@ -52,6 +52,13 @@ is_mine v B = mine v.fixed.shape v.claims B
 abbrev pub is_here : View → Block → Bool
 is_here v B = here v.fixed.shape v.claims B
 
+-- the chunk of a word of a huge block is among those that the lane knows it to have now: before, the block may have had more
+abbrev pub is_inside : View → Place → Bool
+is_inside v (InRun c w) = true
+is_inside v (InHuge c w) = in_span (first v.fixed.shape v.claims c) (span v.fixed.shape v.claims (first v.fixed.shape v.claims c)) c
+is_inside v (Descr c) = true
+is_inside v RootWord = true
+
 -- of a block's words those that its own lock guards: type, first member, and the data; and the links are guarded by a list's lock. The size stays
 abbrev pub is_guarded : ℕ → Bool
 is_guarded offset = offset == 0 || offset == 5 || nat_le 8 offset
@@ -63,7 +70,7 @@ HoldsRoot v x = all_held (locked v.claims) (0 ∷ root_line x) ≡ true
 -- THE LANE MAY CHANGE THE WORD ITSELF: it is data of an object found under its write lock, or the root word under its guards
 abbrev pub MayChangeAt : View → Place → Type 0
 MayChangeAt v (InRun c w) = IsTrue (is_here v (block_in v (InRun c w) 64)) × IsTrue (is_data (InRun c w)) × IsTrue (is_guarded (offset_in v (InRun c w)))
-MayChangeAt v (InHuge c w) = IsTrue (is_here v (block_in v (InHuge c w) 64)) × IsTrue (is_guarded (offset_in v (InHuge c w)))
+MayChangeAt v (InHuge c w) = IsTrue (is_here v (block_in v (InHuge c w) 64)) × IsTrue (is_guarded (offset_in v (InHuge c w))) × IsTrue (is_inside v (InHuge c w))
 MayChangeAt v (Descr c) = ⊥
 MayChangeAt v RootWord = IsSomeAnd (value_in v (word_of v.fixed.shape RootWord)) (λ x. HoldsRoot v x)
 
@@ -103,7 +110,7 @@ EntersDescriptor v c how value = (how ≡ op.Set) × (making v.fixed.shape v.cla
 
 -- data of a block of the lane's own, after its header's words
 abbrev pub IsOwnData : View → Place → Type 0
-IsOwnData v p = IsTrue (is_data p) × IsTrue (is_mine v (block_in v p 64)) × (8 ≤ offset_in v p)
+IsOwnData v p = IsTrue (is_data p) × IsTrue (is_mine v (block_in v p 64)) × (8 ≤ offset_in v p) × IsTrue (is_inside v p)
 
 abbrev pub EntersAt : View → Place → Op → ℕ → Type 0
 EntersAt v (InRun c zero) how value = EntersBitmap v c how value
@@ -141,6 +148,7 @@ pub record MayFill (v : View) (w : ℕ) : Type 0 where
   pub at : place_in v w ≡ Some place
   pub plain : is_data place ≡ true
   pub own : is_mine v (block_in v place 64) ≡ true
+  pub inside : is_inside v place ≡ true
   pub unentered : v.log.entries ≡ []
 
 -- ---- A CHUNK IS MADE A RUN of a class: it is one chunk of the lane's own, its bitmap is 0 and nothing of it is undrained, and no entry is stored
