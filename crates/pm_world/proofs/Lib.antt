@@ -17,3 +17,4 @@ pub mod RecoveredBits
 pub mod SurvivingWords
 pub mod ImageLogs
 pub mod LanesInImages
+pub mod EntriesAtPlaces
