@@ -112,7 +112,7 @@ module _ (sh : Shape) (lane : ℕ) (ink : lane < sh.lanes) where
       go e (Some q) is i at t = t
 
   -- a place that is the entry's word
-  of_place : (p q : Place) → is_place sh p ≡ true → is_place sh q ≡ true → word_of sh q ≡ word_of sh p → (q ≡ p) ⊎ (q ≡ twin p)
+  pub of_place : (p q : Place) → is_place sh p ≡ true → is_place sh q ≡ true → word_of sh q ≡ word_of sh p → (q ≡ p) ⊎ (q ≡ twin p)
   of_place p q a b e = use_cases p q (one_cell sh p q a b (sym e))
 
   same_words : (u w : ℕ) → u ≢ w → eqb (8 * u) (8 * w) ≡ false

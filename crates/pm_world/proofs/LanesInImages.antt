@@ -223,7 +223,7 @@ module _ (o : Opening) (mem : Memory) (views : Views) (g : Past) (x : World o me
         both_ways (is_slot_drained (views k).fixed.shape (views k).fixed.lane (views k).changes j) (ap not (list_any_at (is_in_line (line_of_slot (views k).fixed.shape (views k).fixed.lane j)) (views k).changes there.0 t.seen there.1
         (ap (is_in_line (line_of_slot (views k).fixed.shape (views k).fixed.lane j)) there.2 ∙ eq-eqb (t.seen.word / 8) (line_of_slot (views k).fixed.shape (views k).fixed.lane j) (omega arith)))) e)
 
-    held_now : (j : ℕ) (u : Undo) → j < 64 → valid_record image k j ≡ Some u → Held j u
+    pub held_now : (j : ℕ) (u : Undo) → j < 64 → valid_record image k j ≡ Some u → Held j u
     held_now j u a valid = let p = valid_parts image k j u valid in ⊎_elim
         (λ (d : is_slot_drained (views k).fixed.shape (views k).fixed.lane (views k).changes j ≡ true). let st : undo_of (slot_list ((cells_of o.shape mem).slot k j)) ≡ Some u = sym (ap undo_of (drained_slot j a d)) ∙ p.0 in
         ⊎_elim (λ (l : j < length (views k).log.records). let r = get_some (views k).log.records j l in record { held = r.0; lawful = inl r.1; is = sym (same_Some (undo_from o.shape (views k).log.generation r.0) u (sym (slot_held j r.0 r.1) ∙ st)); most = (fits.records j r.0 r.1).2 })

@@ -18,3 +18,4 @@ pub mod SurvivingWords
 pub mod ImageLogs
 pub mod LanesInImages
 pub mod EntriesAtPlaces
+pub mod RecordsAtPlaces
