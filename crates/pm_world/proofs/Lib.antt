@@ -19,3 +19,4 @@ pub mod ImageLogs
 pub mod LanesInImages
 pub mod EntriesAtPlaces
 pub mod RecordsAtPlaces
+pub mod ImageSays

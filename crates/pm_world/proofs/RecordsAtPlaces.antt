@@ -101,7 +101,7 @@ old_first : (a b : Option ℕ) (x : ℕ) → a ≡ Some x → first_of_two a b �
 old_first a b x e = ap (λ z. first_of_two z b) e
 
 -- where no word has two records, a record's old value is the log's
-old_found : (p : Place) (rs : List Recorded) → ((j m : ℕ) (r q : Recorded) (x y : ℕ) → slice_get rs j ≡ Some r → slice_get rs m ≡ Some q → old_in r p ≡ Some x → old_in q p ≡ Some y → j ≡ m)
+pub old_found : (p : Place) (rs : List Recorded) → ((j m : ℕ) (r q : Recorded) (x y : ℕ) → slice_get rs j ≡ Some r → slice_get rs m ≡ Some q → old_in r p ≡ Some x → old_in q p ≡ Some y → j ≡ m)
     → (j : ℕ) (r : Recorded) (x : ℕ) → slice_get rs j ≡ Some r → old_in r p ≡ Some x → old_of rs p ≡ Some x
 old_found p [] once j r x at is = absurd (none-some r at)
 old_found p (r₀ ∷ t) once zero r x at is = old_first (old_in r₀ p) (old_of t p) x (ap (λ z. old_in z p) (same_Some r₀ r at) ∙ is)
@@ -112,14 +112,14 @@ old_found p (r₀ ∷ t) once (suc j) r x at is = go (old_in r₀ p) refl (old_f
     go (Some y) e later = absurd (let z = once 0 (suc j) r₀ r y x refl at e is in omega arith)
 
 -- a drained record that has the place
-record Logged (sh : Shape) (lane : ℕ) (changes : List Undrained) (rs : List Recorded) (p : Place) (from : ℕ) : Type 0 where
-  slot : ℕ
-  held : Recorded
-  at : slice_get rs slot ≡ Some held
-  has_ : given (old_in held p) ≡ true
-  drained : is_slot_drained sh lane changes (from + slot) ≡ true
+pub record Logged (sh : Shape) (lane : ℕ) (changes : List Undrained) (rs : List Recorded) (p : Place) (from : ℕ) : Type 0 where
+  pub slot : ℕ
+  pub held : Recorded
+  pub at : slice_get rs slot ≡ Some held
+  pub has_ : given (old_in held p) ≡ true
+  pub drained : is_slot_drained sh lane changes (from + slot) ≡ true
 
-logged_record : (sh : Shape) (lane : ℕ) (changes : List Undrained) (rs : List Recorded) (p : Place) (from : ℕ) → is_logged_from sh lane changes from rs p ≡ true → Logged sh lane changes rs p from
+pub logged_record : (sh : Shape) (lane : ℕ) (changes : List Undrained) (rs : List Recorded) (p : Place) (from : ℕ) → is_logged_from sh lane changes from rs p ≡ true → Logged sh lane changes rs p from
 logged_record sh lane changes [] p from e = absurd (both_ways false refl e)
 logged_record sh lane changes (r ∷ t) p from e = go (logged_record sh lane changes t p (suc from)) (or_cases (given (old_in r p) && is_slot_drained sh lane changes from) (is_logged_from sh lane changes (suc from) t p) e)
   where
@@ -132,7 +132,7 @@ given_either None b (inl e) = absurd (both_ways false refl e)
 given_either None b (inr e) = e
 given_either (Some x) b e = refl
 
-old_given : (p : Place) (rs : List Recorded) (j : ℕ) (r : Recorded) → slice_get rs j ≡ Some r → given (old_in r p) ≡ true → given (old_of rs p) ≡ true
+pub old_given : (p : Place) (rs : List Recorded) (j : ℕ) (r : Recorded) → slice_get rs j ≡ Some r → given (old_in r p) ≡ true → given (old_of rs p) ≡ true
 old_given p [] j r at is = absurd (none-some r at)
 old_given p (r₀ ∷ t) zero r at is = given_either (old_in r₀ p) (old_of t p) (inl (ap (λ z. given (old_in z p)) (same_Some r₀ r at) ∙ is))
 old_given p (r₀ ∷ t) (suc j) r at is = given_either (old_in r₀ p) (old_of t p) (inr (old_given p t j r at is))
@@ -168,7 +168,7 @@ twin_single (InHuge c w) = refl
 twin_single (Descr c) = refl
 twin_single RootWord = refl
 
-some_or : {A : Type 0} → (d : Option A) → (d ≡ None) ⊎ ((y : A) × (d ≡ Some y))
+pub some_or : {A : Type 0} → (d : Option A) → (d ≡ None) ⊎ ((y : A) × (d ≡ Some y))
 some_or None = inl refl
 some_or (Some y) = inr (y, refl)
 

@@ -104,23 +104,23 @@ parts_none f w b from zero h = refl
 parts_none f w b from (suc n) h = entry_bit-append (f from) (flat_map f (range_with_len (from + 1) n)) w b
     ∙ (ap (λ z. first_of_two z (entry_bit (f from) w b)) (parts_none f w b (from + 1) n (λ j l m. h j (omega arith) (omega arith))) ∙ none_of (entry_bit (f from) w b) (h from (omega arith) (omega arith)))
 
-pub parts_one : (f : ℕ → List Redo) (w b from n k : ℕ) → from ≤ k → k < from + n → ((j : ℕ) → j ≢ k → given (entry_bit (f j) w b) ≡ false) → entry_bit (flat_map f (range_with_len from n)) w b ≡ entry_bit (f k) w b
+pub parts_one : (f : ℕ → List Redo) (w b from n k : ℕ) → from ≤ k → k < from + n → ((j : ℕ) → j < from + n → j ≢ k → given (entry_bit (f j) w b) ≡ false) → entry_bit (flat_map f (range_with_len from n)) w b ≡ entry_bit (f k) w b
 parts_one f w b from zero k l m h = absurd (omega arith)
 parts_one f w b from (suc n) k l m h = entry_bit-append (f from) (flat_map f (range_with_len (from + 1) n)) w b ∙ ⊎_elim
-    (λ (q : k ≡ from). ap (λ z. first_of_two z (entry_bit (f from) w b)) (parts_none f w b (from + 1) n (λ j s u. h j (λ v. omega arith))) ∙ ap (λ j. entry_bit (f j) w b) (sym q))
-    (λ (ne : k ≢ from). ap (λ z. first_of_two z (entry_bit (f from) w b)) (parts_one f w b (from + 1) n k (omega arith) (omega arith) h)
-    ∙ (ap (first_of_two (entry_bit (f k) w b)) (none_of (entry_bit (f from) w b) (h from (λ v. ne (sym v)))) ∙ first_none (entry_bit (f k) w b))) (cases_eq k from)
+    (λ (q : k ≡ from). ap (λ z. first_of_two z (entry_bit (f from) w b)) (parts_none f w b (from + 1) n (λ j s u. h j (omega arith) (λ v. omega arith))) ∙ ap (λ j. entry_bit (f j) w b) (sym q))
+    (λ (ne : k ≢ from). ap (λ z. first_of_two z (entry_bit (f from) w b)) (parts_one f w b (from + 1) n k (omega arith) (omega arith) (λ j m. h j (omega arith)))
+    ∙ (ap (first_of_two (entry_bit (f k) w b)) (none_of (entry_bit (f from) w b) (h from (omega arith) (λ v. ne (sym v)))) ∙ first_none (entry_bit (f k) w b))) (cases_eq k from)
 
 -- the first record of parts of which one alone has one that covers the word
 finds_none : (p : Undo → Bool) (f : ℕ → List Undo) (from n : ℕ) → ((j : ℕ) → from ≤ j → j < from + n → find p (f j) ≡ None) → find p (flat_map f (range_with_len from n)) ≡ None
 finds_none p f from zero h = refl
 finds_none p f from (suc n) h = find-append p (f from) (flat_map f (range_with_len (from + 1) n)) ∙ (ap (λ o. option_or o (find p (flat_map f (range_with_len (from + 1) n)))) (h from (omega arith) (omega arith)) ∙ finds_none p f (from + 1) n (λ j l m. h j (omega arith) (omega arith)))
 
-finds_one : (p : Undo → Bool) (f : ℕ → List Undo) (from n k : ℕ) → from ≤ k → k < from + n → ((j : ℕ) → j ≢ k → find p (f j) ≡ None) → find p (flat_map f (range_with_len from n)) ≡ find p (f k)
+finds_one : (p : Undo → Bool) (f : ℕ → List Undo) (from n k : ℕ) → from ≤ k → k < from + n → ((j : ℕ) → j < from + n → j ≢ k → find p (f j) ≡ None) → find p (flat_map f (range_with_len from n)) ≡ find p (f k)
 finds_one p f from zero k l m h = absurd (omega arith)
 finds_one p f from (suc n) k l m h = find-append p (f from) (flat_map f (range_with_len (from + 1) n)) ∙ ⊎_elim
-    (λ (q : k ≡ from). ap (option_or (find p (f from))) (finds_none p f (from + 1) n (λ j s u. h j (λ v. omega arith))) ∙ (or_nothing (find p (f from)) ∙ ap (λ j. find p (f j)) (sym q)))
-    (λ (ne : k ≢ from). ap (λ o. option_or o (find p (flat_map f (range_with_len (from + 1) n)))) (h from (λ v. ne (sym v))) ∙ finds_one p f (from + 1) n k (omega arith) (omega arith) h) (cases_eq k from)
+    (λ (q : k ≡ from). ap (option_or (find p (f from))) (finds_none p f (from + 1) n (λ j s u. h j (omega arith) (λ v. omega arith))) ∙ (or_nothing (find p (f from)) ∙ ap (λ j. find p (f j)) (sym q)))
+    (λ (ne : k ≢ from). ap (λ o. option_or o (find p (flat_map f (range_with_len (from + 1) n)))) (h from (omega arith) (λ v. ne (sym v))) ∙ finds_one p f (from + 1) n k (omega arith) (omega arith) (λ j m. h j (omega arith))) (cases_eq k from)
   where
     or_nothing : {X : Type 0} → (o : Option X) → option_or o None ≡ o
     or_nothing None = refl
@@ -197,16 +197,16 @@ module _ (image : List ℕ) (lanes w : ℕ) where
   unfolding recovered entries_for record_for
   by_record none = ap (λ es. recovered_by es (find (λ u. covers u (8 * w)) (flat_map (records image) (range_with_len 0 lanes))) (8 * w) (slice_index image w)) none
 
-  empty_or : (es : List Redo) → (es ≡ []) ⊎ (es ≢ [])
+  pub empty_or : (es : List Redo) → (es ≡ []) ⊎ (es ≢ [])
   empty_or [] = inl refl
   empty_or (e ∷ t) = inr (λ q. absurd cc)
 
-  module _ (k b : ℕ) (ink : k < lanes) (small : b < 64) (others : (j : ℕ) → j ≢ k → given (log_bit j b) ≡ false) (alone : given (record_bit (records image k) w b) ≡ true → of_word w all_entries ≡ []) where
+  module _ (k b : ℕ) (ink : k < lanes) (small : b < 64) (others : (j : ℕ) → j < lanes → j ≢ k → given (log_bit j b) ≡ false) (alone : given (record_bit (records image k) w b) ≡ true → of_word w all_entries ≡ []) where
     all_bit : entry_bit all_entries w b ≡ entry_bit (entries image k) w b
-    all_bit = parts_one (entries image) w b 0 lanes k (omega arith) (omega arith) (λ j ne. entry_silent j b (others j ne))
+    all_bit = parts_one (entries image) w b 0 lanes k (omega arith) (omega arith) (λ j l ne. entry_silent j b (others j (omega arith) ne))
 
     one_record : find (λ u. covers u (8 * w)) (flat_map (records image) (range_with_len 0 lanes)) ≡ find (λ u. covers u (8 * w)) (records image k)
-    one_record = finds_one (λ u. covers u (8 * w)) (records image) 0 lanes k (omega arith) (omega arith) (λ j ne. record_silent j b (others j ne))
+    one_record = finds_one (λ u. covers u (8 * w)) (records image) 0 lanes k (omega arith) (omega arith) (λ j l ne. record_silent j b (others j (omega arith) ne))
 
     restored_bit : (o : Option Undo) → bit (restored o (8 * w) (slice_index image w)) b ≡ over (option_map (λ u. bit (old_word u (8 * w)) b) o) (bit (slice_index image w) b)
     restored_bit None = refl
