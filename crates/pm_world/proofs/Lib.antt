@@ -20,3 +20,4 @@ pub mod LanesInImages
 pub mod EntriesAtPlaces
 pub mod RecordsAtPlaces
 pub mod ImageSays
+pub mod CrashLaw

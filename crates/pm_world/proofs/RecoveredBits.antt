@@ -164,7 +164,7 @@ set_cases w (e ∷ t) x s = ⊎_elim (λ (here : eqb e.place (8 * w) ≡ true). 
         (λ (q : IsSet w t (applied e x)). record { value = q.value; is = ap (λ l. all_applied l x) same ∙ q.is; no_run = q.no_run; bits = λ b l. mine b l ∙ ap (λ y. first_of_two y (Some (bit e.value b))) (q.bits b l) }) y
 
 module _ (image : List ℕ) (lanes w : ℕ) where
-  abbrev all_entries : List Redo
+  abbrev pub all_entries : List Redo
   all_entries = flat_map (entries image) (range_with_len 0 lanes)
 
   -- what lane k's log makes of the bit
