@@ -3,6 +3,7 @@ pub mod Frame
 pub mod Replays
 pub mod Going
 pub mod Draws
+pub mod Locks
 pub mod Cells
 pub mod Worlds
 pub mod Counting
