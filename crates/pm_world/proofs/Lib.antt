@@ -4,6 +4,7 @@ pub mod Replays
 pub mod Going
 pub mod Draws
 pub mod Locks
+pub mod Finds
 pub mod Cells
 pub mod Worlds
 pub mod Counting
