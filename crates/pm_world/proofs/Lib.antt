@@ -6,8 +6,11 @@ pub mod Draws
 pub mod Locks
 pub mod Finds
 pub mod Cells
+pub mod WordsApart
 pub mod Worlds
 pub mod Counting
 pub mod StepPlain
 pub mod Values
 pub mod Births
+pub mod StepDraw
+pub mod Stores
