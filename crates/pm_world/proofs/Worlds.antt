@@ -90,6 +90,7 @@ module _ (o : Opening) (mem : Memory) (views : Views) (g : Past) (x : World o me
   world_after new views' g' S' v e m a t bits f of_lanes small header room stop = record {
     some_lanes = x.some_lanes;
     most_lanes = x.most_lanes;
+    few_lanes = x.few_lanes;
     size = x.size;
     bits = bits;
     each_lane = λ j inj. ⊎_elim (λ (q : j ≡ k). subst (λ i. LaneFits o new g' i (views' i)) (sym q) (subst (λ y. LaneFits o new g' k y) (sym t.here) f)) (λ (ne : j ≢ k). subst (λ y. LaneFits o new g' j y) (sym (t.else_ j ne)) (lane_stays new g' S' e m a j ne inj)) (cases_eq j k);

@@ -110,6 +110,8 @@ is_header sh w = nat_lt w 512 && not (w == word_of_root sh)
 pub record World (o : Opening) (mem : Memory) (views : Views) (g : Past) : Type 0 where
   pub some_lanes : 1 ≤ o.lanes
   pub most_lanes : o.lanes ≤ o.shape.lanes
+  -- as many as a lock word has bits for
+  pub few_lanes : o.lanes ≤ 32
   pub size : length o.words ≡ words_of o.shape
   -- the bits at places, and locks and occupancy bits
   pub bits : Bits o.shape o.lanes (origin o) (cells_of o.shape mem) (λ k. sight_of (views k)) (ghost_of g)
