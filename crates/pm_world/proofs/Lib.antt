@@ -5,6 +5,7 @@ pub mod Going
 pub mod Draws
 pub mod Locks
 pub mod Finds
+pub mod LockBits
 pub mod Cells
 pub mod WordsApart
 pub mod Worlds
