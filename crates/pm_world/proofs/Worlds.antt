@@ -94,7 +94,7 @@ module _ (o : Opening) (mem : Memory) (views : Views) (g : Past) (x : World o me
     size = x.size;
     bits = bits;
     each_lane = λ j inj. ⊎_elim (λ (q : j ≡ k). subst (λ i. LaneFits o new g' i (views' i)) (sym q) (subst (λ y. LaneFits o new g' k y) (sym t.here) f)) (λ (ne : j ≢ k). subst (λ y. LaneFits o new g' j y) (sym (t.else_ j ne)) (lane_stays new g' S' e m a j ne inj)) (cases_eq j k);
-    idle_beyond = λ j out. subst (λ y. (y.changes ≡ []) × (y.log.phase ≡ Idle)) (sym (t.else_ j (λ q. omega arith))) (x.idle_beyond j out);
+    idle_beyond = λ j out. subst (λ y. (y.changes ≡ []) × (y.log.phase ≡ Idle) × (y.claims ≡ [])) (sym (t.else_ j (λ q. omega arith))) (x.idle_beyond j out);
     of_lanes = of_lanes;
     small = small;
     header = header;

@@ -116,7 +116,7 @@ pub record World (o : Opening) (mem : Memory) (views : Views) (g : Past) : Type 
   -- the bits at places, and locks and occupancy bits
   pub bits : Bits o.shape o.lanes (origin o) (cells_of o.shape mem) (λ k. sight_of (views k)) (ghost_of g)
   pub each_lane : (k : ℕ) → k < o.lanes → LaneFits o mem g k (views k)
-  pub idle_beyond : (k : ℕ) → o.lanes ≤ k → ((views k).changes ≡ []) × ((views k).log.phase ≡ Idle)
+  pub idle_beyond : (k : ℕ) → o.lanes ≤ k → ((views k).changes ≡ []) × ((views k).log.phase ≡ Idle) × ((views k).claims ≡ [])
   -- a call of the history is a lane's
   pub of_lanes : (n : ℕ) → n < g.length → (g.drew n).fixed.lane < o.lanes
   pub small : (w : ℕ) → mem (PoolWord w) < 2 ^ 64
