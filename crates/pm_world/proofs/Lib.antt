@@ -11,6 +11,7 @@ pub mod WordsApart
 pub mod Worlds
 pub mod Counting
 pub mod StepPlain
+pub mod StepClaims
 pub mod Values
 pub mod Births
 pub mod StepDraw
