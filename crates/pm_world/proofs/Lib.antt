@@ -12,6 +12,7 @@ pub mod Worlds
 pub mod Counting
 pub mod StepPlain
 pub mod StepClaims
+pub mod StepLocks
 pub mod Values
 pub mod Births
 pub mod StepDraw

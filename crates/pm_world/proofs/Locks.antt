@@ -220,7 +220,7 @@ took_here : (w a : Bool) → a ≡ false → ((w && true) || a) ≡ w
 took_here true a e = refl
 took_here false a e = e
 
-took_else : (w a : Bool) → ((w && false) || a) ≡ a
+pub took_else : (w a : Bool) → ((w && false) || a) ≡ a
 took_else true a = refl
 took_else false a = refl
 

@@ -1,0 +1,147 @@
+-- LOCKS ARE TAKEN for writing and for reading, raised, and given back.
+use Rattle.std.specs.Prelude.{List, [], ◌∷◌, IsTrue}
+use Rattle.std.specs.Option.{option_map}
+use Rattle.std.specs.Int.{bit_at}
+use Rattle.std.proofs.Common.{◌≡◌, ◌≢◌, ℕ, suc, ◌+◌, ◌-◌, ◌*◌, ◌/◌, ◌%◌, ◌^◌, ◌<◌, ◌≤◌, nat_lt, ◌⊎◌, inl, inr, ⊎_elim, Bool, true, false, cond, not, ◌&&◌, ◌||◌, eqb, ◌==◌, refl, sym, ap, ◌∙◌, subst, arith, eq-eqb, ne_eqb, lt-ltb, Option, None, Some}
+use Rattle.std.proofs.lemmas.Bool.{cases_eq, cases_lt, cases_Bool, eqb-true, both_ways, and_parts, and_from, or_cases, or_left, or_right, or_parts, false_from_ne_true}
+use Rattle.std.proofs.lemmas.Nat.Bits.{bit_at-lt, bit_at-zero, bit_at-pow_same, bit_at-pow_other, same_from_bits}
+use Rattle.pm_layout.specs.declared.shape.Shape.{Shape}
+use Rattle.pm_layout.specs.Chunks.{line_of_chunk, word_of_root}
+use Rattle.pm_view.specs.Changes.{Undrained}
+use Rattle.pm_view.specs.LockWords.{reader_bit, writer_bit, with_writer, with_reader, with_raised}
+use Rattle.pm_view.specs.Places.{Place, InRun, InHuge, Descr, RootWord, Block, Small, Big, Root, block_of, header, is_data, word_of}
+use Rattle.pm_view.specs.Entries.{latest, redos, turn}
+use Rattle.pm_view.specs.Log.{Log, is_early}
+use Rattle.pm_view.specs.Claims.{Claim, Took, Raised, Gave, locked, reads, holds, class, header_in, found, here, geometry, pictured}
+use Rattle.pm_view.specs.Steps.{Step}
+use Rattle.pm_view.specs.Steps.Step.{TakeWrite, TakeRead, Raise, Give}
+use Rattle.pm_view.specs.View.{View, runs_one}
+use Rattle.pm_view.specs.Views.{after}
+use Rattle.pm_world.specs.States.{State, Diff, diff, given, val, root_line, read, Cells}
+use Rattle.pm_world.specs.Sights.{Hold, Sight, is_pictured, is_recorded, is_made, picture, fresh, sight_by, sight_of}
+use Rattle.pm_world.specs.Lanes.{Ghost, owns, has, SightFits, Flies, Alone, Bits}
+use Rattle.pm_world.specs.Memory.{Memory, PoolWord, LockWord, IsSame, IsSameBut, bit, cells_of}
+use Rattle.pm_world.specs.World.{Opening, Views, Past, origin, ghost_of, settled_words, LaneFits, World}
+use Rattle.pm_world.specs.Laws.{Turn, Keeps}
+use Rattle.pm_world.proofs.Cells.{other_number}
+use Rattle.pm_world.proofs.Frame.{fresh_given, found_has}
+use Rattle.pm_world.proofs.Going.{Turned}
+use Rattle.pm_world.proofs.LockBits.{WordMoves, NoneElse, NoReader, write_moves, read_moves, raise_moves, give_moves}
+use Rattle.pm_world.proofs.Locks.{Relocked, taking, takes, raising, raises, giving, gives, held, root_locked, owned_more, took_else}
+use Rattle.pm_world.proofs.StepClaims.{claimed_view, relocked_cells, claims_step}
+use Rattle.pm_world.proofs.StepPlain.{plain_step, lane_told}
+use Rattle.pm_world.proofs.Worlds.{turned}
+
+-- ---- of a picture that forgets some words, what the call made stays
+pub fresh_same : (C : Bool) (pc pc' : Option Bool) → ((y : Bool) → pc' ≡ Some y → pc ≡ Some y) → (given (cond C pc None) ≡ true → pc' ≡ pc) → cond C pc' None ≡ cond C pc None
+fresh_same false pc pc' less u = refl
+fresh_same true None None less u = refl
+fresh_same true None (Some y) less u = absurd (both_ways false refl (ap given (less y refl)))
+fresh_same true (Some z) pc' less u = u refl
+
+pub forgets : (a q : Bool) (o : Option ℕ) (f : ℕ → Bool) (y : Bool) → cond a (option_map f (cond q None o)) None ≡ Some y → cond a (option_map f o) None ≡ Some y
+forgets true true o f y e = absurd (both_ways false refl (ap given e))
+forgets true false o f y e = e
+forgets false q o f y e = absurd (both_ways false refl (ap given e))
+
+pub forgot : (q : Bool) (o : Option ℕ) (y : ℕ) → cond q None o ≡ Some y → o ≡ Some y
+forgot true o y e = absurd (both_ways false refl (ap given e))
+forgot false o y e = e
+
+pub and_at : (a x y : Bool) → (a ≡ true → x ≡ y) → (a && x) ≡ (a && y)
+and_at true x y u = u refl
+and_at false x y u = refl
+
+-- ---- what a lane sees once it took a lock
+module _ (sh : Shape) (lane : ℕ) (t : List Claim) (log : Log) (changes : List Undrained) (l : ℕ) (w : Bool) where
+  abbrev takes_root : Place → Bool
+  takes_root p = (l == 0) && (word_of sh p == word_of_root sh)
+
+  -- a word that is forgotten was none that the call made
+  kept_made : (p : Place) (b : ℕ) → given (fresh sh t log p b) ≡ true → takes_root p ≡ false
+  kept_made p b e = false_from_ne_true (takes_root p) (λ q. let y = and_parts (l == 0) (word_of sh p == word_of_root sh) q in at p (eqb-true l 0 y.0) (eqb-true (word_of sh p) (word_of_root sh) y.1) e)
+    where
+      at : (p : Place) → l ≡ 0 → word_of sh p ≡ word_of_root sh → given (fresh sh t log p b) ≡ true → ⊥
+      at (InRun c a) z e s = absurd (omega arith)
+      at (InHuge c a) z e s = absurd (omega arith)
+      at (Descr c) z e s = both_ways false refl s
+      at RootWord z e s = both_ways false refl s
+
+  pub took_less : (p : Place) (b : ℕ) (y : Bool) → picture sh (Took l w ∷ t) p b ≡ Some y → picture sh t p b ≡ Some y
+  took_less p b y e = forgets (is_pictured p) (takes_root p) (pictured sh t (word_of sh p)) (λ x. bit_at x b == 1) y e
+
+  pub took_same : (p : Place) (b : ℕ) → given (fresh sh t log p b) ≡ true → picture sh (Took l w ∷ t) p b ≡ picture sh t p b
+  took_same p b e = ap (λ q. cond (is_pictured p) (option_map (λ x. bit_at x b == 1) (cond q None (pictured sh t (word_of sh p)))) None) (kept_made p b e)
+
+  pub took_dark : l ≡ 0 → (b : ℕ) → picture sh (Took l w ∷ t) RootWord b ≡ None
+  took_dark z b = ap (λ n. option_map (λ x. bit_at x b == 1) (cond ((n == 0) && true) None (pictured sh t (word_of_root sh)))) z
+
+  took_here : ((B : Block) → found sh t B ≡ true → holds t (header_in sh t B) ≡ true) → holds t l ≡ false → (B : Block) → here sh (Took l w ∷ t) B ≡ here sh t B
+  took_here hd free B = let m = header_in sh t B in and_at (found sh t B) ((w && (l == m)) || locked t m) (locked t m)
+      (λ e. ap (λ z. (w && z) || locked t m) (ne_eqb l m (λ q. both_ways (holds t l) free (subst (λ a. holds t a ≡ true) (sym q) (hd B e)))) ∙ took_else w (locked t m))
+
+  took_fresh : (p : Place) (b : ℕ) → fresh sh (Took l w ∷ t) log p b ≡ fresh sh t log p b
+  took_fresh p b = fresh_same (is_data p && (is_made (turn (latest (redos log.entries)) (block_of (geometry sh t) p b)) || is_recorded log.records p)) (picture sh t p b) (picture sh (Took l w ∷ t) p b) (took_less p b) (took_same p b)
+
+  pub took_sight : ((B : Block) → found sh t B ≡ true → holds t (header_in sh t B) ≡ true) → holds t l ≡ false
+      → sight_by sh lane (Took l w ∷ t) log changes ≡ record (sight_by sh lane t log changes) {
+        hold = record (sight_by sh lane t log changes).hold { locked = λ m. (w && (l == m)) || locked t m; reads = λ m. (not w && (l == m)) || reads t m };
+        picture = picture sh (Took l w ∷ t);
+      }
+  took_sight hd free = λ i. record (sight_by sh lane (Took l w ∷ t) log changes) {
+    hold = record (sight_by sh lane (Took l w ∷ t) log changes).hold { here = λ B. took_here hd free B i };
+    call = record { entries = redos log.entries; fresh = λ p b. took_fresh p b i };
+  }
+
+-- ---- TAKES
+module _ (o : Opening) (mem : Memory) (views : Views) (g : Past) (x : World o mem views g) (k : ℕ) (ink : k < o.lanes) where
+  own_sight : SightFits o.shape (cells_of o.shape mem) (settled_words o g) (Flies (ghost_of g) k) (ghost_of g) k (sight_of (views k))
+  own_sight = x.bits.each_lane k
+
+  shape_is : (views k).fixed.shape ≡ o.shape
+  shape_is = (x.each_lane k ink).shape
+
+  -- the header's line as the lane knows it
+  pub header_known : (B : Block) → has (sight_of (views k)).hold B ≡ true → header_in (views k).fixed.shape (views k).claims B ≡ header o.shape g.geo B
+  header_known (Small c i) h = ap (λ s. line_of_chunk s c + (1 + class (views k).claims c * i)) shape_is ∙ ap (λ n. line_of_chunk o.shape c + (1 + n * i)) (own_sight.hold.class c i h)
+  header_known (Big f) h = ap (λ s. line_of_chunk s f) shape_is
+  header_known Root h = refl
+
+  pub header_found : (B : Block) → found (views k).fixed.shape (views k).claims B ≡ true → header_in (views k).fixed.shape (views k).claims B ≡ header o.shape g.geo B
+  header_found B e = header_known B (found_has (sight_of (views k)).hold B e)
+
+  pub found_held : (B : Block) → found (views k).fixed.shape (views k).claims B ≡ true → holds (views k).claims (header_in (views k).fixed.shape (views k).claims B) ≡ true
+  found_held B e = ap (holds (views k).claims) (header_found B e) ∙ (own_sight.hold.found B e).0
+
+  -- a lock word changed by this lane's hand
+  pub relocked_by : (new : Memory) (l : ℕ) (w r : Bool) → IsSameBut (LockWord l) mem new → WordMoves k (mem (LockWord l)) (new (LockWord l)) w r → Relocked (cells_of o.shape mem) k l (cells_of o.shape new).writer (cells_of o.shape new).reader w r
+  relocked_by new l w r same c = record {
+    writer_here = c.writer_here;
+    reader_here = c.reader_here;
+    writer_else = λ m j ne. ⊎_elim (λ (q : m ≡ l). subst (λ a. bit (new (LockWord a)) (32 + j) ≡ bit (mem (LockWord a)) (32 + j)) (sym q) (c.writer_else j (⊎_elim (λ (n : m ≢ l). absurd (n q)) (λ (n : j ≢ k). n) ne) (small j)))
+        (λ (n : m ≢ l). ap (λ y. bit y (32 + j)) (same (LockWord m) (other_number (LockWord m) (LockWord l) n))) (cases_eq m l);
+    reader_else = λ m j ne. ⊎_elim (λ (q : m ≡ l). subst (λ a. (nat_lt j 32 && bit (new (LockWord a)) j) ≡ (nat_lt j 32 && bit (mem (LockWord a)) j)) (sym q) (c.reader_else j (⊎_elim (λ (n : m ≢ l). absurd (n q)) (λ (n : j ≢ k). n) ne)))
+        (λ (n : m ≢ l). ap (λ y. nat_lt j 32 && bit y j) (same (LockWord m) (other_number (LockWord m) (LockWord l) n))) (cases_eq m l);
+  }
+    where
+      small : (j : ℕ) → (j < 32) ⊎ (bit (mem (LockWord l)) (32 + j) ≡ false)
+      small j = ⊎_elim (λ (a : j < 32). inl a) (λ (a : 32 ≤ j). let few = x.few_lanes in inr ((x.bits.each_lane j).hold.locks l ∙ (x.bits.beyond j (omega arith) Root).1 l)) (cases_lt j 32)
+
+  pub low_lane : k < 32
+  low_lane = let few = x.few_lanes in omega arith
+
+  -- a lock is won
+  wins : (new : Memory) (views' : Views) (l : ℕ) (w : Bool) (s : Step) → is_early (views k).log.phase ≡ true → holds (views k).claims l ≡ false → IsSameBut (LockWord l) mem new → WordMoves k (mem (LockWord l)) (new (LockWord l)) w (not w) → NoneElse k (mem (LockWord l))
+      → (w ≡ true → NoReader k (mem (LockWord l))) → Turn views views' k (record (views k) { claims = Took l w ∷ (views k).claims; seen = s ∷ (views k).seen })
+      → Rattle.pm_world.specs.World.may_draw (record (views k) { claims = Took l w ∷ (views k).claims; seen = s ∷ (views k).seen }) ≡ Rattle.pm_world.specs.World.may_draw (views k) → World o new views' g
+  wins new views' l w s early free same c none_ readers t draws = let sh = (views k).fixed.shape in let n = taking o.shape o.lanes (origin o) (cells_of o.shape mem) (λ j. sight_of (views j)) (ghost_of g) x.bits k ink early l (cells_of o.shape new).writer (cells_of o.shape new).reader w in
+      let r = relocked_by new l w (not w) same c in
+      let sight = took_sight sh (views k).fixed.lane (views k).claims (views k).log (views k).changes l w found_held free in
+      claims_step o mem new views views' g x k ink l same (Took l w ∷ (views k).claims) (s ∷ (views k).seen) t early
+          (λ p b _ e. subst (λ z. owns g.geo (settled_words o g) z.hold p b ≡ true) (sym sight) (owned_more o.shape o.lanes (origin o) (cells_of o.shape mem) (λ j. sight_of (views j)) (ghost_of g) x.bits k ink n (λ B y. y) (λ m y. or_right (w && (l == m)) (locked (views k).claims m) y) p b e))
+          (λ one v y e. ((x.each_lane k ink).alone one).words v y (forgot ((l == 0) && (v == word_of_root sh)) (pictured sh (views k).claims v) y e))
+          (λ m j ne. r.writer_else m j (inr ne)) (λ m j ne. r.reader_else m j (inr ne)) draws
+          (takes o.shape o.lanes (origin o) (cells_of o.shape mem) (λ j. sight_of (views j)) (ghost_of g) x.bits k ink early l (cells_of o.shape new).writer (cells_of o.shape new).reader w free r (λ i ne. none_.writer i ne) (λ i ne e. (readers e).reader i ne)
+          (picture sh (Took l w ∷ (views k).claims)) (took_less sh (views k).fixed.lane (views k).claims (views k).log (views k).changes l w) (took_dark sh (views k).fixed.lane (views k).claims (views k).log (views k).changes l w)
+          (λ p b y e. took_same sh (views k).fixed.lane (views k).claims (views k).log (views k).changes l w p b (ap given e) ∙ own_sight.fresh p b y e)
+          (λ j. sight_of (views' j)) record { here = ap sight_of t.here ∙ sight; else_ = λ j ne. ap sight_of (t.else_ j ne) })
