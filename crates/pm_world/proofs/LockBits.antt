@@ -51,6 +51,9 @@ none_below j a u = below_32 j false a u ∙ never (nat_lt j 32)
     never true = refl
     never false = refl
 
+pub clear_at : (n b : ℕ) → bit n b ≡ false → bit_at n b ≡ 0
+clear_at n b z = let top = bit_at-lt n b in ⊎_elim (λ (q : bit_at n b ≡ 1). absurd (both_ways (bit n b) z (set_bit n b q))) (λ (ne : bit_at n b ≢ 1). omega (arith, top)) (cases_eq (bit_at n b) 1)
+
 pub write_moves : (k word new : ℕ) → with_writer k word ≡ Some new → WordMoves k word new true false × NoneElse k word × NoReader k word
 write_moves k word new e = let t = cond_some (eqb word 0) (writer_bit k) new e in let zero_ : word ≡ 0 = eqb-true word 0 t.0 in let is : new ≡ 2 ^ (32 + k) = sym t.1 in
     let old : (b : ℕ) → bit word b ≡ false = λ b. ap (λ n. bit n b) zero_ ∙ zero_bit b in
@@ -117,5 +120,4 @@ give_moves k word low = record {
     there b l ne ne' = let a = bit_at_and word (bit_not w64 mask) b in let n = bit_at_not w64 mask b small l in let x = bit_at-pow_other k b ne in let y = bit_at-pow_other (32 + k) b ne' in let m = both b in let top = bit_at-lt word b in omega (arith, a, n, x, y, m, top)
 
     stays_clear : (b : ℕ) → bit word b ≡ false → bit new b ≡ bit word b
-    stays_clear b z = let top = bit_at-lt word b in let o : bit_at word b ≡ 0 = ⊎_elim (λ (q : bit_at word b ≡ 1). absurd (both_ways (bit word b) z (set_bit word b q))) (λ (ne : bit_at word b ≢ 1). omega (arith, top)) (cases_eq (bit_at word b) 1) in
-        let a = bit_at_and word (bit_not w64 mask) b in clear_bit new b (omega (arith, a, o)) ∙ sym z
+    stays_clear b z = let o = clear_at word b z in let a = bit_at_and word (bit_not w64 mask) b in clear_bit new b (omega (arith, a, o)) ∙ sym z

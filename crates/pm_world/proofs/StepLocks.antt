@@ -21,12 +21,12 @@ use Rattle.pm_world.specs.States.{State, Diff, diff, given, val, root_line, read
 use Rattle.pm_world.specs.Sights.{Hold, Sight, is_pictured, is_recorded, is_made, picture, fresh, sight_by, sight_of}
 use Rattle.pm_world.specs.Lanes.{Ghost, owns, has, SightFits, Flies, Alone, Bits}
 use Rattle.pm_world.specs.Memory.{Memory, PoolWord, LockWord, IsSame, IsSameBut, bit, cells_of}
-use Rattle.pm_world.specs.World.{Opening, Views, Past, origin, ghost_of, settled_words, LaneFits, World}
+use Rattle.pm_world.specs.World.{Opening, Views, Past, origin, ghost_of, settled_words, LaneFits, may_draw, World}
 use Rattle.pm_world.specs.Laws.{Turn, Keeps}
 use Rattle.pm_world.proofs.Cells.{other_number}
 use Rattle.pm_world.proofs.Frame.{fresh_given, found_has}
 use Rattle.pm_world.proofs.Going.{Turned}
-use Rattle.pm_world.proofs.LockBits.{WordMoves, NoneElse, NoReader, write_moves, read_moves, raise_moves, give_moves}
+use Rattle.pm_world.proofs.LockBits.{WordMoves, NoneElse, NoReader, clear_at, write_moves, read_moves, raise_moves, give_moves}
 use Rattle.pm_world.proofs.Locks.{Relocked, taking, takes, raising, raises, giving, gives, held, root_locked, owned_more, took_else}
 use Rattle.pm_world.proofs.StepClaims.{claimed_view, relocked_cells, claims_step}
 use Rattle.pm_world.proofs.StepPlain.{plain_step, lane_told}
@@ -133,7 +133,7 @@ module _ (o : Opening) (mem : Memory) (views : Views) (g : Past) (x : World o me
   -- a lock is won
   wins : (new : Memory) (views' : Views) (l : ℕ) (w : Bool) (s : Step) → is_early (views k).log.phase ≡ true → holds (views k).claims l ≡ false → IsSameBut (LockWord l) mem new → WordMoves k (mem (LockWord l)) (new (LockWord l)) w (not w) → NoneElse k (mem (LockWord l))
       → (w ≡ true → NoReader k (mem (LockWord l))) → Turn views views' k (record (views k) { claims = Took l w ∷ (views k).claims; seen = s ∷ (views k).seen })
-      → Rattle.pm_world.specs.World.may_draw (record (views k) { claims = Took l w ∷ (views k).claims; seen = s ∷ (views k).seen }) ≡ Rattle.pm_world.specs.World.may_draw (views k) → World o new views' g
+      → may_draw (record (views k) { claims = Took l w ∷ (views k).claims; seen = s ∷ (views k).seen }) ≡ may_draw (views k) → World o new views' g
   wins new views' l w s early free same c none_ readers t draws = let sh = (views k).fixed.shape in let n = taking o.shape o.lanes (origin o) (cells_of o.shape mem) (λ j. sight_of (views j)) (ghost_of g) x.bits k ink early l (cells_of o.shape new).writer (cells_of o.shape new).reader w in
       let r = relocked_by new l w (not w) same c in
       let sight = took_sight sh (views k).fixed.lane (views k).claims (views k).log (views k).changes l w found_held free in
@@ -145,3 +145,62 @@ module _ (o : Opening) (mem : Memory) (views : Views) (g : Past) (x : World o me
           (picture sh (Took l w ∷ (views k).claims)) (took_less sh (views k).fixed.lane (views k).claims (views k).log (views k).changes l w) (took_dark sh (views k).fixed.lane (views k).claims (views k).log (views k).changes l w)
           (λ p b y e. took_same sh (views k).fixed.lane (views k).claims (views k).log (views k).changes l w p b (ap given e) ∙ own_sight.fresh p b y e)
           (λ j. sight_of (views' j)) record { here = ap sight_of t.here ∙ sight; else_ = λ j ne. ap sight_of (t.else_ j ne) })
+
+  -- a lock is refused
+  refused : (new : Memory) (views' : Views) (s : Step) → IsSame mem new → Turn views views' k (record (views k) { seen = s ∷ (views k).seen }) → may_draw (record (views k) { seen = s ∷ (views k).seen }) ≡ may_draw (views k) → World o new views' g
+  refused new views' s same t draws = plain_step o mem new views views' g x k ink same (record (views k) { seen = s ∷ (views k).seen }) t refl draws (λ e. e) (lane_told o mem g k (views k) (s ∷ (views k).seen) (views k).call (views k).actions (x.each_lane k ink))
+
+  -- ---- WHERE ONE LANE RUNS the word of a lock tells of it alone
+  others_none : o.lanes ≡ 1 → (j : ℕ) → j ≢ k → (views j).claims ≡ []
+  others_none one j ne = (x.idle_beyond j (omega arith)).2
+
+  one_runs : IsTrue (runs_one (views k)) → o.lanes ≡ 1
+  one_runs e = sym (x.each_lane k ink).lanes ∙ eqb-true (views k).fixed.lanes 1 e
+
+  lone_bit : o.lanes ≡ 1 → (l b : ℕ) → b ≢ k → locked (views k).claims l ≡ false → bit_at (mem (LockWord l)) b ≡ 0
+  lone_bit one l b ne free = clear_at (mem (LockWord l)) b (⊎_elim
+      (λ (a : b < 32). sym (ap (λ t. t && bit (mem (LockWord l)) b) (lt-ltb b 32 a)) ∙ ((x.bits.each_lane b).hold.reading l ∙ ap (λ t. reads t l) (others_none one b ne)))
+      (λ (a : 32 ≤ b). let j = b - 32 in let e : 32 + j ≡ b = omega arith in sym (ap (bit (mem (LockWord l))) e) ∙ ((x.bits.each_lane j).hold.locks l ∙ ⊎_elim (λ (q : j ≡ k). ap (λ i. locked (views i).claims l) q ∙ free) (λ (n : j ≢ k). ap (λ t. locked t l) (others_none one j n)) (cases_eq j k))) (cases_lt b 32))
+
+  own_reader : (l : ℕ) → bit (mem (LockWord l)) k ≡ reads (views k).claims l
+  own_reader l = sym (ap (λ t. t && bit (mem (LockWord l)) k) (lt-ltb k 32 low_lane)) ∙ own_sight.hold.reading l
+
+  lone_free : o.lanes ≡ 1 → (l : ℕ) → holds (views k).claims l ≡ false → mem (LockWord l) ≡ 0
+  lone_free one l free = let u = or_parts (locked (views k).claims l) (reads (views k).claims l) free in same_from_bits (mem (LockWord l)) 0 (λ b. ⊎_elim (λ (q : b ≡ k). clear_at (mem (LockWord l)) b (ap (bit (mem (LockWord l))) q ∙ (own_reader l ∙ u.1))) (λ (ne : b ≢ k). lone_bit one l b ne u.0) (cases_eq b k) ∙ sym (bit_at-zero b))
+
+  lone_reader : o.lanes ≡ 1 → (l : ℕ) → reads (views k).claims l ≡ true → mem (LockWord l) ≡ reader_bit k
+  lone_reader one l e = same_from_bits (mem (LockWord l)) (2 ^ k) (λ b. ⊎_elim (λ (q : b ≡ k). ap (bit_at (mem (LockWord l))) q ∙ (eqb-true (bit_at (mem (LockWord l)) k) 1 (own_reader l ∙ e) ∙ (sym (bit_at-pow_same k) ∙ ap (bit_at (2 ^ k)) (sym q)))) (λ (ne : b ≢ k). lone_bit one l b ne free ∙ sym (bit_at-pow_other k b ne)) (cases_eq b k))
+    where
+      free : locked (views k).claims l ≡ false
+      free = false_from_ne_true (locked (views k).claims l) (λ q. both_ways (reads (views k).claims l) (sym (own_sight.hold.reading l) ∙ (x.bits.alone l k (own_sight.hold.locks l ∙ q) k).0) e)
+
+never_none : (a b : Option ℕ) → a ≡ None → a ≡ b → given b ≡ true → ⊥
+never_none a b n e s = both_ways (given b) (ap given (sym e ∙ n)) s
+
+pub takes_write : (line : ℕ) (won : Bool) → Keeps (TakeWrite line won)
+takes_write line true o mem new views views' g k x ink law moves t = let m = write_moves k (mem (LockWord line)) (new (LockWord line)) moves.1 in
+    (wins o mem views g x k ink new views' line true (TakeWrite line true) law.allowed.early law.allowed.free moves.0 m.0 m.1 (λ _. m.2) t refl, λ _. refl)
+takes_write line false o mem new views views' g k x ink law moves t = (refused o mem views g x k ink new views' (TakeWrite line false) moves.0 t refl,
+    λ one. absurd (never_none (with_writer k (mem (LockWord line))) (with_writer k 0) moves.1 (ap (with_writer k) (lone_free o mem views g x k ink (one_runs o mem views g x k ink one) line law.allowed.free)) refl))
+
+pub takes_read : (line : ℕ) (won : Bool) → Keeps (TakeRead line won)
+takes_read line true o mem new views views' g k x ink law moves t = let m = read_moves k (mem (LockWord line)) (new (LockWord line)) (low_lane o mem views g x k ink) moves.1 in
+    (wins o mem views g x k ink new views' line false (TakeRead line true) law.allowed.early law.allowed.free moves.0 m.0 m.1 (λ e. absurd (both_ways false refl e)) t refl, λ _. refl)
+takes_read line false o mem new views views' g k x ink law moves t = (refused o mem views g x k ink new views' (TakeRead line false) moves.0 t refl,
+    λ one. absurd (never_none (with_reader k (mem (LockWord line))) (with_reader k 0) moves.1 (ap (with_reader k) (lone_free o mem views g x k ink (one_runs o mem views g x k ink one) line law.allowed.free)) refl))
+
+-- ---- RAISES
+pub raised : (line : ℕ) (won : Bool) → Keeps (Raise line won)
+raised line true o mem new views views' g k x ink law moves t = let m = raise_moves k (mem (LockWord line)) (new (LockWord line)) (low_lane o mem views g x k ink) moves.1 in let sh = (views k).fixed.shape in let c = (views k).claims in
+    let r = relocked_by o mem views g x k ink new line true false moves.0 m.0 in
+    let is : (B : Block) → here sh (Raised line ∷ c) B ≡ (found sh c B && ((line == header o.shape g.geo B) || locked c (header o.shape g.geo B))) = λ B. and_at (found sh c B) ((line == header_in sh c B) || locked c (header_in sh c B)) ((line == header o.shape g.geo B) || locked c (header o.shape g.geo B))
+    (λ e. ap (λ a. (line == a) || locked c a) (header_found o mem views g x k ink B e)) in
+    let n = raising o.shape o.lanes (origin o) (cells_of o.shape mem) (λ j. sight_of (views j)) (ghost_of g) x.bits k ink law.allowed.early line (cells_of o.shape new).writer (cells_of o.shape new).reader (here sh (Raised line ∷ c)) in
+    (claims_step o mem new views views' g x k ink line moves.0 (Raised line ∷ c) (Raise line true ∷ (views k).seen) t law.allowed.early
+        (λ p b _ e. owned_more o.shape o.lanes (origin o) (cells_of o.shape mem) (λ j. sight_of (views j)) (ghost_of g) x.bits k ink n (λ B y. let z = and_parts (found sh c B) (locked c (header_in sh c B)) y in and_from (found sh c B) ((line == header_in sh c B) || locked c (header_in sh c B)) z.0 (or_right (line == header_in sh c B) (locked c (header_in sh c B)) z.1))
+        (λ a y. or_right (line == a) (locked c a) y) p b e)
+        (λ one w y e. ((x.each_lane k ink).alone one).words w y e) (λ a j ne. r.writer_else a j (inr ne)) (λ a j ne. r.reader_else a j (inr ne)) refl
+        (raises o.shape o.lanes (origin o) (cells_of o.shape mem) (λ j. sight_of (views j)) (ghost_of g) x.bits k ink law.allowed.early line (cells_of o.shape new).writer (cells_of o.shape new).reader law.allowed.held r (λ i ne. m.1.writer i ne) (λ i ne. m.2.reader i ne)
+        (here sh (Raised line ∷ c)) is (λ j. sight_of (views' j)) record { here = ap sight_of t.here; else_ = λ j ne. ap sight_of (t.else_ j ne) }), λ _. refl)
+raised line false o mem new views views' g k x ink law moves t = (refused o mem views g x k ink new views' (Raise line false) moves.0 t refl,
+    λ one. absurd (never_none (with_raised k (mem (LockWord line))) (with_raised k (reader_bit k)) moves.1 (ap (with_raised k) (lone_reader o mem views g x k ink (one_runs o mem views g x k ink one) line law.allowed.held)) (ap (λ z. given (cond z (Some (writer_bit k)) None)) (eq-eqb (reader_bit k) (reader_bit k) refl))))
