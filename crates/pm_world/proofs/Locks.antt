@@ -52,7 +52,7 @@ descr_same a f n n' d e = ⊎_elim (λ (q : a ≡ None). subst (λ z. DescrFits 
 
 -- ---- rights that grow
 
-more3 : (m h h' y : Bool) → (h ≡ true → h' ≡ true) → (m || (h || y)) ≡ true → (m || (h' || y)) ≡ true
+pub more3 : (m h h' y : Bool) → (h ≡ true → h' ≡ true) → (m || (h || y)) ≡ true → (m || (h' || y)) ≡ true
 more3 true h h' y u e = refl
 more3 false true h' y u e = or_left h' y (u refl)
 more3 false false h' y u e = or_right h' y e

@@ -1,5 +1,5 @@
 -- LOCKS ARE TAKEN for writing and for reading, raised, and given back.
-use Rattle.std.specs.Prelude.{List, [], ◌∷◌, IsTrue}
+use Rattle.std.specs.Prelude.{List, [], ◌∷◌, IsTrue, All, length, slice_get, slice_index}
 use Rattle.std.specs.Option.{option_map}
 use Rattle.std.specs.Int.{bit_at}
 use Rattle.std.proofs.Common.{◌≡◌, ◌≢◌, ℕ, suc, ◌+◌, ◌-◌, ◌*◌, ◌/◌, ◌%◌, ◌^◌, ◌<◌, ◌≤◌, nat_lt, ◌⊎◌, inl, inr, ⊎_elim, Bool, true, false, cond, not, ◌&&◌, ◌||◌, eqb, ◌==◌, refl, sym, ap, ◌∙◌, subst, arith, eq-eqb, ne_eqb, lt-ltb, Option, None, Some}
@@ -8,26 +8,28 @@ use Rattle.std.proofs.lemmas.Nat.Bits.{bit_at-lt, bit_at-zero, bit_at-pow_same, 
 use Rattle.pm_layout.specs.declared.shape.Shape.{Shape}
 use Rattle.pm_layout.specs.Chunks.{line_of_chunk, word_of_root}
 use Rattle.pm_view.specs.Changes.{Undrained}
-use Rattle.pm_view.specs.LockWords.{reader_bit, writer_bit, with_writer, with_reader, with_raised}
-use Rattle.pm_view.specs.Places.{Place, InRun, InHuge, Descr, RootWord, Block, Small, Big, Root, block_of, header, is_data, word_of}
-use Rattle.pm_view.specs.Entries.{latest, redos, turn}
-use Rattle.pm_view.specs.Log.{Log, is_early}
-use Rattle.pm_view.specs.Claims.{Claim, Took, Raised, Gave, locked, reads, holds, class, header_in, found, here, geometry, pictured}
+use Rattle.pm_view.specs.LockWords.{reader_bit, writer_bit, with_writer, with_reader, with_raised, without_lane}
+use Rattle.pm_view.specs.Places.{Place, InRun, InHuge, Descr, RootWord, Block, Small, Big, Root, block_of, header, is_data, word_of, is_after, distance}
+use Rattle.pm_view.specs.Entries.{Entry, latest, redos, with_redo, first_of_two, turn}
+use Rattle.pm_view.specs.Log.{Phase, Idle, Open, Drawn, Sealing, Applying, Clearing, Retiring, Voiding, Recorded, Log, is_early, old_of}
+use Rattle.pm_view.specs.Claims.{Claim, Took, Raised, Gave, making_of, locked, reads, holds, class, header_in, found, here, geometry, pictured}
 use Rattle.pm_view.specs.Steps.{Step}
 use Rattle.pm_view.specs.Steps.Step.{TakeWrite, TakeRead, Raise, Give}
 use Rattle.pm_view.specs.View.{View, runs_one}
 use Rattle.pm_view.specs.Views.{after}
 use Rattle.pm_world.specs.States.{State, Diff, diff, given, val, root_line, read, Cells}
-use Rattle.pm_world.specs.Sights.{Hold, Sight, is_pictured, is_recorded, is_made, picture, fresh, sight_by, sight_of}
-use Rattle.pm_world.specs.Lanes.{Ghost, owns, has, SightFits, Flies, Alone, Bits}
-use Rattle.pm_world.specs.Memory.{Memory, PoolWord, LockWord, IsSame, IsSameBut, bit, cells_of}
+use Rattle.pm_world.specs.Sights.{Hold, Sight, is_pictured, is_recorded, is_logged, is_made, picture, fresh, call_of, call_in, sight_by, sight_of}
+use Rattle.pm_world.specs.Lanes.{Ghost, own, owns, has, TurnFits, SightFits, Flies, Alone, Bits}
+use Rattle.pm_world.specs.Lawful.{GiveFits, MayGive}
+use Rattle.pm_world.specs.Logs.{PhaseFits}
+use Rattle.pm_world.specs.Memory.{Memory, PoolWord, LockWord, IsSame, IsSameBut, Becomes, bit, cells_of}
 use Rattle.pm_world.specs.World.{Opening, Views, Past, origin, ghost_of, settled_words, LaneFits, may_draw, World}
 use Rattle.pm_world.specs.Laws.{Turn, Keeps}
 use Rattle.pm_world.proofs.Cells.{other_number}
 use Rattle.pm_world.proofs.Frame.{fresh_given, found_has}
 use Rattle.pm_world.proofs.Going.{Turned}
 use Rattle.pm_world.proofs.LockBits.{WordMoves, NoneElse, NoReader, clear_at, write_moves, read_moves, raise_moves, give_moves}
-use Rattle.pm_world.proofs.Locks.{Relocked, taking, takes, raising, raises, giving, gives, held, root_locked, owned_more, took_else}
+use Rattle.pm_world.proofs.Locks.{Relocked, taking, takes, raising, raises, giving, gives, held, root_locked, owned_more, took_else, more3, early_undecided}
 use Rattle.pm_world.proofs.StepClaims.{claimed_view, relocked_cells, claims_step}
 use Rattle.pm_world.proofs.StepPlain.{plain_step, lane_told}
 use Rattle.pm_world.proofs.Worlds.{turned}
@@ -204,3 +206,143 @@ raised line true o mem new views views' g k x ink law moves t = let m = raise_mo
         (here sh (Raised line ∷ c)) is (λ j. sight_of (views' j)) record { here = ap sight_of t.here; else_ = λ j ne. ap sight_of (t.else_ j ne) }), λ _. refl)
 raised line false o mem new views views' g k x ink law moves t = (refused o mem views g x k ink new views' (Raise line false) moves.0 t refl,
     λ one. absurd (never_none (with_raised k (mem (LockWord line))) (with_raised k (reader_bit k)) moves.1 (ap (with_raised k) (lone_reader o mem views g x k ink (one_runs o mem views g x k ink one) line law.allowed.held)) (ap (λ z. given (cond z (Some (writer_bit k)) None)) (eq-eqb (reader_bit k) (reader_bit k) refl))))
+
+-- ---- GIVES
+and_at_left : (x y a : Bool) → (a ≡ true → x ≡ y) → (x && a) ≡ (y && a)
+and_at_left x y true u = ap (λ t. t && true) (u refl)
+and_at_left true true false u = refl
+and_at_left true false false u = refl
+and_at_left false true false u = refl
+and_at_left false false false u = refl
+
+-- a call without records and entries makes nothing
+made_by_none : (B : Block) → is_made (turn (latest []) B) ≡ false
+made_by_none (Small c i) = refl
+made_by_none (Big f) = refl
+made_by_none Root = refl
+
+nothing_made : (d m : Bool) (pc : Option Bool) → m ≡ false → given (cond (d && (m || false)) pc None) ≡ false
+nothing_made true false pc e = refl
+nothing_made true true pc e = absurd (both_ways true e refl)
+nothing_made false m pc e = refl
+
+made_nothing : (sh : Shape) (t : List Claim) (log : Log) → log.records ≡ [] → log.entries ≡ [] → (p : Place) (b : ℕ) → given (diff (call_of sh t log) p b) ≡ false
+made_nothing sh t log r e p b = let B = block_of (geometry sh t) p b in
+    ap (λ es. given (first_of_two (latest (redos es) p b) (cond (is_data p && (is_made (turn (latest (redos es)) B) || is_recorded log.records p)) (picture sh t p b) None))) e
+    ∙ (ap (λ rs. given (cond (is_data p && (is_made (turn (latest []) B) || is_recorded rs p)) (picture sh t p b) None)) r ∙ nothing_made (is_data p) (is_made (turn (latest []) B)) (picture sh t p b) (made_by_none B))
+
+-- no entry changes the root word
+no_root : (es : List Entry) → All (λ (e : Entry). e.place ≢ Some RootWord) es → (b : ℕ) → latest (redos es) RootWord b ≡ None
+no_root [] a b = refl
+no_root (e ∷ es) a b = go e.place refl (no_root es (λ n d l. a (suc n) d (omega arith)) b)
+  where
+    go : (p : Option Place) → e.place ≡ p → latest (redos es) RootWord b ≡ None → latest (with_redo p e (redos es)) RootWord b ≡ None
+    go None q r = r
+    go (Some (InRun c w)) q r = ap (λ y. first_of_two y None) r
+    go (Some (InHuge c w)) q r = ap (λ y. first_of_two y None) r
+    go (Some (Descr c)) q r = ap (λ y. first_of_two y None) r
+    go (Some RootWord) q r = absurd (a 0 e (omega arith) q)
+
+-- nor is it under a record
+root_unrecorded : (rs : List Recorded) → ((j : ℕ) (r : Recorded) → slice_get rs j ≡ Some r → is_data r.place ≡ true) → old_of rs RootWord ≡ None
+root_unrecorded [] a = refl
+root_unrecorded (r ∷ rs) a = ap (λ y. first_of_two y (old_of rs RootWord)) (of r.place (a 0 r refl)) ∙ root_unrecorded rs (λ j q e. a (suc j) q e)
+  where
+    of : (p : Place) → is_data p ≡ true → cond (is_after p RootWord && nat_lt (distance p RootWord) (length r.old)) (Some (slice_index r.old (distance p RootWord))) None ≡ None
+    of (InRun c w) e = refl
+    of (InHuge c w) e = refl
+    of (Descr c) e = refl
+    of RootWord e = absurd (both_ways false refl e)
+
+module _ (o : Opening) (mem new : Memory) (views views' : Views) (g : Past) (x : World o mem views g) (k : ℕ) (ink : k < o.lanes) (line : ℕ) (law : MayGive (views k) line) (moves : Becomes (LockWord line) (without_lane k (mem (LockWord line))) mem new)
+    (t : Turn views views' k (after (views k) (Give line))) where
+  fit : SightFits o.shape (cells_of o.shape mem) (settled_words o g) (Flies (ghost_of g) k) (ghost_of g) k (sight_of (views k))
+  fit = x.bits.each_lane k
+
+  early : is_early (views k).log.phase ≡ true
+  early = go (views k).log.phase law.fits
+    where
+      go : (ph : Phase) → GiveFits (views k) line ph → is_early ph ≡ true
+      go Idle f = refl
+      go Open f = refl
+      go (Drawn n) f = absurd f
+      go (Sealing n) f = absurd f
+      go (Applying es) f = absurd f
+      go Clearing f = absurd f
+      go (Retiring n) f = absurd f
+      go Voiding f = absurd f
+
+  -- its call is idle, or has found nothing under the line
+  phases : ((views k).log.phase ≡ Idle) ⊎ (((B : Block) → found (views k).fixed.shape (views k).claims B ≡ true → header_in (views k).fixed.shape (views k).claims B ≢ line) × All (λ (e : Entry). e.place ≢ Some RootWord) (views k).log.entries)
+  phases = go (views k).log.phase refl law.fits
+    where
+      go : (ph : Phase) → (views k).log.phase ≡ ph → GiveFits (views k) line ph → ((views k).log.phase ≡ Idle) ⊎ (((B : Block) → found (views k).fixed.shape (views k).claims B ≡ true → header_in (views k).fixed.shape (views k).claims B ≢ line) × All (λ (e : Entry). e.place ≢ Some RootWord) (views k).log.entries)
+      go Idle q f = inl q
+      go Open q f = inr (f.1, f.2)
+      go (Drawn n) q f = absurd f
+      go (Sealing n) q f = absurd f
+      go (Applying es) q f = absurd f
+      go Clearing q f = absurd f
+      go (Retiring n) q f = absurd f
+      go Voiding q f = absurd f
+
+  abbrev gave : Hold
+  gave = giving o.shape o.lanes (origin o) (cells_of o.shape mem) (λ j. sight_of (views j)) (ghost_of g) x.bits k ink early line (cells_of o.shape new).writer (cells_of o.shape new).reader (found (views k).fixed.shape (Gave line ∷ (views k).claims)) (here (views k).fixed.shape (Gave line ∷ (views k).claims))
+
+  abbrev gave_held : Hold
+  gave_held = held o.shape o.lanes (origin o) (cells_of o.shape mem) (λ j. sight_of (views j)) (ghost_of g) x.bits k ink gave
+
+  -- what is not under the line is the lane's still
+  still_here : ((B : Block) → found (views k).fixed.shape (views k).claims B ≡ true → header_in (views k).fixed.shape (views k).claims B ≢ line) → (B : Block) → here (views k).fixed.shape (views k).claims B ≡ true → here (views k).fixed.shape (Gave line ∷ (views k).claims) B ≡ true
+  still_here none_ B e = let m = header_in (views k).fixed.shape (views k).claims B in let y = and_parts (found (views k).fixed.shape (views k).claims B) (locked (views k).claims m) e in
+      let z : not (line == m) ≡ true = ap not (ne_eqb line m (λ q. none_ B y.0 (sym q))) in
+      and_from (not (line == m) && found (views k).fixed.shape (views k).claims B) (not (line == m) && locked (views k).claims m) (and_from (not (line == m)) (found (views k).fixed.shape (views k).claims B) z y.0) (and_from (not (line == m)) (locked (views k).claims m) z y.1)
+
+  kept : ((B : Block) → found (views k).fixed.shape (views k).claims B ≡ true → header_in (views k).fixed.shape (views k).claims B ≢ line) → (B : Block) → own (sight_of (views k)).hold B ≡ true → own gave_held B ≡ true
+  kept none_ B w = more3 ((sight_of (views k)).hold.mine B) ((sight_of (views k)).hold.here B) (here (views k).fixed.shape (Gave line ∷ (views k).claims) B) (making_of (sight_of (views k)).hold.making B) (still_here none_ B) w
+
+  unlogged_root : (sight_of (views k)).logged RootWord ≡ false
+  unlogged_root = false_from_ne_true ((sight_of (views k)).logged RootWord) (λ e. both_ways false refl (fit.stored RootWord 0 (early_undecided (views k).log.phase early) e))
+
+  -- of what the lane owns no more its call makes nothing
+  undone : (p : Place) (b : ℕ) → owns g.geo (settled_words o g) (sight_of (views k)).hold p b ≡ true → owns g.geo (settled_words o g) gave_held p b ≡ false → (given (diff (call_in (views k)) p b) ≡ false) × ((sight_of (views k)).logged p ≡ false)
+  undone p b w u = ⊎_elim (λ (q : (views k).log.phase ≡ Idle). let z = subst (PhaseFits o.shape k (sight_of (views k)).picture (views k).log (views k).changes) q (x.each_lane k ink).log.phase in
+      let d = made_nothing (views k).fixed.shape (views k).claims (views k).log z.0 z.1 p b in
+      (d, ap (λ rs. is_logged (views k).fixed.shape (views k).fixed.lane (views k).changes rs p) z.0))
+      (λ (q : ((B : Block) → found (views k).fixed.shape (views k).claims B ≡ true → header_in (views k).fixed.shape (views k).claims B ≢ line) × All (λ (e : Entry). e.place ≢ Some RootWord) (views k).log.entries). by_place q.0 q.1 p w u) phases
+    where
+      by_place : ((B : Block) → found (views k).fixed.shape (views k).claims B ≡ true → header_in (views k).fixed.shape (views k).claims B ≢ line) → All (λ (e : Entry). e.place ≢ Some RootWord) (views k).log.entries
+          → (p : Place) → owns g.geo (settled_words o g) (sight_of (views k)).hold p b ≡ true → owns g.geo (settled_words o g) gave_held p b ≡ false → (given (diff (call_in (views k)) p b) ≡ false) × ((sight_of (views k)).logged p ≡ false)
+      by_place none_ a (InRun d i) w u = absurd (both_ways (owns g.geo (settled_words o g) gave_held (InRun d i) b) u (kept none_ (block_of g.geo (InRun d i) b) w))
+      by_place none_ a (InHuge d i) w u = absurd (both_ways (own gave_held (Big (g.geo.first d))) u (kept none_ (Big (g.geo.first d)) w))
+      by_place none_ a (Descr d) w u = absurd (both_ways (own gave_held (Big (g.geo.first d))) u (kept none_ (Big (g.geo.first d)) w))
+      by_place none_ a RootWord w u = (ap (λ y. given (first_of_two y None)) (no_root (views k).log.entries a b), unlogged_root)
+
+  freed : (B : Block) → turn (latest (redos (views k).log.entries)) B ≡ Some false → here (views k).fixed.shape (views k).claims B ≡ true → here (views k).fixed.shape (Gave line ∷ (views k).claims) B ≡ true
+  freed B e h = ⊎_elim (λ (q : (views k).log.phase ≡ Idle). let z = subst (λ ph. TurnFits ph (locked (views k).claims (header o.shape g.geo B)) ((sight_of (views k)).hold.mine B) ((sight_of (views k)).hold.here B) (turn (latest (redos (views k).log.entries)) B)) q (fit.turns B) in absurd (both_ways false refl (ap given (sym z ∙ e))))
+      (λ (q : ((B : Block) → found (views k).fixed.shape (views k).claims B ≡ true → header_in (views k).fixed.shape (views k).claims B ≢ line) × All (λ (e : Entry). e.place ≢ Some RootWord) (views k).log.entries). still_here q.0 B h) phases
+
+  recorded_kept : (p : Place) (b : ℕ) → is_recorded (views k).log.records p ≡ true → owns g.geo (settled_words o g) (sight_of (views k)).hold p b ≡ true → owns g.geo (settled_words o g) gave_held p b ≡ false → ⊥
+  recorded_kept p b e w u = ⊎_elim (λ (q : (views k).log.phase ≡ Idle). let z = subst (PhaseFits o.shape k (sight_of (views k)).picture (views k).log (views k).changes) q (x.each_lane k ink).log.phase in both_ways (is_recorded (views k).log.records p) (ap (λ rs. is_recorded rs p) z.0) e)
+      (λ (q : ((B : Block) → found (views k).fixed.shape (views k).claims B ≡ true → header_in (views k).fixed.shape (views k).claims B ≢ line) × All (λ (e : Entry). e.place ≢ Some RootWord) (views k).log.entries). by_place q.0 p e w u) phases
+    where
+      by_place : ((B : Block) → found (views k).fixed.shape (views k).claims B ≡ true → header_in (views k).fixed.shape (views k).claims B ≢ line) → (p : Place) → is_recorded (views k).log.records p ≡ true → owns g.geo (settled_words o g) (sight_of (views k)).hold p b ≡ true → owns g.geo (settled_words o g) gave_held p b ≡ false → ⊥
+      by_place none_ (InRun d i) e w u = both_ways (owns g.geo (settled_words o g) gave_held (InRun d i) b) u (kept none_ (block_of g.geo (InRun d i) b) w)
+      by_place none_ (InHuge d i) e w u = both_ways (own gave_held (Big (g.geo.first d))) u (kept none_ (Big (g.geo.first d)) w)
+      by_place none_ (Descr d) e w u = both_ways (own gave_held (Big (g.geo.first d))) u (kept none_ (Big (g.geo.first d)) w)
+      by_place none_ RootWord e w u = both_ways (is_recorded (views k).log.records RootWord) (ap given (root_unrecorded (views k).log.records (λ j r q. ((x.each_lane k ink).log.records j r q).4))) e
+
+  pub given_back : World o new views' g
+  given_back = let r = relocked_by o mem views g x k ink new line false false moves.0 (subst (λ n. WordMoves k (mem (LockWord line)) n false false) (sym moves.1) (give_moves k (mem (LockWord line)) (low_lane o mem views g x k ink))) in
+      let sh = (views k).fixed.shape in let c = (views k).claims in
+      let fi : (B : Block) → found sh (Gave line ∷ c) B ≡ (not (line == header o.shape g.geo B) && found sh c B) = λ B. and_at_left (not (line == header_in sh c B)) (not (line == header o.shape g.geo B)) (found sh c B) (λ e. ap (λ a. not (line == a)) (header_found o mem views g x k ink B e)) in
+      let hi : (B : Block) → here sh (Gave line ∷ c) B ≡ (found sh (Gave line ∷ c) B && (not (line == header o.shape g.geo B) && locked c (header o.shape g.geo B))) = λ B. and_at (found sh (Gave line ∷ c) B) (not (line == header_in sh c B) && locked c (header_in sh c B)) (not (line == header o.shape g.geo B) && locked c (header o.shape g.geo B))
+      (λ e. ap (λ a. not (line == a) && locked c a) (header_found o mem views g x k ink B (and_parts (not (line == header_in sh c B)) (found sh c B) e).1)) in
+      claims_step o mem new views views' g x k ink line moves.0 (Gave line ∷ c) (views k).seen t early
+          (λ p b e w. ⊎_elim (λ (q : owns g.geo (settled_words o g) gave_held p b ≡ true). q) (λ (q : owns g.geo (settled_words o g) gave_held p b ≡ false). absurd (recorded_kept p b e w q)) (cases_Bool (owns g.geo (settled_words o g) gave_held p b)))
+          (λ one w y e. ((x.each_lane k ink).alone one).words w y e) (λ a j ne. r.writer_else a j (inr ne)) (λ a j ne. r.reader_else a j (inr ne)) refl
+          (gives o.shape o.lanes (origin o) (cells_of o.shape mem) (λ j. sight_of (views j)) (ghost_of g) x.bits k ink early line (cells_of o.shape new).writer (cells_of o.shape new).reader r (found sh (Gave line ∷ c)) (here sh (Gave line ∷ c)) fi hi
+          freed undone (λ j. sight_of (views' j)) record { here = ap sight_of t.here; else_ = λ j ne. ap sight_of (t.else_ j ne) })
+
+pub gave_back : (line : ℕ) → Keeps (Give line)
+gave_back line o mem new views views' g k x ink law moves t = (given_back o mem new views views' g x k ink line law.allowed moves t, tt)
