@@ -1,7 +1,7 @@
 -- THE WORLD GOES ON: what a step of lane k owes of words, views and ghosts beside the bits.
 use Rattle.std.specs.Prelude.{List, [], length, slice_index}
-use Rattle.std.proofs.Common.{◌≡◌, ◌≢◌, ℕ, suc, ◌+◌, ◌*◌, ◌^◌, ◌<◌, ◌≤◌, ◌⊎◌, ⊎_elim, Bool, true, false, eqb, ◌==◌, refl, sym, ap, ◌∙◌, subst, arith, Option, None, Some}
-use Rattle.std.proofs.lemmas.Bool.{cases_eq, cases_lt, both_ways}
+use Rattle.std.proofs.Common.{◌≡◌, ◌≢◌, ℕ, zero, suc, ◌+◌, ◌*◌, ◌^◌, ◌<◌, ◌≤◌, ◌⊎◌, ⊎_elim, Bool, true, false, eqb, ◌==◌, refl, sym, ap, ◌∙◌, subst, arith, Option, None, Some}
+use Rattle.std.proofs.lemmas.Bool.{cases_eq, eqb-true, eq-eqb, cases_lt, both_ways}
 use Rattle.pm_layout.specs.declared.shape.Shape.{Shape}
 use Rattle.pm_view.specs.Limits.{greatest_generation}
 use Rattle.pm_record.specs.Undo.{undo_of}
@@ -99,8 +99,13 @@ module _ (o : Opening) (mem : Memory) (views : Views) (g : Past) (x : World o me
     small = small;
     header = header;
     counter_room = room;
+    zone_locks = λ z. locked_by z (new (ZoneLock z)) refl;
     stop_word = stop;
   }
+    where
+      locked_by : (z n : ℕ) → new (ZoneLock z) ≡ n → new (ZoneLock z) ≤ o.lanes
+      locked_by z zero e = omega arith
+      locked_by z (suc j) e = ⊎_elim (λ (q : j ≡ k). omega arith) (λ (ne : j ≢ k). let y = eqb-true (mem (ZoneLock z)) (suc j) (sym (a.zone z j ne) ∙ eq-eqb (new (ZoneLock z)) (suc j) e) in let l = x.zone_locks z in omega arith) (cases_eq j k)
 
 -- a lane that is at its stop number stays so
 pub stops_stay : (views views' : Views) (k : ℕ) (v : View) → Turn views views' k v → (IsAtStop (views k) → IsAtStop v) → (j : ℕ) → IsAtStop (views j) → IsAtStop (views' j)

@@ -121,6 +121,8 @@ pub record World (o : Opening) (mem : Memory) (views : Views) (g : Past) : Type 
   pub of_lanes : (n : ℕ) → n < g.length → (g.drew n).fixed.lane < o.lanes
   pub small : (w : ℕ) → mem (PoolWord w) < 2 ^ 64
   pub header : (w : ℕ) → is_header o.shape w ≡ true → mem (PoolWord w) ≡ slice_index o.words w
+  -- a zone's lock is free, or a lane's that runs
+  pub zone_locks : (z : ℕ) → mem (ZoneLock z) ≤ o.lanes
   -- numbers do not run out
   pub counter_room : mem CommitCounter + may_draw_count views o.lanes < greatest_generation o.shape + 32
   pub stop_word : (mem StopWord ≡ 0) ⊎ ((k : ℕ) × (k < o.lanes) × IsAtStop (views k))
