@@ -1,5 +1,5 @@
 -- What a lane's view says of each line, block, chunk and place: point functions over its lists.
-use Rattle.std.specs.Prelude.{ℕ, Bool, true, false, cond, not, ◌==◌, ◌&&◌, ◌||◌, List, [], ◌∷◌, Option, None, Some}
+use Rattle.std.specs.Prelude.{ℕ, nat_lt, Bool, true, false, cond, not, ◌==◌, ◌&&◌, ◌||◌, List, [], ◌∷◌, Option, None, Some}
 use Rattle.std.specs.Option.{option_map}
 use Rattle.std.specs.Int.{bit_at}
 use Rattle.pm_layout.specs.declared.shape.Shape.{Shape}
@@ -32,8 +32,8 @@ hold_of sh t = record { locked = locked t; reads = reads t; found = found sh t; 
 
 -- a place that may be data or the root's offset: a lane's picture is of these
 abbrev pub is_pictured : Place → Bool
-is_pictured (InRun c w) = is_data (InRun c w)
-is_pictured (InHuge c w) = is_data (InHuge c w)
+is_pictured (InRun c w) = is_data (InRun c w) && nat_lt w 512
+is_pictured (InHuge c w) = nat_lt w 512
 is_pictured (Descr c) = false
 is_pictured RootWord = true
 
