@@ -292,10 +292,10 @@ module _ (sh : Shape) (k : ℕ) (x : Sight) (holds : ℕ → Hold) (cells cells'
   away : (B : Block) → own v.hold B ≡ true → own x.hold B ≡ false
   away = disjoint sh cells S (Flies g j) (Flies g k) g geo al j k v x f z ne
 
-  has_away : (B : Block) → has v.hold B ≡ true → own x.hold B ≡ false
+  pub has_away : (B : Block) → has v.hold B ≡ true → own x.hold B ≡ false
   has_away = has_apart sh cells S (Flies g j) (Flies g k) g geo al j k v x f z ne
 
-  bit_away : (p : Place) (b : ℕ) → owns g.geo S v.hold p b ≡ true → owns g.geo S x.hold p b ≡ false
+  pub bit_away : (p : Place) (b : ℕ) → owns g.geo S v.hold p b ≡ true → owns g.geo S x.hold p b ≡ false
   bit_away = owns_apart sh cells S (Flies g j) (Flies g k) g geo al j k v x f z ne
 
   first_is : (c : ℕ) → (g'.geo.first c ≡ g.geo.first c) ⊎ ((has v.hold (Big (g.geo.first c)) ≡ false) × (has v.hold (Big (g'.geo.first c)) ≡ false))
@@ -307,11 +307,11 @@ module _ (sh : Shape) (k : ℕ) (x : Sight) (holds : ℕ → Hold) (cells cells'
   first_back : (c : ℕ) → has v.hold (Big (g'.geo.first c)) ≡ true → g'.geo.first c ≡ g.geo.first c
   first_back c o = ⊎_elim (λ (t : g'.geo.first c ≡ g.geo.first c). t) (λ (t : (has v.hold (Big (g.geo.first c)) ≡ false) × (has v.hold (Big (g'.geo.first c)) ≡ false)). absurd (both_ways (has v.hold (Big (g'.geo.first c))) t.1 o)) (first_is c)
 
-  class_kept : (c i : ℕ) → has v.hold (Small c i) ≡ true → g'.geo.class c ≡ g.geo.class c
+  pub class_kept : (c i : ℕ) → has v.hold (Small c i) ≡ true → g'.geo.class c ≡ g.geo.class c
   class_kept c i o = m.class c (class_apart sh cells S (Flies g j) (Flies g k) g geo al j k v x f z ne c i o)
 
   -- which places are whose stays, of what lane j has
-  block_kept : (p : Place) (b : ℕ) → has v.hold (block_of g.geo p b) ≡ true → block_of g'.geo p b ≡ block_of g.geo p b
+  pub block_kept : (p : Place) (b : ℕ) → has v.hold (block_of g.geo p b) ≡ true → block_of g'.geo p b ≡ block_of g.geo p b
   block_kept (InRun c u) b o = ap (λ cl. Small c (part cl u b)) (class_kept c (part (g.geo.class c) u b) o)
   block_kept (InHuge c u) b o = ap (λ y. Big y) (first_kept c o)
   block_kept (Descr c) b o = ap (λ y. Big y) (first_kept c o)
@@ -336,13 +336,13 @@ module _ (sh : Shape) (k : ℕ) (x : Sight) (holds : ℕ → Hold) (cells cells'
   owned_root_back : (s s' : State) → ((p : Place) (b : ℕ) → owns g.geo S x.hold p b ≡ false → s' p b ≡ s p b) → (b : ℕ) → owns g'.geo s' v.hold RootWord b ≡ true → owns g.geo s v.hold RootWord b ≡ true
   owned_root_back s s' u b o = subst (λ y. rights v.hold Root (0 ∷ root_line (val y 0 64)) ≡ true) (root_same s s' u (or_left (v.hold.locked 0) (v.hold.reads 0) (root_locked 0 (root_line (val (s' RootWord) 0 64)) o))) o
 
-  owned_back : (p : Place) (b : ℕ) → owns g'.geo S' v.hold p b ≡ true → owns g.geo S v.hold p b ≡ true
+  pub owned_back : (p : Place) (b : ℕ) → owns g'.geo S' v.hold p b ≡ true → owns g.geo S v.hold p b ≡ true
   owned_back (InRun c u) b o = subst (λ B. own v.hold B ≡ true) (block_back (InRun c u) b (own_has v.hold (block_of g'.geo (InRun c u) b) o)) o
   owned_back (InHuge c u) b o = subst (λ B. own v.hold B ≡ true) (block_back (InHuge c u) b (own_has v.hold (block_of g'.geo (InHuge c u) b) o)) o
   owned_back (Descr c) b o = subst (λ B. own v.hold B ≡ true) (block_back (Descr c) b (own_has v.hold (block_of g'.geo (Descr c) b) o)) o
   owned_back RootWord b o = owned_root_back S S' m.set b o
 
-  owned_kept : (p : Place) (b : ℕ) → owns g.geo S v.hold p b ≡ true → owns g'.geo S' v.hold p b ≡ true
+  pub owned_kept : (p : Place) (b : ℕ) → owns g.geo S v.hold p b ≡ true → owns g'.geo S' v.hold p b ≡ true
   owned_kept (InRun c u) b o = subst (λ B. own v.hold B ≡ true) (sym (block_kept (InRun c u) b (own_has v.hold (block_of g.geo (InRun c u) b) o))) o
   owned_kept (InHuge c u) b o = subst (λ B. own v.hold B ≡ true) (sym (block_kept (InHuge c u) b (own_has v.hold (block_of g.geo (InHuge c u) b) o))) o
   owned_kept (Descr c) b o = subst (λ B. own v.hold B ≡ true) (sym (block_kept (Descr c) b (own_has v.hold (block_of g.geo (Descr c) b) o))) o
@@ -361,7 +361,7 @@ module _ (sh : Shape) (k : ℕ) (x : Sight) (holds : ℕ → Hold) (cells cells'
   size_back RootWord b o t = t
 
   -- the block of an owned bit stays, and the moving lane does not own it
-  owned_block : (p : Place) (b : ℕ) → owns g.geo S v.hold p b ≡ true → block_of g'.geo p b ≡ block_of g.geo p b
+  pub owned_block : (p : Place) (b : ℕ) → owns g.geo S v.hold p b ≡ true → block_of g'.geo p b ≡ block_of g.geo p b
   owned_block (InRun c u) b o = block_kept (InRun c u) b (own_has v.hold (block_of g.geo (InRun c u) b) o)
   owned_block (InHuge c u) b o = block_kept (InHuge c u) b (own_has v.hold (block_of g.geo (InHuge c u) b) o)
   owned_block (Descr c) b o = block_kept (Descr c) b (own_has v.hold (block_of g.geo (Descr c) b) o)
@@ -370,7 +370,7 @@ module _ (sh : Shape) (k : ℕ) (x : Sight) (holds : ℕ → Hold) (cells cells'
   runs_kept : (c i : ℕ) → has v.hold (Small c i) ≡ true → g'.runs c ≡ g.runs c
   runs_kept c i o = m.runs c (not_making x.hold c i (has_away (Small c i) o))
 
-  header_kept : (B : Block) → has v.hold B ≡ true → header sh g'.geo B ≡ header sh g.geo B
+  pub header_kept : (B : Block) → has v.hold B ≡ true → header sh g'.geo B ≡ header sh g.geo B
   header_kept (Small c i) o = ap (λ cl. line_of_chunk sh c + (1 + cl * i)) (class_kept c i o)
   header_kept (Big y) o = refl
   header_kept Root o = refl
@@ -392,7 +392,7 @@ module _ (sh : Shape) (k : ℕ) (x : Sight) (holds : ℕ → Hold) (cells cells'
   state_kept s s' u B a (Descr c) e t r = u (Descr c) e (subst (λ C. own x.hold C ≡ false) (sym t) a)
   state_kept s s' u B a RootWord e t r = absurd (r refl)
 
-  live_kept : (s s' : State) → ((p : Place) (b : ℕ) → owns g.geo S x.hold p b ≡ false → s' p b ≡ s p b) → (p : Place) (b : ℕ) → owns g.geo S v.hold p b ≡ true → live s' g'.geo g'.runs p ≡ live s g.geo g.runs p
+  pub live_kept : (s s' : State) → ((p : Place) (b : ℕ) → owns g.geo S x.hold p b ≡ false → s' p b ≡ s p b) → (p : Place) (b : ℕ) → owns g.geo S v.hold p b ≡ true → live s' g'.geo g'.runs p ≡ live s g.geo g.runs p
   live_kept s s' u (InRun c y) b o = let i = part (g.geo.class c) y b in let t = own_has v.hold (Small c i) o in
       ap (λ r. r && shown s' (g'.geo.class c) c y) (runs_kept c i t) ∙ (ap (λ cl. g.runs c && shown s' cl c y) (class_kept c i t)
       ∙ live_same g.geo g.runs s s' geo.twice (λ c r. (geo.classes c r).0) (InRun c y) b (λ q e r. state_kept s s' u (Small c i) (away (Small c i) o) q e r (λ a. small_root c i (sym (ap (λ p. block_of g.geo p e) a) ∙ r))))

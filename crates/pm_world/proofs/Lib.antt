@@ -3,3 +3,7 @@ pub mod Frame
 pub mod Replays
 pub mod Going
 pub mod Draws
+pub mod Cells
+pub mod Worlds
+pub mod Counting
+pub mod StepPlain

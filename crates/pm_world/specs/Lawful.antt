@@ -71,6 +71,7 @@ MayChangeAt v RootWord = IsSomeAnd (value_in v (word_of v.fixed.shape RootWord))
 -- change, none of them recorded before, and no entry is stored yet
 pub record CanRecordAt (v : View) (p : Place) (x : ℕ) : Type 0 where
   pub own : MayChangeAt v p
+  pub plain : is_data p ≡ true
   pub place : is_place v.fixed.shape p ≡ true
   pub present : knows v (word_of v.fixed.shape p) ≡ Some x
   pub small : x < 2 ^ 64
@@ -133,8 +134,6 @@ pub record MayWrite (v : View) (w : ℕ) : Type 0 where
   pub at : place_in v w ≡ Some place
   pub logged : IsTrue (is_logged v.fixed.shape v.fixed.lane v.changes v.log.records place)
   pub unentered : v.log.entries ≡ []
-  -- the root's offset becomes one whose line the lane has locked
-  pub guarded : place ≡ RootWord → ⊥
 
 pub record MayFill (v : View) (w : ℕ) : Type 0 where
   pub place : Place
@@ -317,8 +316,16 @@ NewBlock v (Small c i) = IsInitialised v (Small c i) (λ n. word_of_chunk v.fixe
 NewBlock v (Big f) = IsInitialised v (Big f) (λ n. word_of_chunk v.fixed.shape f + n) (64 * span v.fixed.shape v.claims f)
 NewBlock v Root = ⊥
 
+abbrev pub is_chunk_part : Part → Bool
+is_chunk_part (ChunkPart c i) = true
+is_chunk_part part = false
+
 abbrev pub FilledChange : View → Undrained → Type 0
-FilledChange v u = passes (is_mine v) (block_at v.fixed.shape v.claims u.word) ≡ true
+FilledChange v u = (is_chunk_part (part_in v u.word) ≡ true) × (passes (is_mine v) (block_at v.fixed.shape v.claims u.word) ≡ true)
+
+-- the lane has locked the lines that are to guard the root word
+abbrev pub KeepsRoot : View → Entry → Type 0
+KeepsRoot v e = e.place ≡ Some RootWord → (e.op ≡ op.Set) × (e.value < 2 ^ 64) × HoldsRoot v e.value
 
 abbrev pub HasDrained : View → Type 0
 HasDrained v = (v.changes ≡ []) ⊎ ((v.log.records ≡ []) × (v.log.entries ≡ []) × All (FilledChange v) v.changes)
@@ -332,6 +339,7 @@ pub record MayDraw (v : View) : Type 0 where
   pub seen : Contains v.seen (NumberSeen found)
   pub below : found < greatest_generation v.fixed.shape
   pub new_blocks : (B : Block) → turn (latest (redos v.log.entries)) B ≡ Some true → NewBlock v B
+  pub root : All (KeepsRoot v) v.log.entries
   -- the entries end in that of the generation, where there are any
   pub entries : (v.log.entries ≡ []) ⊎ AreWhole v.fixed.shape v.fixed.lane v.log
 

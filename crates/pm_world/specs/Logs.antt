@@ -9,7 +9,7 @@ use Rattle.pm_record.specs.declared.undo.Undo.{Undo}
 use Rattle.pm_record.specs.declared.redo.Op.{Op}
 use Rattle.pm_record.specs.declared.redo.Op.TheVariants.{Set}
 use Rattle.pm_view.specs.Changes.{Undrained}
-use Rattle.pm_view.specs.Places.{Place, word_of, is_place}
+use Rattle.pm_view.specs.Places.{Place, word_of, is_place, is_data}
 use Rattle.pm_view.specs.Entries.{Entry, entry_head}
 use Rattle.pm_view.specs.Parts.{Part, GenerationPart, SealPart, EntryPart, SlotPart, part_of}
 use Rattle.pm_view.specs.Log.{Phase, Idle, Open, Drawn, Sealing, Applying, Clearing, Retiring, Voiding, Recorded, Log, old_in, old_of}
@@ -116,7 +116,7 @@ pub record LogFits (sh : Shape) (lane generation seal : ℕ) (entry slot : ℕ �
   pub pair_part : (i : ℕ) → i < length l.pair → entry (length l.entries) i ≡ slice_index l.pair i
   -- records stand in their slots, and no word has two; the other slots are of earlier generations
   pub records : (j : ℕ) (r : Recorded) → IsRecordAt l j r → ((i : ℕ) → i < slot_words sh → slot j i ≡ slice_index (spelled sh l.generation r) i) × (1 ≤ length r.old) × (length r.old ≤ old_words sh)
-      × (is_place sh r.place ≡ true)
+      × (is_place sh r.place ≡ true) × (is_data r.place ≡ true)
   pub once : (j m : ℕ) (r q : Recorded) (p : Place) (x y : ℕ) → IsRecordAt l j r → IsRecordAt l m q → old_in r p ≡ Some x → old_in q p ≡ Some y → j ≡ m
   pub olds : is_decided l.phase ≡ false → (p : Place) (x : ℕ) → old_of l.records p ≡ Some x → OldFits S owned p x
   pub slot_part : (i : ℕ) → i < length l.slot → slot (length l.records) i ≡ slice_index l.slot i

@@ -65,26 +65,30 @@ bits_of sh words RootWord b = bit (words (word_of sh RootWord)) b
 abbrev pub descriptor_told : Shape → (ℕ → ℕ) → ℕ → ℕ
 descriptor_told sh words c = cond (is_place sh (Descr c)) (run_told (words (word_of_descriptor sh c))) 0
 
-abbrev pub occupancy_bit : Shape → Memory → Block → Bool
-occupancy_bit sh mem (Small c i) = bit (mem (RunWord (page_of_chunk sh c))) i
-occupancy_bit sh mem (Big c) = bit (mem (ZoneWord (c / 64))) (c % 64)
-occupancy_bit sh mem Root = true
+abbrev pub occupancy_bit : Shape → (ℕ → ℕ) → (ℕ → ℕ) → Block → Bool
+occupancy_bit sh runs zones (Small c i) = bit (runs (page_of_chunk sh c)) i
+occupancy_bit sh runs zones (Big c) = bit (zones (c / 64)) (c % 64)
+occupancy_bit sh runs zones Root = true
+
+-- by the pool's words, the lock words, the occupancy words of runs and zones, the zones' locks, the counter and the stop word
+abbrev pub cells_by : Shape → (ℕ → ℕ) → (ℕ → ℕ) → (ℕ → ℕ) → (ℕ → ℕ) → (ℕ → ℕ) → ℕ → ℕ → Cells
+cells_by sh words locks runs zones zone_locks counter stop = record {
+  pool = bits_of sh words;
+  descr = descriptor_told sh words;
+  generation = λ k. words (word_of_generation sh k);
+  seal = λ k. words (word_of_seal sh k);
+  entry = λ k i half. words (word_of_entry sh k i + half);
+  slot = λ k j i. words (8 * line_of_slot sh k j + i);
+  writer = λ l k. bit (locks l) (32 + k);
+  reader = λ l k. nat_lt k 32 && bit (locks l) k;
+  occ = occupancy_bit sh runs zones;
+  zone = zone_locks;
+  counter = counter;
+  stop = stop;
+}
 
 abbrev pub pool_words : Memory → ℕ → ℕ
 pool_words mem w = mem (PoolWord w)
 
 abbrev pub cells_of : Shape → Memory → Cells
-cells_of sh mem = record {
-  pool = bits_of sh (pool_words mem);
-  descr = descriptor_told sh (pool_words mem);
-  generation = λ k. mem (PoolWord (word_of_generation sh k));
-  seal = λ k. mem (PoolWord (word_of_seal sh k));
-  entry = λ k i half. mem (PoolWord (word_of_entry sh k i + half));
-  slot = λ k j i. mem (PoolWord (8 * line_of_slot sh k j + i));
-  writer = λ l k. bit (mem (LockWord l)) (32 + k);
-  reader = λ l k. nat_lt k 32 && bit (mem (LockWord l)) k;
-  occ = occupancy_bit sh mem;
-  zone = λ z. mem (ZoneLock z);
-  counter = mem CommitCounter;
-  stop = mem StopWord;
-}
+cells_of sh mem = cells_by sh (λ w. mem (PoolWord w)) (λ l. mem (LockWord l)) (λ c. mem (RunWord c)) (λ z. mem (ZoneWord z)) (λ z. mem (ZoneLock z)) (mem CommitCounter) (mem StopWord)

@@ -70,7 +70,7 @@ is_made None = false
 is_made (Some made) = made
 
 abbrev pub fresh : Shape → List Claim → Log → Diff
-fresh sh t log p b = cond (is_pictured p && ((is_data p && is_made (turn (latest (redos log.entries)) (block_of (geometry sh t) p b))) || is_recorded log.records p)) (picture sh t p b) None
+fresh sh t log p b = cond (is_data p && (is_made (turn (latest (redos log.entries)) (block_of (geometry sh t) p b)) || is_recorded log.records p)) (picture sh t p b) None
 
 abbrev pub call_of : Shape → List Claim → Log → Call
 call_of sh t log = record { entries = redos log.entries; fresh = fresh sh t log }

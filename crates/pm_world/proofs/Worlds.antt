@@ -1,0 +1,102 @@
+-- THE WORLD GOES ON: what a step of lane k owes of words, views and ghosts beside the bits.
+use Rattle.std.specs.Prelude.{List, [], length, slice_index}
+use Rattle.std.proofs.Common.{◌≡◌, ◌≢◌, ℕ, suc, ◌+◌, ◌*◌, ◌^◌, ◌<◌, ◌≤◌, ◌⊎◌, ⊎_elim, Bool, true, false, eqb, ◌==◌, refl, sym, ap, ◌∙◌, subst, arith, Option, None, Some}
+use Rattle.std.proofs.lemmas.Bool.{cases_eq, cases_lt, both_ways}
+use Rattle.pm_layout.specs.declared.shape.Shape.{Shape}
+use Rattle.pm_layout.specs.Areas.{greatest_generation}
+use Rattle.pm_record.specs.Undo.{undo_of}
+use Rattle.pm_view.specs.Counts.{IsAtStop}
+use Rattle.pm_view.specs.Log.{Idle}
+use Rattle.pm_view.specs.View.{View}
+use Rattle.pm_world.specs.States.{State, Cells}
+use Rattle.pm_world.specs.Sights.{Hold, Sight, sight_of}
+use Rattle.pm_world.specs.Lanes.{Ghost, settled, owns, Flies, SightFits, Bits}
+use Rattle.pm_world.specs.Logs.{LogFits}
+use Rattle.pm_world.specs.Memory.{Memory, PoolWord, ZoneLock, CommitCounter, StopWord, cells_of}
+use Rattle.pm_world.specs.World.{Opening, Views, Past, origin, ghost_of, settled_words, numbered_by, LaneFits, may_draw_count, is_header, World}
+use Rattle.pm_world.specs.Laws.{Turn}
+use Rattle.pm_world.proofs.Frame.{Around, owned_kept, bit_away}
+use Rattle.pm_world.proofs.Going.{Turned}
+
+-- what the step leaves of the other lanes' areas, zone locks and entries
+pub record Aside (o : Opening) (k : ℕ) (mem new : Memory) (g g' : Past) : Type 0 where
+  pub generation : (j : ℕ) → j ≢ k → (cells_of o.shape new).generation j ≡ (cells_of o.shape mem).generation j
+  pub seal : (j : ℕ) → j ≢ k → (cells_of o.shape new).seal j ≡ (cells_of o.shape mem).seal j
+  pub entry : (j i half : ℕ) → j ≢ k → (cells_of o.shape new).entry j i half ≡ (cells_of o.shape mem).entry j i half
+  pub slot : (j m i : ℕ) → j ≢ k → (cells_of o.shape new).slot j m i ≡ (cells_of o.shape mem).slot j m i
+  pub zone : (z j : ℕ) → j ≢ k → (new (ZoneLock z) == suc j) ≡ (mem (ZoneLock z) == suc j)
+  pub entries : (j : ℕ) → j ≢ k → numbered_by j g'.drew g'.length ≡ numbered_by j g.drew g.length
+
+pub turned : (views views' : Views) (k : ℕ) (v : View) → Turn views views' k v → Turned (λ j. sight_of (views j)) (λ j. sight_of (views' j)) k (sight_of v)
+turned views views' k v t = record { here = ap sight_of t.here; else_ = λ j ne. ap sight_of (t.else_ j ne) }
+
+module _ (o : Opening) (mem : Memory) (views : Views) (g : Past) (x : World o mem views g) (k : ℕ) (ink : k < o.lanes) where
+  abbrev S : State
+  S = settled_words o g
+
+  -- ANOTHER LANE'S FACTS STAY
+  pub lane_stays : (new : Memory) (g' : Past) (S' : State) → settled_words o g' ≡ S' → Around k (sight_of (views k)).hold (λ j. (sight_of (views j)).hold) (cells_of o.shape mem) (cells_of o.shape new) (settled_words o g) S' (ghost_of g) (ghost_of g') → Aside o k mem new g g'
+      → (j : ℕ) → j ≢ k → j < o.lanes → LaneFits o new g' j (views j)
+  lane_stays new g' S' e m a j ne inj = let f = x.each_lane j inj in let l = f.log in record {
+    lane = f.lane;
+    shape = f.shape;
+    lanes = f.lanes;
+    log = subst (λ s. LogFits o.shape j ((cells_of o.shape new).generation j) ((cells_of o.shape new).seal j) ((cells_of o.shape new).entry j) ((cells_of o.shape new).slot j) s (owns g'.geo s (sight_of (views j)).hold) (sight_of (views j)).picture (views j).log (views j).changes) (sym e) record {
+      first = l.first;
+      last = l.last;
+      below = l.below;
+      stored = a.generation j ne ∙ l.stored;
+      bump = l.bump;
+      sealed = a.seal j ne ∙ l.sealed;
+      entries_most = l.entries_most;
+      records_most = l.records_most;
+      pairs = λ i y q. let t = l.pairs i y q in (a.entry j i 0 ne ∙ t.0, a.entry j i 1 ne ∙ t.1, t.2, t.3);
+      pair_part = λ i q. a.entry j (length (views j).log.entries) i ne ∙ l.pair_part i q;
+      records = λ i r q. let t = l.records i r q in (λ y z. a.slot j i y ne ∙ t.0 y z, t.1, t.2, t.3, t.4);
+      once = l.once;
+      olds = λ u p y q b z. let t = l.olds u p y q b z in (owned p b t.0, m.set p b (away p b t.0) ∙ t.1);
+      slot_part = λ i q. a.slot j (length (views j).log.records) i ne ∙ l.slot_part i q;
+      stale = λ i u q z t. l.stale i u q z (sym (ap undo_of (slots i)) ∙ t);
+      area_changes = l.area_changes;
+      phase = l.phase;
+    };
+    number = f.number;
+    zones = λ z. a.zone z j ne ∙ f.zones z;
+    masks = f.masks;
+    room = f.room;
+    within = f.within;
+    alone = λ one. absurd (omega arith);
+    entries = f.entries ∙ sym (a.entries j ne);
+  }
+    where
+      fit : (i : ℕ) → SightFits o.shape (cells_of o.shape mem) (settled_words o g) (Flies (ghost_of g) i) (ghost_of g) i (sight_of (views i))
+      fit i = x.bits.each_lane i
+
+      owned : (p : Rattle.pm_view.specs.Places.Place) (b : ℕ) → owns g.geo (settled_words o g) (sight_of (views j)).hold p b ≡ true → owns g'.geo S' (sight_of (views j)).hold p b ≡ true
+      owned = owned_kept o.shape k (sight_of (views k)) (λ i. (sight_of (views i)).hold) (cells_of o.shape mem) (cells_of o.shape new) (settled_words o g) S' (ghost_of g) (ghost_of g') x.bits.geo x.bits.alone (fit k) m j ne (sight_of (views j)) refl (fit j)
+
+      away : (p : Rattle.pm_view.specs.Places.Place) (b : ℕ) → owns g.geo (settled_words o g) (sight_of (views j)).hold p b ≡ true → owns g.geo (settled_words o g) (sight_of (views k)).hold p b ≡ false
+      away = bit_away o.shape k (sight_of (views k)) (λ i. (sight_of (views i)).hold) (cells_of o.shape mem) (cells_of o.shape new) (settled_words o g) S' (ghost_of g) (ghost_of g') x.bits.geo x.bits.alone (fit k) m j ne (sight_of (views j)) refl (fit j)
+
+      slots : (i : ℕ) → Rattle.pm_world.specs.Logs.slot_list ((cells_of o.shape new).slot j i) ≡ Rattle.pm_world.specs.Logs.slot_list ((cells_of o.shape mem).slot j i)
+      slots i = ap Rattle.pm_world.specs.Logs.slot_list (λ t y. a.slot j i y ne t)
+
+  -- THE WORLD AFTER THE STEP
+  pub world_after : (new : Memory) (views' : Views) (g' : Past) (S' : State) (v : View) → settled_words o g' ≡ S'
+      → Around k (sight_of (views k)).hold (λ j. (sight_of (views j)).hold) (cells_of o.shape mem) (cells_of o.shape new) (settled_words o g) S' (ghost_of g) (ghost_of g') → Aside o k mem new g g' → Turn views views' k v
+      → Bits o.shape o.lanes (origin o) (cells_of o.shape new) (λ j. sight_of (views' j)) (ghost_of g') → LaneFits o new g' k v
+      → ((n : ℕ) → n < g'.length → (g'.drew n).fixed.lane < o.lanes) → ((w : ℕ) → new (PoolWord w) < 2 ^ 64) → ((w : ℕ) → is_header o.shape w ≡ true → new (PoolWord w) ≡ slice_index o.words w)
+      → new CommitCounter + may_draw_count views' o.lanes < greatest_generation o.shape + 32 → ((new StopWord ≡ 0) ⊎ ((j : ℕ) × (j < o.lanes) × IsAtStop (views' j))) → World o new views' g'
+  world_after new views' g' S' v e m a t bits f of_lanes small header room stop = record {
+    some_lanes = x.some_lanes;
+    most_lanes = x.most_lanes;
+    size = x.size;
+    bits = bits;
+    each_lane = λ j inj. ⊎_elim (λ (q : j ≡ k). subst (λ i. LaneFits o new g' i (views' i)) (sym q) (subst (λ y. LaneFits o new g' k y) (sym t.here) f)) (λ (ne : j ≢ k). subst (λ y. LaneFits o new g' j y) (sym (t.else_ j ne)) (lane_stays new g' S' e m a j ne inj)) (cases_eq j k);
+    idle_beyond = λ j out. subst (λ y. (y.changes ≡ []) × (y.log.phase ≡ Idle)) (sym (t.else_ j (λ q. omega arith))) (x.idle_beyond j out);
+    of_lanes = of_lanes;
+    small = small;
+    header = header;
+    counter_room = room;
+    stop_word = stop;
+  }
