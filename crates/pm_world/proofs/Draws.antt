@@ -54,7 +54,7 @@ module _ (sh : Shape) (L : ℕ) (o : State) (cells : Cells) (sights : ℕ → Si
     back = λ p b u u' l. (l, λ j ne y. y);
     made = same_made sh L o cells sights g x k ink (record (sights k) { phase = ph }) (λ c. refl);
     occ = x.occ;
-    geo = record { twice = x.geo.twice; classes = x.geo.classes; shape = x.geo.shape; head = x.geo.head; huge = x.geo.huge; zeros = x.geo.zeros; within = x.geo.within };
+    geo = record { twice = x.geo.twice; classes = x.geo.classes; shape = x.geo.shape; head = x.geo.head; huge = x.geo.huge; zeros = x.geo.zeros; in_zone = x.geo.in_zone; within = x.geo.within };
     alone = x.alone;
     counter = ap suc x.counter;
     flying = λ n l u. (fl n l u, λ ne. ⊎_elim (λ (e : n ≡ g.length). absurd (ne (ap who' e ∙ w.who_here)))
@@ -67,7 +67,7 @@ module _ (sh : Shape) (L : ℕ) (o : State) (cells : Cells) (sights : ℕ → Si
       → (sights' : ℕ → Sight) → Turned sights sights' k (record (sights k) { phase = Drawn g.length }) → Bits sh L o (record cells { counter = suc cells.counter }) sights' (longer g log' who' decided')
   draws e ph clean turns born guarded sights' t = let f = at_phase sh L o cells sights g x k ink Open ph in
       goes_on sh L o cells sights g x k ink (settled o g) (record cells { counter = suc cells.counter }) (record (sights k) { phase = Drawn g.length }) (longer g log' who' decided') sights' (settled_same (λ p b. inl e)) (around (λ p b. inl e)) record {
-        hold = record { locks = f.hold.locks; reading = f.hold.reading; found = f.hold.found; here = f.hold.here; found_here = f.hold.found_here; mine = f.hold.mine; holds = f.hold.holds; class = f.hold.class; span = f.hold.span; making = f.hold.making; free = f.hold.free; seen = f.hold.seen };
+        hold = record { locks = f.hold.locks; reading = f.hold.reading; found = f.hold.found; here = f.hold.here; found_here = f.hold.found_here; mine = f.hold.mine; holds = f.hold.holds; class = f.hold.class; span = f.hold.span; first = f.hold.first; zone = f.hold.zone; making = f.hold.making; free = f.hold.free; seen = f.hold.seen };
         bits = f.bits;
         picture = f.picture;
         turns = turns;
@@ -89,7 +89,7 @@ module _ (sh : Shape) (L : ℕ) (o : State) (cells : Cells) (sights : ℕ → Si
       → (sights' : ℕ → Sight) → Turned sights sights' k (record (sights k) { phase = Idle }) → Bits sh L o (record cells { counter = suc cells.counter }) sights' (longer g log' who' decided')
   draws_idle e ph none_ turns sights' t = let f = at_phase sh L o cells sights g x k ink Open ph in
       goes_on sh L o cells sights g x k ink (settled o g) (record cells { counter = suc cells.counter }) (record (sights k) { phase = Idle }) (longer g log' who' decided') sights' (settled_same (λ p b. inr (none_ p b))) (around (λ p b. inr (none_ p b))) record {
-        hold = record { locks = f.hold.locks; reading = f.hold.reading; found = f.hold.found; here = f.hold.here; found_here = f.hold.found_here; mine = f.hold.mine; holds = f.hold.holds; class = f.hold.class; span = f.hold.span; making = f.hold.making; free = f.hold.free; seen = f.hold.seen };
+        hold = record { locks = f.hold.locks; reading = f.hold.reading; found = f.hold.found; here = f.hold.here; found_here = f.hold.found_here; mine = f.hold.mine; holds = f.hold.holds; class = f.hold.class; span = f.hold.span; first = f.hold.first; zone = f.hold.zone; making = f.hold.making; free = f.hold.free; seen = f.hold.seen };
         bits = f.bits;
         picture = f.picture;
         turns = turns;

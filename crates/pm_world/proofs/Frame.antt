@@ -419,6 +419,8 @@ module _ (sh : Shape) (k : ℕ) (x : Sight) (holds : ℕ → Hold) (cells cells'
         (λ (t : (has v.hold (Big (g.geo.first c)) ≡ false) × (has v.hold (Big (g'.geo.first c)) ≡ false)).
         ne_eqb (g'.geo.first c) y (λ s. both_ways (has v.hold (Big y)) (subst (λ a. has v.hold (Big a) ≡ false) s t.1) o)
         ∙ (sym (ne_eqb (g.geo.first c) y (λ s. both_ways (has v.hold (Big y)) (subst (λ a. has v.hold (Big a) ≡ false) s t.0) o)) ∙ f.hold.span y o c)) (first_is c);
+    first = λ c o. let s = first_back c o in f.hold.first c (subst (λ a. has v.hold (Big a) ≡ true) s o) ∙ sym s;
+    zone = f.hold.zone;
     making = λ c o. let t = f.hold.making c o in let e = class_kept c 0 (own_has v.hold (Small c 0) (making_own v.hold c 0 o)) in
         (t.0, m.descr c (away (Big c) (mine_own v.hold (Big c) t.0)) ∙ (t.1 ∙ sym e), subst (λ cl. 1 ≤ cl) (sym e) t.2, subst (λ cl. 0 < blocks_of cl) (sym e) t.3);
     free = λ c o. let s = first_back c (own_has v.hold (Big (g'.geo.first c)) (mine_own v.hold (Big (g'.geo.first c)) o)) in let o' : v.hold.mine (Big (g.geo.first c)) ≡ true = subst (λ a. v.hold.mine (Big a) ≡ true) s o in

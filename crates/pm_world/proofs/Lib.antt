@@ -7,3 +7,5 @@ pub mod Cells
 pub mod Worlds
 pub mod Counting
 pub mod StepPlain
+pub mod Values
+pub mod Births

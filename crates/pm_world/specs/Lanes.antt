@@ -7,7 +7,7 @@ use Rattle.pm_view.specs.Places.{Place, InRun, InHuge, Descr, RootWord, Block, S
 use Rattle.pm_view.specs.Entries.{latest, redos, turn, first_of_two}
 use Rattle.pm_view.specs.Log.{Phase, Idle, Open, Drawn, Sealing, Applying, Clearing, Retiring, Voiding}
 use Rattle.pm_view.specs.Claims.{making_of}
-use Rattle.pm_world.specs.States.{State, Diff, Call, diff, given, over, after_diff, there, spans, live, guards, read, replay, Cells}
+use Rattle.pm_world.specs.States.{State, Diff, Call, diff, given, over, after_diff, there, val, spans, live, guards, read, replay, Cells}
 use Rattle.pm_world.specs.Sights.{Hold, Sight, is_pictured}
 
 -- the ghosts: the history, each call's lane, what is decided; which chunks are runs, the geometry; whose a block is that is not allocated (0, or one more
@@ -200,6 +200,8 @@ pub record HoldFits (sh : Shape) (writer reader : ℕ → ℕ → Bool) (descr :
   -- it knows the class of a run that it has blocks of, and the chunks of a huge block that it has
   pub class : (c i : ℕ) → has h (Small c i) ≡ true → h.class c ≡ g.geo.class c
   pub span : (f : ℕ) → has h (Big f) ≡ true → (c : ℕ) → (g.geo.first c == f) ≡ in_span f (h.span f) c
+  pub first : (c : ℕ) → has h (Big (g.geo.first c)) ≡ true → h.first c ≡ g.geo.first c
+  pub zone : (f : ℕ) → has h (Big f) ≡ true → f % 64 + h.span f ≤ 64
   -- a chunk that it makes a run is its own, and its descriptor is stored
   pub making : (c : ℕ) → h.making c ≡ true → (h.mine (Big c) ≡ true) × (descr c ≡ g.geo.class c) × (1 ≤ g.geo.class c) × (0 < blocks_of (g.geo.class c))
   pub free : (c : ℕ) → h.mine (Big (g.geo.first c)) ≡ true → g.runs c ≡ false
@@ -291,6 +293,7 @@ pub record GeoFits (sh : Shape) (S : State) (g : Ghost) : Type 0 where
   pub head : (f : ℕ) → there S (Big f) ≡ true → g.geo.first f ≡ f
   pub huge : (c : ℕ) → there S (Big (g.geo.first c)) ≡ true → g.runs c ≡ false
   pub zeros : (c : ℕ) → there S (Big c) ≡ false → (b : ℕ) → S (Descr c) b ≡ false
+  pub in_zone : (f : ℕ) → there S (Big f) ≡ true → f % 64 + val (S (Descr f)) 8 56 ≤ 64
   -- a chunk that is no run has no blocks, and a run none past its blocks
   pub within : (c i : ℕ) → there S (Small c i) ≡ true → valid g (Small c i) ≡ true
 

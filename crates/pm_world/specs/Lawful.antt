@@ -307,6 +307,7 @@ pub record IsInitialised (v : View) (B : Block) (word : ℕ → ℕ) (lines : �
   pub size : ℕ
   pub sized : value_in v (word 1) ≡ Some size
   pub some : 1 ≤ size
+  pub small : size < 2 ^ 64
   pub fits : (size + 63) / 64 < lines
   pub filled : (l i : ℕ) → l ≤ (size + 63) / 64 → i < 8 → value_in v (word (8 * l + i)) ≢ None
 

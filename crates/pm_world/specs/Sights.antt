@@ -9,12 +9,13 @@ use Rattle.std.specs.List.{list_any}
 use Rattle.pm_view.specs.Places.{Place, InRun, InHuge, Descr, RootWord, Block, is_data, block_of, word_of}
 use Rattle.pm_view.specs.Entries.{latest, redos, turn}
 use Rattle.pm_view.specs.Log.{Phase, Recorded, Log, old_in, old_of}
-use Rattle.pm_view.specs.Claims.{Claim, locked, reads, class, making, found, here, mine, span, geometry, pictured}
+use Rattle.pm_view.specs.Claims.{Claim, locked, reads, class, making, found, here, mine, span, first, geometry, pictured}
 use Rattle.pm_view.specs.View.{View}
 use Rattle.pm_world.specs.States.{Diff, Call, given}
 
 -- CLAIMS: lines locked for writing and for reading; blocks found under a lock of either kind (knowledge, and no right); blocks of its own, which are not
--- allocated; blocks found under a write lock; chunks that it makes runs; classes of runs that it knows; how many chunks a huge block of its own, or found, has
+-- allocated; blocks found under a write lock; chunks that it makes runs; classes of runs that it knows; how many chunks a huge block of its own, or found, has, and the first
+-- chunk of the block that a chunk is in
 pub record Hold : Type 0 where
   pub locked : ℕ → Bool
   pub reads : ℕ → Bool
@@ -24,9 +25,10 @@ pub record Hold : Type 0 where
   pub making : ℕ → Bool
   pub class : ℕ → ℕ
   pub span : ℕ → ℕ
+  pub first : ℕ → ℕ
 
 abbrev pub hold_of : Shape → List Claim → Hold
-hold_of sh t = record { locked = locked t; reads = reads t; found = found sh t; mine = mine sh t; here = here sh t; making = making sh t; class = class t; span = span sh t }
+hold_of sh t = record { locked = locked t; reads = reads t; found = found sh t; mine = mine sh t; here = here sh t; making = making sh t; class = class t; span = span sh t; first = first sh t }
 
 -- a place that may be data or the root's offset: a lane's picture is of these
 abbrev pub is_pictured : Place → Bool
