@@ -9,3 +9,4 @@ pub mod Counting
 pub mod StepPlain
 pub mod Values
 pub mod Births
+pub mod Occupies

@@ -3,7 +3,7 @@ use Rattle.std.specs.Prelude.{List, [], length, slice_index}
 use Rattle.std.proofs.Common.{◌≡◌, ◌≢◌, ℕ, suc, ◌+◌, ◌*◌, ◌^◌, ◌<◌, ◌≤◌, ◌⊎◌, ⊎_elim, Bool, true, false, eqb, ◌==◌, refl, sym, ap, ◌∙◌, subst, arith, Option, None, Some}
 use Rattle.std.proofs.lemmas.Bool.{cases_eq, cases_lt, both_ways}
 use Rattle.pm_layout.specs.declared.shape.Shape.{Shape}
-use Rattle.pm_layout.specs.Areas.{greatest_generation}
+use Rattle.pm_view.specs.Limits.{greatest_generation}
 use Rattle.pm_record.specs.Undo.{undo_of}
 use Rattle.pm_view.specs.Counts.{IsAtStop}
 use Rattle.pm_view.specs.Log.{Idle}
