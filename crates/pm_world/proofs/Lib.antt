@@ -10,3 +10,4 @@ pub mod StepPlain
 pub mod Values
 pub mod Births
 pub mod Occupies
+pub mod Vacates
