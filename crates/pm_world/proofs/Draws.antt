@@ -26,7 +26,7 @@ longer g log' who' decided' = record g { log = log'; who = who'; length = suc g.
 
 module _ (sh : Shape) (L : ℕ) (o : State) (cells : Cells) (sights : ℕ → Sight) (g : Ghost) (x : Bits sh L o cells sights g) (k : ℕ) (ink : k < L) (done : Bool) (log' : ℕ → Call) (who' : ℕ → ℕ) (decided' : ℕ → Bool) (w : Longer g k (sights k).call done log' who' decided') where
   -- the words settled stay: the call is not decided, or makes nothing final
-  settled_same : ((p : Place) (b : ℕ) → (done ≡ false) ⊎ (given (diff (sights k).call p b) ≡ false)) → settled o (longer g log' who' decided') ≡ settled o g
+  pub settled_same : ((p : Place) (b : ℕ) → (done ≡ false) ⊎ (given (diff (sights k).call p b) ≡ false)) → settled o (longer g log' who' decided') ≡ settled o g
   settled_same u = λ i p b. at p b i
     where
       step : (t : Bool) (d : Option Bool) (r : Bool) → (t ≡ false) ⊎ (given d ≡ false) → cond t (over d r) r ≡ r
@@ -45,10 +45,10 @@ module _ (sh : Shape) (L : ℕ) (o : State) (cells : Cells) (sights : ℕ → Si
   own_flies : done ≡ false → Flies (longer g log' who' decided') k g.length (diff (sights k).call)
   own_flies e = (omega arith, w.log_here, w.who_here, w.decided_here ∙ e, λ m a c. absurd (omega arith))
 
-  around : ((p : Place) (b : ℕ) → (done ≡ false) ⊎ (given (diff (sights k).call p b) ≡ false)) → Around k (sights k).hold (λ j. (sights j).hold) cells (record cells { counter = suc cells.counter }) (settled o g) (settled o g) g (longer g log' who' decided')
+  pub around : ((p : Place) (b : ℕ) → (done ≡ false) ⊎ (given (diff (sights k).call p b) ≡ false)) → Around k (sights k).hold (λ j. (sights j).hold) cells (record cells { counter = suc cells.counter }) (settled o g) (settled o g) g (longer g log' who' decided')
   around u = record { writer = λ l j ne. refl; reader = λ l j ne. refl; pool = λ p b a c. refl; set = λ p b a. refl; descr = λ c a. refl; up = λ c n e. e; runs = λ c a. refl; holder = λ B j ne e. e; holder_back = λ B j ne e. e; class = λ c a. refl; first = λ c j ne. inl refl; flies = others_fly }
 
-  rest : (ph : Phase) → ((n : ℕ) → n < suc g.length → decided' n ≡ false → who' n ≡ k → flies_at ph n) → Rest sh L o cells sights g x k ink (settled o g) (record cells { counter = suc cells.counter }) (record (sights k) { phase = ph }) (longer g log' who' decided')
+  pub rest : (ph : Phase) → ((n : ℕ) → n < suc g.length → decided' n ≡ false → who' n ≡ k → flies_at ph n) → Rest sh L o cells sights g x k ink (settled o g) (record cells { counter = suc cells.counter }) (record (sights k) { phase = ph }) (longer g log' who' decided')
   rest ph fl = record {
     gone = λ p b q u l. absurd (both_ways (owns g.geo (settled o g) (sights k).hold p b) u q);
     back = λ p b u u' l. (l, λ j ne y. y);

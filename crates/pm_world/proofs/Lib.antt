@@ -11,3 +11,4 @@ pub mod Values
 pub mod Births
 pub mod Occupies
 pub mod Vacates
+pub mod StepDraw

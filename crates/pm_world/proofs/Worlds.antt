@@ -100,3 +100,7 @@ module _ (o : Opening) (mem : Memory) (views : Views) (g : Past) (x : World o me
     counter_room = room;
     stop_word = stop;
   }
+
+-- a lane that is at its stop number stays so
+pub stops_stay : (views views' : Views) (k : ℕ) (v : View) → Turn views views' k v → (IsAtStop (views k) → IsAtStop v) → (j : ℕ) → IsAtStop (views j) → IsAtStop (views' j)
+stops_stay views views' k v t stops j e = ⊎_elim (λ (q : j ≡ k). subst (λ i. IsAtStop (views' i)) (sym q) (subst IsAtStop (sym t.here) (stops (subst (λ i. IsAtStop (views i)) q e)))) (λ (ne : j ≢ k). subst IsAtStop (sym (t.else_ j ne)) e) (cases_eq j k)
