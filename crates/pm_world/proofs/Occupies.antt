@@ -136,7 +136,7 @@ module _ (sh : Shape) (L : ℕ) (o : State) (cells : Cells) (sights : ℕ → Si
           span = λ y a. f.hold.span y (big_has y a);
           first = λ d a. f.hold.first d (big_has (g.geo.first d) a);
           zone = λ y a. f.hold.zone y (big_has y a);
-          making = λ d a. let y = f.hold.making d a in (or_right (new (Big d)) (h.mine (Big d)) y.0, y.1, y.2, y.3);
+          making = λ d a. let y = f.hold.making d a in (or_right (new (Big d)) (h.mine (Big d)) y.0, y.1, y.2, y.3, y.4);
           free = λ d a. f.hold.free d (sym (ap (λ z. z || h.mine (Big (g.geo.first d))) (no_big (g.geo.first d))) ∙ a);
           seen = f.hold.seen;
         };

@@ -77,7 +77,7 @@ module _ (sh : Shape) (L : ℕ) (o : State) (cells : Cells) (sights : ℕ → Si
           span = λ y a. f.hold.span y (less_has (Big y) a);
           first = λ d a. f.hold.first d (less_has (Big (g.geo.first d)) a);
           zone = λ y a. f.hold.zone y (less_has (Big y) a);
-          making = λ d a. let y = f.hold.making d a in (and_from (not (out (Big d))) (h.mine (Big d)) (not_from_false (out (Big d)) (false_from_ne_true (out (Big d)) (λ z. both_ways (h.making d) (q.unmade d z) a))) y.0, y.1, y.2, y.3);
+          making = λ d a. let y = f.hold.making d a in (and_from (not (out (Big d))) (h.mine (Big d)) (not_from_false (out (Big d)) (false_from_ne_true (out (Big d)) (λ z. both_ways (h.making d) (q.unmade d z) a))) y.0, y.1, y.2, y.3, y.4);
           free = λ d a. f.hold.free d (and_parts (not (out (Big (g.geo.first d)))) (h.mine (Big (g.geo.first d))) a).1;
           seen = f.hold.seen;
         };
