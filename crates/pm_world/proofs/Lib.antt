@@ -12,3 +12,4 @@ pub mod Births
 pub mod Occupies
 pub mod Vacates
 pub mod StepDraw
+pub mod Runs
