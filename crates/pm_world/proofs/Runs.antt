@@ -140,7 +140,7 @@ module _ (sh : Shape) (L : ℕ) (o : State) (cells : Cells) (sights : ℕ → Si
       (λ (e : is_decided (sights k).phase ≡ false). and_left ((sights k).logged p) (not (is_decided (sights k).phase)) (false_from_ne_true ((sights k).logged p) (λ t. both_ways (is_in_making h p) (f.logged p b e t).1 m))) (cases_Bool (is_decided (sights k).phase))
 
   -- ---- rights
-  h' : Hold
+  abbrev h' : Hold
   h' = with_runs (sights k).hold dirty
 
   less_own : (B : Block) → own (with_runs (sights k).hold dirty) B ≡ true → own (sights k).hold B ≡ true
@@ -175,3 +175,225 @@ module _ (sh : Shape) (L : ℕ) (o : State) (cells : Cells) (sights : ℕ → Si
   dropped (InHuge c w) b t e = big_kept (g.geo.first c) (false_from_ne_true (becoming h dirty (g.geo.first c)) (λ y. let m = becomes_made (g.geo.first c) y in both_ways (h.making c) e (ap h.making (alone_in (g.geo.first c) c m refl) ∙ m))) t
   dropped (Descr c) b t e = big_kept (g.geo.first c) (false_from_ne_true (becoming h dirty (g.geo.first c)) (λ y. let m = becomes_made (g.geo.first c) y in both_ways (h.making c) e (ap h.making (alone_in (g.geo.first c) c m refl) ∙ m))) t
   dropped RootWord b t e = t
+
+  not_making : (p : Place) → is_in_making (sights k).hold p ≡ false → is_in_making (with_runs (sights k).hold dirty) p ≡ false
+  not_making (InRun c w) e = and_right (dirty c) (h.making c) e
+  not_making (InHuge c w) e = and_right (dirty c) (h.making c) e
+  not_making (Descr c) e = and_right (dirty c) (h.making c) e
+  not_making RootWord e = refl
+
+  -- what the drain leaves: more records are drained, and fewer bits are dirty
+  pub record Drains (lg : Place → Bool) (so : Place → ℕ → Bool) : Type 0 where
+    pub more : (p : Place) → (sights k).logged p ≡ true → lg p ≡ true
+    pub recorded : (p : Place) (b : ℕ) → is_decided (sights k).phase ≡ false → lg p ≡ true → (owns g.geo (settled o g) (sights k).hold p b ≡ true) × (is_in_making (sights k).hold p ≡ false) × (given ((sights k).call.fresh p b) ≡ true)
+    pub fewer : (p : Place) (b : ℕ) → so p b ≡ true → (sights k).soiled p b ≡ true
+
+  pub makes_runs : (lg : Place → Bool) (so : Place → ℕ → Bool) → Drains lg so → (sights' : ℕ → Sight) → Turned sights sights' k (record (sights k) { hold = with_runs (sights k).hold dirty; logged = lg; soiled = so })
+      → Bits sh L o cells sights' (ghost_with_runs k (sights k).hold dirty g)
+  makes_runs lg so d sights' t =
+      goes_on sh L o cells sights g x k ink (settled o g) cells x' g' sights' refl record {
+        writer = λ l j ne. refl;
+        reader = λ l j ne. refl;
+        pool = λ p b u w. refl;
+        set = λ p b u. refl;
+        descr = λ c u. refl;
+        up = λ c n e. e;
+        runs = λ c u. ap (λ r. r || g.runs c) (unmade c u);
+        holder = holder_out;
+        holder_back = holder_in;
+        class = λ c u. refl;
+        first = λ c j ne. inl refl;
+        flies = λ j n y ne w z. z;
+      } record {
+        hold = record {
+          locks = f.hold.locks;
+          reading = f.hold.reading;
+          found = λ B a. let y = f.hold.found B a in (y.0, more_valid B y.1, y.2);
+          here = f.hold.here;
+          found_here = f.hold.found_here;
+          mine = mine';
+          holds = holds';
+          class = λ c i a. f.hold.class c i (less_has (Small c i) a);
+          span = λ y a. f.hold.span y (less_has (Big y) a);
+          first = λ c a. f.hold.first c (less_has (Big (g.geo.first c)) a);
+          zone = λ y a. f.hold.zone y (less_has (Big y) a);
+          making = λ c a. let n = not_yet c a in let y = f.hold.making c n.0 in (and_from (not (becoming h dirty c)) (h.mine (Big c)) (not_from_false (becoming h dirty c) n.1) y.0, y.1, y.2, y.3, y.4);
+          free = λ c a. let e = g.geo.first c in let y = and_parts (not (becoming h dirty e)) (h.mine (Big e)) a in
+              or_from (becoming h dirty c) (g.runs c) (false_from_ne_true (becoming h dirty c) (λ z. both_ways (becoming h dirty e) (not-true (becoming h dirty e) y.0) (ap (becoming h dirty) (made_first c (becomes_made c z)) ∙ z))) (f.hold.free c y.1);
+          seen = f.hold.seen;
+        };
+        bits = λ p b a. bits' p b a (f.bits p b (less_owned p b a));
+        picture = f.picture;
+        turns = turns';
+        call = f.call;
+        reach = λ p b y. dropped p b (f.reach p b y) (f.plain p b y);
+        plain = λ p b y. not_making p (f.plain p b y);
+        logged = λ p b u y. let z = d.recorded p b u y in (dropped p b z.0 z.1, not_making p z.1);
+        stored = λ p b u y. (d.recorded p b u y).2;
+        fresh = f.fresh;
+        sizes = f.sizes;
+        born = λ u p b a. born' p b (f.born u p b (less_owned p b a));
+        guarded = f.guarded;
+        soiled = λ p b y. let z = f.soiled p b (d.fewer p b y) in (soils_more (sights k).phase p (h.mine (block_of g.geo p b)) (h'.mine (block_of g.geo p b)) ((sights k).logged p) (lg p) (latest (sights k).call.entries p b) (mine_kept p b z.1) (d.more p) z.0, not_making p z.1);
+      } record {
+        gone = gone';
+        back = back';
+        made = made';
+        occ = occ';
+        geo = record {
+          twice = x.geo.twice;
+          classes = λ c r. ⊎_elim (λ (y : becoming h dirty c ≡ true). let m = f.hold.making c (becomes_made c y) in (m.2, m.3)) (λ (y : g.runs c ≡ true). x.geo.classes c y) (or_cases (becoming h dirty c) (g.runs c) r);
+          shape = x.geo.shape;
+          head = x.geo.head;
+          huge = λ c y. or_from (becoming h dirty c) (g.runs c) (false_from_ne_true (becoming h dirty c) (λ z. let m = becomes_made c z in both_ways (there (settled o g) (Big c)) (no_chunk c m) (ap (λ a. there (settled o g) (Big a)) (sym (made_first c m)) ∙ y))) (x.geo.huge c y);
+          zeros = x.geo.zeros;
+          in_zone = x.geo.in_zone;
+          within = λ c i y. more_valid (Small c i) (x.geo.within c i y);
+        };
+        alone = x.alone;
+        counter = x.counter;
+        flying = still_flying sh L o cells sights g x k ink x' (λ n y. y);
+      } t
+    where
+      x' : Sight
+      x' = record (sights k) { hold = with_runs (sights k).hold dirty; logged = lg; soiled = so }
+
+      g' : Ghost
+      g' = ghost_with_runs k (sights k).hold dirty g
+
+      more_valid : (B : Block) → valid g B ≡ true → valid g' B ≡ true
+      more_valid (Small c i) v = let y = and_parts (g.runs c) (nat_lt i (blocks_of (g.geo.class c))) v in and_from (becoming h dirty c || g.runs c) (nat_lt i (blocks_of (g.geo.class c))) (or_right (becoming h dirty c) (g.runs c) y.0) y.1
+      more_valid (Big c) v = v
+      more_valid Root v = v
+
+      of_other : (c i j : ℕ) → j ≢ k → g.holder (Small c i) ≡ suc j → becoming h dirty c ≡ true → ⊥
+      of_other c i j ne e y = both_ways (g.runs c) (no_run_of c (becomes_made c y)) (and_parts (g.runs c) (nat_lt i (blocks_of (g.geo.class c))) ((x.each_lane j).hold.mine (Small c i) ((x.each_lane j).hold.holds (Small c i) e)).1).0
+
+      holder_out : (B : Block) (j : ℕ) → j ≢ k → g.holder B ≡ suc j → g'.holder B ≡ suc j
+      holder_out (Small c i) j ne e = split (becoming h dirty c && nat_lt i (blocks_of (h.class c))) (λ z. cond z (suc k) (g.holder (Small c i)) ≡ suc j) (λ y. absurd (of_other c i j ne e (and_parts (becoming h dirty c) (nat_lt i (blocks_of (h.class c))) y).0)) (λ _. e)
+      holder_out (Big c) j ne e = split (becoming h dirty c) (λ z. cond z 0 (g.holder (Big c)) ≡ suc j) (λ y. let m = (f.hold.mine (Big c) (f.hold.making c (becomes_made c y)).0).0 in absurd (ne (omega arith))) (λ _. e)
+      holder_out Root j ne e = e
+
+      holder_in : (B : Block) (j : ℕ) → j ≢ k → g'.holder B ≡ suc j → g.holder B ≡ suc j
+      holder_in (Small c i) j ne = split (becoming h dirty c && nat_lt i (blocks_of (h.class c))) (λ z. cond z (suc k) (g.holder (Small c i)) ≡ suc j → g.holder (Small c i) ≡ suc j) (λ _ e. absurd (ne (omega arith))) (λ _ e. e)
+      holder_in (Big c) j ne = split (becoming h dirty c) (λ z. cond z 0 (g.holder (Big c)) ≡ suc j → g.holder (Big c) ≡ suc j) (λ _ e. absurd (omega arith)) (λ _ e. e)
+      holder_in Root j ne = λ e. e
+
+      mine' : (B : Block) → h'.mine B ≡ true → (g'.holder B ≡ suc k) × (valid g' B ≡ true) × (there (settled o g) B ≡ false)
+      mine' (Small c i) = split (becoming h dirty c && nat_lt i (blocks_of (h.class c))) (λ z. (z || h.mine (Small c i)) ≡ true → (cond z (suc k) (g.holder (Small c i)) ≡ suc k) × (((becoming h dirty c || g.runs c) && nat_lt i (blocks_of (g.geo.class c))) ≡ true) × (there (settled o g) (Small c i) ≡ false))
+          (λ y _. let z = and_parts (becoming h dirty c) (nat_lt i (blocks_of (h.class c))) y in let m = becomes_made c z.0 in
+          (refl, and_from (becoming h dirty c || g.runs c) (nat_lt i (blocks_of (g.geo.class c))) (or_left (becoming h dirty c) (g.runs c) z.0) (ap (λ cl. nat_lt i (blocks_of cl)) (sym (known c m)) ∙ z.1), blockless c i m))
+          (λ _ m. let y = f.hold.mine (Small c i) m in (y.0, more_valid (Small c i) y.1, y.2))
+      mine' (Big c) = split (becoming h dirty c) (λ z. (not z && h.mine (Big c)) ≡ true → (cond z 0 (g.holder (Big c)) ≡ suc k) × (valid g (Big c) ≡ true) × (there (settled o g) (Big c) ≡ false)) (λ _ m. absurd (both_ways false refl m)) (λ _ m. f.hold.mine (Big c) m)
+      mine' Root = f.hold.mine Root
+
+      holds' : (B : Block) → g'.holder B ≡ suc k → h'.mine B ≡ true
+      holds' (Small c i) = split (becoming h dirty c && nat_lt i (blocks_of (h.class c))) (λ z. cond z (suc k) (g.holder (Small c i)) ≡ suc k → (z || h.mine (Small c i)) ≡ true) (λ _ _. refl) (λ _ e. f.hold.holds (Small c i) e)
+      holds' (Big c) = split (becoming h dirty c) (λ z. cond z 0 (g.holder (Big c)) ≡ suc k → (not z && h.mine (Big c)) ≡ true) (λ _ e. absurd (omega arith)) (λ _ e. f.hold.holds (Big c) e)
+      holds' Root = f.hold.holds Root
+
+      idle_turn : (B : Block) (m : Bool) → turn (latest (sights k).call.entries) B ≡ None → TurnFits (sights k).phase (h.locked (header sh g.geo B)) m (h.here B) (turn (latest (sights k).call.entries) B)
+      idle_turn B m e = subst (TurnFits (sights k).phase (h.locked (header sh g.geo B)) m (h.here B)) (sym e) (stay_fits (sights k).phase (h.locked (header sh g.geo B)) m (h.here B))
+
+      turns' : (B : Block) → TurnFits (sights k).phase (h.locked (header sh g.geo B)) (h'.mine B) (h.here B) (turn (latest (sights k).call.entries) B)
+      turns' (Small c i) = ⊎_elim (λ (y : becoming h dirty c ≡ true). idle_turn (Small c i) (h'.mine (Small c i)) (unturned (Small c i) (InRun c 0) i refl (becomes_made c y)))
+          (λ (y : becoming h dirty c ≡ false). subst (λ r. TurnFits (sights k).phase (h.locked (header sh g.geo (Small c i))) ((r && nat_lt i (blocks_of (h.class c))) || h.mine (Small c i)) (h.here (Small c i)) (turn (latest (sights k).call.entries) (Small c i))) (sym y) (f.turns (Small c i))) (cases_Bool (becoming h dirty c))
+      turns' (Big c) = ⊎_elim (λ (y : becoming h dirty c ≡ true). idle_turn (Big c) (h'.mine (Big c)) (unturned (Big c) (Descr c) 1 refl (becomes_made c y)))
+          (λ (y : becoming h dirty c ≡ false). subst (λ r. TurnFits (sights k).phase (h.locked (header sh g.geo (Big c))) (not r && h.mine (Big c)) (h.here (Big c)) (turn (latest (sights k).call.entries) (Big c))) (sym y) (f.turns (Big c))) (cases_Bool (becoming h dirty c))
+      turns' Root = f.turns Root
+
+      -- a bitmap of a run that begins is 0, in memory and settled
+      empty : (c b : ℕ) → h.making c ≡ true → read cells.pool (InRun c 0) b ≡ settled o g (InRun c 0) b
+      empty c b m = (f.bits (InRun c 0) b (making_own h c b m)).1 m ∙ sym (blockless c b m)
+
+      at_bitmap : (c w b : ℕ) → h.making c ≡ true → w ≡ 0 → read cells.pool (InRun c w) b ≡ settled o g (InRun c w) b
+      at_bitmap c w b m e = subst (λ v. read cells.pool (InRun c v) b ≡ settled o g (InRun c v) b) (sym e) (empty c b m)
+
+      abbrev_bits : Place → ℕ → Bool → Bool → Type 0
+      abbrev_bits p b al bl = BitFits al bl (is_decided (sights k).phase) (left (sights k).phase p b) ((sights k).logged p) (latest (sights k).call.entries p b) ((sights k).picture p b) (read cells.pool p b) (settled o g p b)
+
+      -- with more records drained a bit owes less
+      eased : (p : Place) (b : ℕ) (al bl : Bool) → abbrev_bits p b al bl → BitFits al bl (is_decided (sights k).phase) (left (sights k).phase p b) (lg p) (latest (sights k).call.entries p b) ((sights k).picture p b) (read cells.pool p b) (settled o g p b)
+      eased p b al bl u = (λ a l y. u.0 a l (less (d.more p) y), u.1, u.2, u.3)
+        where
+          less : ((sights k).logged p ≡ true → lg p ≡ true) → (lg p && not (is_decided (sights k).phase)) ≡ false → ((sights k).logged p && not (is_decided (sights k).phase)) ≡ false
+          less w y = false_from_ne_true ((sights k).logged p && not (is_decided (sights k).phase)) (λ z. let q = and_parts ((sights k).logged p) (not (is_decided (sights k).phase)) z in both_ways (lg p && not (is_decided (sights k).phase)) y (and_from (lg p) (not (is_decided (sights k).phase)) (w q.0) q.1))
+
+      bits' : (p : Place) (b : ℕ) → owns g.geo (settled o g) (with_runs (sights k).hold dirty) p b ≡ true → abbrev_bits p b (live (settled o g) g.geo g.runs p) (blank (sights k).hold p)
+          → BitFits (live (settled o g) g.geo g'.runs p) (blank (with_runs (sights k).hold dirty) p) (is_decided (sights k).phase) (left (sights k).phase p b) (lg p) (latest (sights k).call.entries p b) ((sights k).picture p b) (read cells.pool p b) (settled o g p b)
+      bits' (InRun c w) b a u = eased (InRun c w) b (live (settled o g) g.geo g'.runs (InRun c w)) (blank (with_runs (sights k).hold dirty) (InRun c w)) (
+          λ al. ⊎_elim (λ (y : becoming h dirty c ≡ true). λ _ _. let m = becomes_made c y in at_bitmap c w b m (bare c w (becoming h dirty c || g.runs c) m al))
+              (λ (y : becoming h dirty c ≡ false). u.0 (sym (ap (λ r. (r || g.runs c) && shown (settled o g) (g.geo.class c) c w) y) ∙ al)) (cases_Bool (becoming h dirty c)),
+          λ bl. let y = and_parts (w == 0) (dirty c && h.making c) bl in u.1 (and_from (w == 0) (h.making c) y.0 (not_yet c y.1).0),
+          u.2,
+          u.3,
+        )
+      bits' (InHuge c w) b a u = eased (InHuge c w) b (live (settled o g) g.geo g.runs (InHuge c w)) false u
+      bits' (Descr c) b a u = eased (Descr c) b true false u
+      bits' RootWord b a u = eased RootWord b true false u
+
+      born' : (p : Place) (b : ℕ) → (live (settled o g) g.geo g.runs p ≡ false → live (after_diff (diff (sights k).call) (settled o g)) g.geo g.runs p ≡ true → given (diff (sights k).call p b) ≡ true)
+          → live (settled o g) g.geo g'.runs p ≡ false → live (after_diff (diff (sights k).call) (settled o g)) g.geo g'.runs p ≡ true → given (diff (sights k).call p b) ≡ true
+      born' (InRun c w) b u n l = let S' : State = after_diff (diff (sights k).call) (settled o g) in ⊎_elim
+          (λ (y : becoming h dirty c ≡ true). let m = becomes_made c y in absurd (⊎_elim (λ (z : (w == 0) ≡ true). both_ways ((becoming h dirty c || g.runs c) && shown (settled o g) (g.geo.class c) c w) n (and_from (becoming h dirty c || g.runs c) (shown (settled o g) (g.geo.class c) c w) (or_left (becoming h dirty c) (g.runs c) y) (or_left (w == 0) ((nat_le 8 w && nat_lt w 512) && bright (settled o g) (g.geo.class c) c ((w / 8 - 1) / g.geo.class c) ((w / 8 - 1) % g.geo.class c)) z)))
+          (λ (z : ((nat_le 8 w && nat_lt w 512) && bright S' (g.geo.class c) c ((w / 8 - 1) / g.geo.class c) ((w / 8 - 1) % g.geo.class c)) ≡ true). let i = (w / 8 - 1) / g.geo.class c in
+          let q = (and_parts (S' (InRun c 0) i) (lit (S' (size_at (g.geo.class c) c i)) ((w / 8 - 1) % g.geo.class c)) (and_parts (nat_le 8 w && nat_lt w 512) (bright S' (g.geo.class c) c i ((w / 8 - 1) % g.geo.class c)) z).1).0 in
+          both_ways (there (settled o g) (Small c i)) (blockless c i m) (sym (over_stays (diff (sights k).call (InRun c 0) i) (settled o g (InRun c 0) i) (undiffed (InRun c 0) i m)) ∙ q))
+          (or_cases (w == 0) ((nat_le 8 w && nat_lt w 512) && bright S' (g.geo.class c) c ((w / 8 - 1) / g.geo.class c) ((w / 8 - 1) % g.geo.class c)) (and_parts (becoming h dirty c || g.runs c) (shown S' (g.geo.class c) c w) l).1)))
+          (λ (y : becoming h dirty c ≡ false). u (sym (ap (λ r. (r || g.runs c) && shown (settled o g) (g.geo.class c) c w) y) ∙ n) (sym (ap (λ r. (r || g.runs c) && shown S' (g.geo.class c) c w) y) ∙ l)) (cases_Bool (becoming h dirty c))
+        where
+          over_stays : (a : Option Bool) (r : Bool) → given a ≡ false → over a r ≡ r
+          over_stays None r e = refl
+          over_stays (Some y) r e = absurd (both_ways true e refl)
+      born' (InHuge c w) b u n l = u n l
+      born' (Descr c) b u n l = u n l
+      born' RootWord b u n l = u n l
+
+      chunk_kept : (c : ℕ) → h.making c ≡ false → h.mine (Big (g.geo.first c)) ≡ true → h'.mine (Big (g.geo.first c)) ≡ true
+      chunk_kept c e m = and_from (not (becoming h dirty (g.geo.first c))) (h.mine (Big (g.geo.first c))) (not_from_false (becoming h dirty (g.geo.first c)) (false_from_ne_true (becoming h dirty (g.geo.first c)) (λ y. let n = becomes_made (g.geo.first c) y in both_ways (h.making c) e (ap h.making (alone_in (g.geo.first c) c n refl) ∙ n)))) m
+
+      mine_kept : (p : Place) (b : ℕ) → is_in_making h p ≡ false → p ≢ RootWord → h.mine (block_of g.geo p b) ≡ true → h'.mine (block_of g.geo p b) ≡ true
+      mine_kept (InRun c w) b e ne m = let i = part (g.geo.class c) w b in or_right (becoming h dirty c && nat_lt i (blocks_of (h.class c))) (h.mine (Small c i)) m
+      mine_kept (InHuge c w) b e ne m = chunk_kept c e m
+      mine_kept (Descr c) b e ne m = chunk_kept c e m
+      mine_kept RootWord b e ne m = m
+
+      made_place : (c b : ℕ) (p : Place) → h.making c ≡ true → g.geo.first c ≡ c → p ≡ Descr c → read cells.pool p b ≡ settled o g p b
+      made_place c b p m e q = subst (λ r. read cells.pool r b ≡ settled o g r b) (sym q) ((f.bits (Descr c) b (subst (λ a. own h (Big a) ≡ true) (sym e) (mine_own h (Big c) (f.hold.making c m).0))).0 refl (nothing_left (Descr c) b m) (unlogged (Descr c) b m))
+
+      gone' : (p : Place) (b : ℕ) → owns g.geo (settled o g) (sights k).hold p b ≡ true → owns g.geo (settled o g) (with_runs (sights k).hold dirty) p b ≡ false → live (settled o g) g.geo g'.runs p ≡ true → read cells.pool p b ≡ settled o g p b
+      gone' p b a u l = go p a u l (true_from_ne_false (is_in_making h p) (λ e. both_ways (owns g.geo (settled o g) (with_runs (sights k).hold dirty) p b) u (dropped p b a e)))
+        where
+          go : (p : Place) → owns g.geo (settled o g) (sights k).hold p b ≡ true → owns g.geo (settled o g) (with_runs (sights k).hold dirty) p b ≡ false → live (settled o g) g.geo g'.runs p ≡ true → is_in_making h p ≡ true → read cells.pool p b ≡ settled o g p b
+          go (InRun c w) a u l m = at_bitmap c w b m (bare c w (becoming h dirty c || g.runs c) m l)
+          go (InHuge c w) a u l m = absurd (both_ways (there (settled o g) (Big (g.geo.first c))) (ap (λ a. there (settled o g) (Big a)) (made_first c m) ∙ no_chunk c m) (and_parts (settled o g (Descr (g.geo.first c)) 1) (lit (settled o g (InHuge (g.geo.first c) 1)) (huge_line g.geo c w)) (and_parts (nat_lt w 512) (settled o g (Descr (g.geo.first c)) 1 && lit (settled o g (InHuge (g.geo.first c) 1)) (huge_line g.geo c w)) l).1).0)
+          go (Descr c) a u l m = made_place c b (Descr c) m (made_first c m) refl
+          go RootWord a u l m = absurd (both_ways false refl m)
+
+      back' : (p : Place) (b : ℕ) → owns g.geo (settled o g) (sights k).hold p b ≡ false → owns g.geo (settled o g) (with_runs (sights k).hold dirty) p b ≡ false → live (settled o g) g.geo g'.runs p ≡ true
+          → (live (settled o g) g.geo g.runs p ≡ true) × ((j : ℕ) → j ≢ k → owns g.geo (settled o g) (sights j).hold p b ≡ false → owns g.geo (settled o g) (sights j).hold p b ≡ false)
+      back' (InRun c w) b u u' l = (sym (ap (λ r. (r || g.runs c) && shown (settled o g) (g.geo.class c) c w) (unmade c (Rattle.pm_world.proofs.Frame.not_making h c (part (g.geo.class c) w b) u))) ∙ l, λ j ne y. y)
+      back' (InHuge c w) b u u' l = (l, λ j ne y. y)
+      back' (Descr c) b u u' l = (l, λ j ne y. y)
+      back' RootWord b u u' l = (l, λ j ne y. y)
+
+      made' : (c : ℕ) → (dirty c && h.making c) ≡ false → ((j : ℕ) → j ≢ k → (sights j).hold.making c ≡ false) → cells.descr c ≡ cond (becoming h dirty c || g.runs c) (g.geo.class c) 0
+      made' c u w = ⊎_elim (λ (y : becoming h dirty c ≡ true). (f.hold.making c (becomes_made c y)).1 ∙ sym (cond-true (becoming h dirty c || g.runs c) (g.geo.class c) 0 (or_left (becoming h dirty c) (g.runs c) y)))
+          (λ (y : becoming h dirty c ≡ false). let e : h.making c ≡ false = false_from_ne_true (h.making c) (λ m. both_ways (dirty c && h.making c) u (still_making c y m)) in
+          same_made sh L o cells sights g x k ink (sights k) (λ d. refl) c e w ∙ ap (λ r. cond (r || g.runs c) (g.geo.class c) 0) (sym y)) (cases_Bool (becoming h dirty c))
+
+      occ' : (a : Block) → is_occupancy sh a ≡ true → cells.occ a ≡ is_taken (settled o g) g' a
+      occ' (Small c i) in_ = x.occ (Small c i) in_ ∙ split (becoming h dirty c) (λ z. (not (g.runs c && nat_lt i (blocks_of (g.geo.class c))) || (there (settled o g) (Small c i) || not (g.holder (Small c i) == 0))) ≡ (not ((z || g.runs c) && nat_lt i (blocks_of (g.geo.class c))) || (there (settled o g) (Small c i) || not (cond (z && nat_lt i (blocks_of (h.class c))) (suc k) (g.holder (Small c i)) == 0))))
+          (λ y. let m = becomes_made c y in or_left (not (g.runs c && nat_lt i (blocks_of (g.geo.class c)))) (there (settled o g) (Small c i) || not (g.holder (Small c i) == 0)) (not_from_false (g.runs c && nat_lt i (blocks_of (g.geo.class c))) (and_left (g.runs c) (nat_lt i (blocks_of (g.geo.class c))) (no_run_of c m)))
+          ∙ sym (taken (nat_lt i (blocks_of (g.geo.class c))) (nat_lt i (blocks_of (h.class c))) (there (settled o g) (Small c i)) (g.holder (Small c i)) (ap (λ cl. nat_lt i (blocks_of cl)) (known c m)))) (λ _. refl)
+        where
+          taken : (n n' t : Bool) (y : ℕ) → n' ≡ n → (not n || (t || not (cond n' (suc k) y == 0))) ≡ true
+          taken false n' t y e = refl
+          taken true n' t y e = or_right t (not (cond n' (suc k) y == 0)) (ap not (ne_eqb (cond n' (suc k) y) 0 (λ z. let w : cond n' (suc k) y ≡ suc k = cond-true n' (suc k) y e in absurd (omega arith))))
+      occ' (Big c) in_ = x.occ (Big c) in_ ∙ let e = g.geo.first c in ⊎_elim
+          (λ (y : becoming h dirty c ≡ true). let m = becomes_made c y in let q : g.holder (Big e) ≡ suc k = ap (λ a. g.holder (Big a)) (made_first c m) ∙ (f.hold.mine (Big c) (f.hold.making c m).0).0 in
+          or_right (g.runs c) (there (settled o g) (Big e) || not (g.holder (Big e) == 0)) (or_right (there (settled o g) (Big e)) (not (g.holder (Big e) == 0)) (ap not (ne_eqb (g.holder (Big e)) 0 (λ z. absurd (omega arith)))))
+          ∙ sym (or_left (becoming h dirty c || g.runs c) (there (settled o g) (Big e) || not (cond (becoming h dirty e) 0 (g.holder (Big e)) == 0)) (or_left (becoming h dirty c) (g.runs c) y)))
+          (λ (y : becoming h dirty c ≡ false). let n : becoming h dirty e ≡ false = false_from_ne_true (becoming h dirty e) (λ z. let m = becomes_made e z in both_ways (becoming h dirty c) y (ap (becoming h dirty) (alone_in e c m refl) ∙ z)) in
+          sym (ap (λ r. (r || g.runs c) || (there (settled o g) (Big e) || not (cond (becoming h dirty e) 0 (g.holder (Big e)) == 0))) y ∙ ap (λ r. g.runs c || (there (settled o g) (Big e) || not (cond r 0 (g.holder (Big e)) == 0))) n)) (cases_Bool (becoming h dirty c))
+      occ' Root in_ = x.occ Root in_
