@@ -7,7 +7,7 @@ use Rattle.pm_view.specs.Places.{Place, InRun, InHuge, Descr, RootWord, Block, S
 use Rattle.pm_view.specs.Entries.{latest, turn, first_of_two}
 use Rattle.pm_view.specs.Log.{Phase, Idle, Open, Drawn, Sealing, Applying, Clearing, Retiring, Voiding}
 use Rattle.pm_view.specs.Claims.{making_of}
-use Rattle.pm_world.specs.States.{State, Diff, Call, diff, given, over, after_diff, there, lit, size_at, bright, shown, live, guards, read, Cells}
+use Rattle.pm_world.specs.States.{State, Diff, Call, diff, given, over, after_diff, there, lit, size_at, bright, shown, live, guards, read, put1, Cells}
 use Rattle.pm_world.specs.Sights.{Hold, Sight}
 use Rattle.pm_world.specs.Lanes.{Ghost, own, owns, has, valid, is_in_making, is_decided, in_flight, left, blank, BitFits, open_soils, soils, TurnFits, BornFits, settled, SightFits, Flies, is_occupancy, is_taken, Bits}
 use Rattle.pm_world.proofs.Geometry.{huge_line}
@@ -396,4 +396,272 @@ module _ (sh : Shape) (L : ℕ) (o : State) (cells : Cells) (sights : ℕ → Si
           ∙ sym (or_left (becoming h dirty c || g.runs c) (there (settled o g) (Big e) || not (cond (becoming h dirty e) 0 (g.holder (Big e)) == 0)) (or_left (becoming h dirty c) (g.runs c) y)))
           (λ (y : becoming h dirty c ≡ false). let n : becoming h dirty e ≡ false = false_from_ne_true (becoming h dirty e) (λ z. let m = becomes_made e z in both_ways (becoming h dirty c) y (ap (becoming h dirty) (alone_in e c m refl) ∙ z)) in
           sym (ap (λ r. (r || g.runs c) || (there (settled o g) (Big e) || not (cond (becoming h dirty e) 0 (g.holder (Big e)) == 0))) y ∙ ap (λ r. g.runs c || (there (settled o g) (Big e) || not (cond r 0 (g.holder (Big e)) == 0))) n)) (cases_Bool (becoming h dirty c))
+      occ' Root in_ = x.occ Root in_
+
+-- ---- THE STORE of a run's descriptor: the chunk is one that the lane makes a run, of this class
+
+-- the place is of the chunk
+abbrev pub is_of_chunk : ℕ → Place → Bool
+is_of_chunk c (InRun d w) = d == c
+is_of_chunk c (InHuge d w) = d == c
+is_of_chunk c (Descr d) = d == c
+is_of_chunk c RootWord = false
+
+abbrev pub with_mark : Hold → ℕ → ℕ → Hold
+with_mark h c cl = record h { making = λ d. (d == c) || h.making d; class = put1 h.class c cl }
+
+abbrev pub ghost_with_mark : Ghost → ℕ → ℕ → Ghost
+ghost_with_mark g c cl = record g { geo = record g.geo { class = put1 g.geo.class c cl } }
+
+module _ (sh : Shape) (L : ℕ) (o : State) (cells : Cells) (sights : ℕ → Sight) (g : Ghost) (x : Bits sh L o cells sights g) (k : ℕ) (ink : k < L) (c₀ cl : ℕ) where
+  -- the chunk is a block of the lane's own, one alone, that it does not know as a run, with a bitmap of 0; nothing that the call makes final or has undrained is
+  -- there
+  pub record Marks (pool' : State) (so : Place → ℕ → Bool) : Type 0 where
+    pub own_ : (sights k).hold.mine (Big c₀) ≡ true
+    pub one : (sights k).hold.span c₀ ≡ 1
+    pub unknown : (sights k).hold.class c₀ ≡ 0
+    pub some_ : 1 ≤ cl
+    pub blocks : 0 < blocks_of cl
+    pub empty : (b : ℕ) → read cells.pool (InRun c₀ 0) b ≡ false
+    pub undiffed : (p : Place) (b : ℕ) → is_of_chunk c₀ p ≡ true → given (diff (sights k).call p b) ≡ false
+    pub pictured : (w b : ℕ) (y : Bool) → (sights k).picture (InRun c₀ w) b ≡ Some y → (sights k).picture (InHuge c₀ w) b ≡ Some y
+    pub fewer : (p : Place) (b : ℕ) → so p b ≡ true → ((sights k).soiled p b ≡ true) × (is_of_chunk c₀ p ≡ false)
+    -- the descriptor tells of no huge block
+    pub clear : (b : ℕ) → pool' (Descr c₀) b ≡ false
+    pub same_pool : (p : Place) (b : ℕ) → (p ≡ Descr c₀ → ⊥) → pool' p b ≡ cells.pool p b
+
+  pub marks_run : (pool' : State) (so : Place → ℕ → Bool) → Marks pool' so → is_decided (sights k).phase ≡ false → in_flight (sights k).phase ≡ false
+      → (sights' : ℕ → Sight) → Turned sights sights' k (record (sights k) { hold = with_mark (sights k).hold c₀ cl; soiled = so }) → Bits sh L o (record cells { pool = pool'; descr = put1 cells.descr c₀ cl }) sights' (ghost_with_mark g c₀ cl)
+  marks_run pool' so q early flight sights' t =
+      goes_on sh L o cells sights g x k ink (settled o g) cells' x' g' sights' refl record {
+        writer = λ l j ne. refl;
+        reader = λ l j ne. refl;
+        pool = λ p b u w. read_same p b;
+        set = λ p b u. refl;
+        descr = λ c u. put_else cells.descr c (λ e. both_ways (own h (Big c)) u (ap (λ a. own h (Big a)) e ∙ own0));
+        up = λ c n e. put_else cells.descr c (λ s. let z : cells.descr c ≡ 0 = ap cells.descr s ∙ untold in absurd (omega arith)) ∙ e;
+        runs = λ c u. refl;
+        holder = λ B j ne e. e;
+        holder_back = λ B j ne e. e;
+        class = λ c u. put_else g.geo.class c (λ e. both_ways (own h (Big c)) u (ap (λ a. own h (Big a)) e ∙ own0));
+        first = λ c j ne. inl refl;
+        flies = λ j n d ne w y. y;
+      } record {
+        hold = record {
+          locks = f.hold.locks;
+          reading = f.hold.reading;
+          found = λ B a. let y = f.hold.found B a in (ap (λ l. h.locked l || h.reads l) (header_same B y.1) ∙ y.0, valid_same B y.1, y.2);
+          here = λ B a. let y = f.hold.here B a in (ap h.locked (header_same B (f.hold.found B y.1).1) ∙ y.0, y.1);
+          found_here = λ B a l. f.hold.found_here B a (sym (ap h.locked (header_same B (f.hold.found B a).1)) ∙ l);
+          mine = λ B a. let y = f.hold.mine B a in (y.0, valid_same B y.1, y.2);
+          holds = f.hold.holds;
+          class = λ c i. split (eqb c c₀) (λ z. ((h.mine (Small c i) || (h.here (Small c i) || (z || h.making c))) || h.found (Small c i)) ≡ true → cond z cl (h.class c) ≡ cond z cl (g.geo.class c)) (λ _ _. refl) (λ _ a. f.hold.class c i a);
+          span = f.hold.span;
+          first = f.hold.first;
+          zone = f.hold.zone;
+          making = λ c. split (eqb c c₀) (λ z. (z || h.making c) ≡ true → (h.mine (Big c) ≡ true) × (cond z cl (cells.descr c) ≡ cond z cl (g.geo.class c)) × (1 ≤ cond z cl (g.geo.class c)) × (0 < blocks_of (cond z cl (g.geo.class c))) × (h.span c ≡ 1))
+              (λ e _. let s = eqb-true c c₀ e in (ap (λ a. h.mine (Big a)) s ∙ q.own_, refl, q.some_, q.blocks, ap h.span s ∙ q.one)) (λ _ a. f.hold.making c a);
+          free = f.hold.free;
+          seen = λ c n. split (eqb c c₀) (λ z. cond z cl (h.class c) ≡ suc n → cond z cl (cells.descr c) ≡ suc n) (λ _ e. e) (λ _ e. f.hold.seen c n e);
+        };
+        bits = λ p b a. subst (λ m. BitFits (live (settled o g) g'.geo g.runs p) (blank (with_mark h c₀ cl) p) (is_decided (sights k).phase) (left (sights k).phase p b) ((sights k).logged p) (latest (sights k).call.entries p b) ((sights k).picture p b) m (settled o g p b)) (sym (read_same p b)) (bits' p b a);
+        picture = λ p b s y e. read_same p b ∙ f.picture p b (sees_same p b s) y e;
+        turns = turns';
+        call = f.call;
+        reach = λ p b y. reach' p b y (f.reach p b y);
+        plain = λ p b y. plain' p b y (f.plain p b y);
+        logged = λ p b u y. let z = logged_diff p b u y in let w = f.logged p b u y in (reach' p b z w.0, plain' p b z w.1);
+        stored = f.stored;
+        fresh = f.fresh;
+        sizes = sizes';
+        born = λ y. absurd (both_ways (in_flight (sights k).phase) flight y);
+        guarded = λ y. absurd (both_ways (in_flight (sights k).phase) flight y);
+        soiled = λ p b y. let z = q.fewer p b y in soiled' p b z.1 (f.soiled p b z.0);
+      } record {
+        gone = λ p b a u l. read_same p b ∙ gone' p b a u;
+        back = back';
+        made = λ c. split (eqb c c₀) (λ z. (z || h.making c) ≡ false → ((j : ℕ) → j ≢ k → (sights j).hold.making c ≡ false) → cond z cl (cells.descr c) ≡ cond (g.runs c) (cond z cl (g.geo.class c)) 0) (λ _ u. absurd (both_ways true u refl)) (λ _ u w. same_made sh L o cells sights g x k ink (sights k) (λ d. refl) c u w);
+        occ = occ';
+        geo = record {
+          twice = x.geo.twice;
+          classes = λ c r. split (eqb c c₀) (λ z. (1 ≤ cond z cl (g.geo.class c)) × (0 < blocks_of (cond z cl (g.geo.class c)))) (λ _. (q.some_, q.blocks)) (λ _. x.geo.classes c r);
+          shape = x.geo.shape;
+          head = x.geo.head;
+          huge = x.geo.huge;
+          zeros = x.geo.zeros;
+          in_zone = x.geo.in_zone;
+          within = λ c i y. valid_same (Small c i) (x.geo.within c i y);
+        };
+        alone = x.alone;
+        counter = x.counter;
+        flying = still_flying sh L o cells sights g x k ink x' (λ n y. y);
+      } t
+    where
+      h : Hold
+      h = (sights k).hold
+
+      x' : Sight
+      x' = record (sights k) { hold = with_mark (sights k).hold c₀ cl; soiled = so }
+
+      cells' : Cells
+      cells' = record cells { pool = pool'; descr = put1 cells.descr c₀ cl }
+
+      g' : Ghost
+      g' = ghost_with_mark g c₀ cl
+
+      f : SightFits sh cells (settled o g) (Flies g k) g k (sights k)
+      f = x.each_lane k
+
+      own0 : own h (Big c₀) ≡ true
+      own0 = mine_own h (Big c₀) q.own_
+
+      first0 : g.geo.first c₀ ≡ c₀
+      first0 = eqb-true (g.geo.first c₀) c₀ (f.hold.mine (Big c₀) q.own_).1
+
+      no_run0 : g.runs c₀ ≡ false
+      no_run0 = f.hold.free c₀ (subst (λ a. h.mine (Big a) ≡ true) (sym first0) q.own_)
+
+      put_else : (e : ℕ → ℕ) (c : ℕ) → (c ≡ c₀ → ⊥) → cond (c == c₀) cl (e c) ≡ e c
+      put_else e c ne = cond-false (eqb c c₀) cl (e c) (ne_eqb c c₀ ne)
+
+      unmaking : (j : ℕ) → (sights j).hold.making c₀ ≡ false
+      unmaking j = false_from_ne_true ((sights j).hold.making c₀) (λ m. ⊎_elim
+          (λ (e : j ≡ k). let m' = subst (λ i. (sights i).hold.making c₀ ≡ true) e m in let a = (f.hold.making c₀ m').2 in let b : h.class c₀ ≡ g.geo.class c₀ = f.hold.class c₀ 0 (own_has h (Small c₀ 0) (making_own h c₀ 0 m')) in let z = q.unknown in absurd (omega arith))
+          (λ (ne : j ≢ k). let fj = x.each_lane j in let a = (fj.hold.mine (Big c₀) (fj.hold.making c₀ m).0).0 in let b = (f.hold.mine (Big c₀) q.own_).0 in ne (omega arith)) (cases_eq j k))
+
+      untold : cells.descr c₀ ≡ 0
+      untold = x.descr c₀ unmaking ∙ cond-false (g.runs c₀) (g.geo.class c₀) 0 no_run0
+
+      -- its blocks were nobody's
+      nobody : (j c i : ℕ) → eqb c c₀ ≡ true → own (sights j).hold (Small c i) ≡ false
+      nobody j c i e = subst (λ a. own (sights j).hold (Small a i) ≡ false) (sym (eqb-true c c₀ e)) (false_from_ne_true (own (sights j).hold (Small c₀ i)) (λ t. ⊎_elim (λ (r : g.runs c₀ ≡ true). both_ways (g.runs c₀) no_run0 r) (λ (r : (sights j).hold.making c₀ ≡ true). both_ways ((sights j).hold.making c₀) (unmaking j) r) (small_cases sh cells (settled o g) (Flies g j) g x.geo j (sights j) (x.each_lane j) c₀ i t)))
+
+      run_else : (c : ℕ) → g.runs c ≡ true → eqb c c₀ ≡ false
+      run_else c r = ne_eqb c c₀ (λ e. both_ways (g.runs c₀) no_run0 (sym (ap g.runs e) ∙ r))
+
+      valid_run : (c i : ℕ) → valid g (Small c i) ≡ true → eqb c c₀ ≡ false
+      valid_run c i v = run_else c (and_parts (g.runs c) (nat_lt i (blocks_of (g.geo.class c))) v).0
+
+      header_same : (B : Block) → valid g B ≡ true → header sh g'.geo B ≡ header sh g.geo B
+      header_same (Small c i) v = ap (λ z. header sh (record g.geo { class = λ d. cond z cl (g.geo.class d) }) (Small c i)) (valid_run c i v)
+      header_same (Big y) v = refl
+      header_same Root v = refl
+
+      valid_same : (B : Block) → valid g B ≡ true → valid g' B ≡ true
+      valid_same (Small c i) v = ap (λ z. g.runs c && nat_lt i (blocks_of (cond z cl (g.geo.class c)))) (valid_run c i v) ∙ v
+      valid_same (Big y) v = v
+      valid_same Root v = v
+
+      -- the descriptor told of no huge block before
+      was_clear : (b : ℕ) → cells.pool (Descr c₀) b ≡ false
+      was_clear b = (f.bits (Descr c₀) b (subst (λ a. own h (Big a) ≡ true) (sym first0) own0)).0 refl (nothing (left (sights k).phase (Descr c₀) b) (λ z e. both_ways (given (diff (sights k).call (Descr c₀) b)) (q.undiffed (Descr c₀) b (eq-eqb c₀ c₀ refl)) (some_first (latest (sights k).call.entries (Descr c₀) b) ((sights k).call.fresh (Descr c₀) b) (ap given (f.call.todo (Descr c₀) b z e)))))
+          (and_left ((sights k).logged (Descr c₀)) (not (is_decided (sights k).phase)) (false_from_ne_true ((sights k).logged (Descr c₀)) (λ y. both_ways (given (diff (sights k).call (Descr c₀) b)) (q.undiffed (Descr c₀) b (eq-eqb c₀ c₀ refl)) (fresh_given (latest (sights k).call.entries (Descr c₀) b) ((sights k).call.fresh (Descr c₀) b) (f.stored (Descr c₀) b early y)))))
+          ∙ x.geo.zeros c₀ (f.hold.mine (Big c₀) q.own_).2 b
+        where
+          nothing : (a : Option Bool) → ((y : Bool) → a ≡ Some y → ⊥) → given a ≡ false
+          nothing None n = refl
+          nothing (Some y) n = absurd (n y refl)
+
+      is_descr : Place → Bool
+      is_descr (InRun c w) = false
+      is_descr (InHuge c w) = false
+      is_descr (Descr c) = true
+      is_descr RootWord = false
+
+      read_same : (p : Place) (b : ℕ) → read pool' p b ≡ read cells.pool p b
+      read_same (InRun c w) b = q.same_pool (InRun c w) b (λ e. both_ways false refl (ap is_descr e))
+      read_same (InHuge c w) b = q.same_pool (InRun c w) b (λ e. both_ways false refl (ap is_descr e))
+      read_same (Descr c) b = ⊎_elim (λ (e : c ≡ c₀). ap (λ a. pool' (Descr a) b) e ∙ (q.clear b ∙ (sym (was_clear b) ∙ ap (λ a. cells.pool (Descr a) b) (sym e)))) (λ (ne : c ≢ c₀). q.same_pool (Descr c) b (λ e. ne (ap of e))) (cases_eq c c₀)
+        where
+          of : Place → ℕ
+          of (InRun c w) = c
+          of (InHuge c w) = c
+          of (Descr c) = c
+          of RootWord = 0
+      read_same RootWord b = q.same_pool RootWord b (λ e. both_ways false refl (ap is_descr e))
+
+      -- what the lane owned before it owns still, in the same block
+      bits' : (p : Place) (b : ℕ) → owns g'.geo (settled o g) (with_mark h c₀ cl) p b ≡ true
+          → BitFits (live (settled o g) g'.geo g.runs p) (blank (with_mark h c₀ cl) p) (is_decided (sights k).phase) (left (sights k).phase p b) ((sights k).logged p) (latest (sights k).call.entries p b) ((sights k).picture p b) (read cells.pool p b) (settled o g p b)
+      bits' (InRun c w) b = split (eqb c c₀) (λ z. (h.mine (Small c (part (cond z cl (g.geo.class c)) w b)) || (h.here (Small c (part (cond z cl (g.geo.class c)) w b)) || (z || h.making c))) ≡ true
+          → BitFits (g.runs c && shown (settled o g) (cond z cl (g.geo.class c)) c w) ((w == 0) && (z || h.making c)) (is_decided (sights k).phase) (left (sights k).phase (InRun c w) b) ((sights k).logged (InRun c w)) (latest (sights k).call.entries (InRun c w) b) ((sights k).picture (InRun c w) b) (read cells.pool (InRun c w) b) (settled o g (InRun c w) b))
+          (λ e _. let s = eqb-true c c₀ e in (
+            λ al. absurd (both_ways (g.runs c) (ap g.runs s ∙ no_run0) (and_parts (g.runs c) (shown (settled o g) cl c w) al).0),
+            λ bl. let y = eqb-true w 0 (and_parts (w == 0) true bl).0 in ap (λ v. read cells.pool (InRun c v) b) y ∙ (ap (λ a. read cells.pool (InRun a 0) b) s ∙ q.empty b),
+            λ dec. absurd (both_ways (is_decided (sights k).phase) early dec),
+            λ y a. subst (λ d. read cells.pool (InRun d w) b ≡ y) (sym s) ((f.bits (InHuge c₀ w) b (subst (λ a. own h (Big a) ≡ true) (sym first0) own0)).3 y (q.pictured w b y (ap (λ d. (sights k).picture (InRun d w) b) (sym s) ∙ a))),
+          ))
+          (λ _ a. f.bits (InRun c w) b a)
+      bits' (InHuge c w) b = λ a. f.bits (InHuge c w) b a
+      bits' (Descr c) b = λ a. f.bits (Descr c) b a
+      bits' RootWord b = λ a. f.bits RootWord b a
+
+      sees_same : (p : Place) (b : ℕ) → Rattle.pm_world.specs.Lanes.sees g'.geo (settled o g) (with_mark h c₀ cl) p b ≡ true → Rattle.pm_world.specs.Lanes.sees g.geo (settled o g) h p b ≡ true
+      sees_same (InRun c w) b s = subst (λ z. h.found (Small c (part (cond z cl (g.geo.class c)) w b)) ≡ true) (valid_run c (part (cond (eqb c c₀) cl (g.geo.class c)) w b) (f.hold.found (Small c (part (cond (eqb c c₀) cl (g.geo.class c)) w b)) s).1) s
+      sees_same (InHuge c w) b s = s
+      sees_same (Descr c) b s = s
+      sees_same RootWord b s = s
+
+      turns' : (B : Block) → TurnFits (sights k).phase (h.locked (header sh g'.geo B)) (h.mine B) (h.here B) (turn (latest (sights k).call.entries) B)
+      turns' (Small c i) = split (eqb c c₀) (λ z. TurnFits (sights k).phase (h.locked (header sh (record g.geo { class = λ d. cond z cl (g.geo.class d) }) (Small c i))) (h.mine (Small c i)) (h.here (Small c i)) (turn (latest (sights k).call.entries) (Small c i)))
+          (λ e. subst (TurnFits (sights k).phase (h.locked (header sh (record g.geo { class = λ d. cl }) (Small c i))) (h.mine (Small c i)) (h.here (Small c i))) (sym (turn_stays (sights k).phase (h.locked (header sh g.geo (Small c i))) (h.mine (Small c i)) (h.here (Small c i)) (h.making c) (turn (latest (sights k).call.entries) (Small c i)) (f.turns (Small c i)) (nobody k c i e)))
+          (stay_fits (sights k).phase (h.locked (header sh (record g.geo { class = λ d. cl }) (Small c i))) (h.mine (Small c i)) (h.here (Small c i)))) (λ _. f.turns (Small c i))
+      turns' (Big y) = f.turns (Big y)
+      turns' Root = f.turns Root
+
+      reach' : (p : Place) (b : ℕ) → given (diff (sights k).call p b) ≡ true → owns g.geo (settled o g) h p b ≡ true → owns g'.geo (settled o g) (with_mark h c₀ cl) p b ≡ true
+      reach' (InRun c w) b y = split (eqb c c₀) (λ z. (h.mine (Small c (part (g.geo.class c) w b)) || (h.here (Small c (part (g.geo.class c) w b)) || h.making c)) ≡ true → (h.mine (Small c (part (cond z cl (g.geo.class c)) w b)) || (h.here (Small c (part (cond z cl (g.geo.class c)) w b)) || (z || h.making c))) ≡ true)
+          (λ e a. absurd (both_ways (own h (Small c (part (g.geo.class c) w b))) (nobody k c (part (g.geo.class c) w b) e) a)) (λ _ a. a)
+      reach' (InHuge c w) b y = λ a. a
+      reach' (Descr c) b y = λ a. a
+      reach' RootWord b y = λ a. a
+
+      plain' : (p : Place) (b : ℕ) → given (diff (sights k).call p b) ≡ true → is_in_making h p ≡ false → is_in_making (with_mark h c₀ cl) p ≡ false
+      plain' p b y = go p (false_from_ne_true (is_of_chunk c₀ p) (λ e. both_ways (given (diff (sights k).call p b)) (q.undiffed p b e) y))
+        where
+          go : (p : Place) → is_of_chunk c₀ p ≡ false → is_in_making h p ≡ false → is_in_making (with_mark h c₀ cl) p ≡ false
+          go (InRun c w) n e = or_from (c == c₀) (h.making c) n e
+          go (InHuge c w) n e = or_from (c == c₀) (h.making c) n e
+          go (Descr c) n e = or_from (c == c₀) (h.making c) n e
+          go RootWord n e = refl
+
+      logged_diff : (p : Place) (b : ℕ) → is_decided (sights k).phase ≡ false → (sights k).logged p ≡ true → given (diff (sights k).call p b) ≡ true
+      logged_diff p b u y = fresh_given (latest (sights k).call.entries p b) ((sights k).call.fresh p b) (f.stored p b u y)
+
+      sizes' : (p : Place) (b : ℕ) → Rattle.pm_world.specs.Lanes.is_size g'.geo p ≡ true → (given (latest (sights k).call.entries p b) ≡ false) × (given ((sights k).call.fresh p b) ≡ true → turn (latest (sights k).call.entries) (block_of g'.geo p b) ≡ Some true)
+      sizes' (InRun c w) b = split (eqb c c₀) (λ z. (nat_le 8 w && (((w / 8 - 1) % cond z cl (g.geo.class c) == 0) && (w % 8 == 1))) ≡ true → (given (latest (sights k).call.entries (InRun c w) b) ≡ false) × (given ((sights k).call.fresh (InRun c w) b) ≡ true → turn (latest (sights k).call.entries) (Small c (part (cond z cl (g.geo.class c)) w b)) ≡ Some true))
+          (λ e _. let n = q.undiffed (InRun c w) b e in (
+            false_from_ne_true (given (latest (sights k).call.entries (InRun c w) b)) (λ y. both_ways (given (diff (sights k).call (InRun c w) b)) n (some_first (latest (sights k).call.entries (InRun c w) b) ((sights k).call.fresh (InRun c w) b) y)),
+            λ y. absurd (both_ways (given (diff (sights k).call (InRun c w) b)) n (fresh_given (latest (sights k).call.entries (InRun c w) b) ((sights k).call.fresh (InRun c w) b) y)),
+          )) (λ _ s. f.sizes (InRun c w) b s)
+      sizes' (InHuge c w) b = λ s. f.sizes (InHuge c w) b s
+      sizes' (Descr c) b = λ s. f.sizes (Descr c) b s
+      sizes' RootWord b = λ s. f.sizes RootWord b s
+
+      soiled' : (p : Place) (b : ℕ) → is_of_chunk c₀ p ≡ false → (soils (sights k).phase p (h.mine (block_of g.geo p b)) ((sights k).logged p) (latest (sights k).call.entries p b) ≡ true) × (is_in_making h p ≡ false)
+          → (soils (sights k).phase p (h.mine (block_of g'.geo p b)) ((sights k).logged p) (latest (sights k).call.entries p b) ≡ true) × (is_in_making (with_mark h c₀ cl) p ≡ false)
+      soiled' (InRun c w) b n u = subst (λ z. (soils (sights k).phase (InRun c w) (h.mine (Small c (part (cond z cl (g.geo.class c)) w b))) ((sights k).logged (InRun c w)) (latest (sights k).call.entries (InRun c w) b) ≡ true) × ((z || h.making c) ≡ false)) (sym n) u
+      soiled' (InHuge c w) b n u = (u.0, or_from (c == c₀) (h.making c) n u.1)
+      soiled' (Descr c) b n u = (u.0, or_from (c == c₀) (h.making c) n u.1)
+      soiled' RootWord b n u = u
+
+      gone' : (p : Place) (b : ℕ) → owns g.geo (settled o g) h p b ≡ true → owns g'.geo (settled o g) (with_mark h c₀ cl) p b ≡ false → read cells.pool p b ≡ settled o g p b
+      gone' (InRun c w) b a = split (eqb c c₀) (λ z. (h.mine (Small c (part (cond z cl (g.geo.class c)) w b)) || (h.here (Small c (part (cond z cl (g.geo.class c)) w b)) || (z || h.making c))) ≡ false → read cells.pool (InRun c w) b ≡ settled o g (InRun c w) b)
+          (λ e _. absurd (both_ways (own h (Small c (part (g.geo.class c) w b))) (nobody k c (part (g.geo.class c) w b) e) a)) (λ _ u. absurd (both_ways (own h (Small c (part (g.geo.class c) w b))) u a))
+      gone' (InHuge c w) b a = λ u. absurd (both_ways (own h (Big (g.geo.first c))) u a)
+      gone' (Descr c) b a = λ u. absurd (both_ways (own h (Big (g.geo.first c))) u a)
+      gone' RootWord b a = λ u. absurd (both_ways (owns g.geo (settled o g) h RootWord b) u a)
+
+      back' : (p : Place) (b : ℕ) → owns g.geo (settled o g) h p b ≡ false → owns g'.geo (settled o g) (with_mark h c₀ cl) p b ≡ false → live (settled o g) g'.geo g.runs p ≡ true
+          → (live (settled o g) g.geo g.runs p ≡ true) × ((j : ℕ) → j ≢ k → owns g'.geo (settled o g) (sights j).hold p b ≡ false → owns g.geo (settled o g) (sights j).hold p b ≡ false)
+      back' (InRun c w) b u u' = split (eqb c c₀) (λ z. (g.runs c && shown (settled o g) (cond z cl (g.geo.class c)) c w) ≡ true → ((g.runs c && shown (settled o g) (g.geo.class c) c w) ≡ true) × ((j : ℕ) → j ≢ k → own (sights j).hold (Small c (part (cond z cl (g.geo.class c)) w b)) ≡ false → own (sights j).hold (Small c (part (g.geo.class c) w b)) ≡ false))
+          (λ e l. absurd (both_ways (g.runs c) (ap g.runs (eqb-true c c₀ e) ∙ no_run0) (and_parts (g.runs c) (shown (settled o g) cl c w) l).0)) (λ _ l. (l, λ j ne y. y))
+      back' (InHuge c w) b u u' = λ l. (l, λ j ne y. y)
+      back' (Descr c) b u u' = λ l. (l, λ j ne y. y)
+      back' RootWord b u u' = λ l. (l, λ j ne y. y)
+
+      occ' : (a : Block) → is_occupancy sh a ≡ true → cells.occ a ≡ is_taken (settled o g) g' a
+      occ' (Small c i) in_ = x.occ (Small c i) in_ ∙ split (eqb c c₀) (λ z. (not (g.runs c && nat_lt i (blocks_of (g.geo.class c))) || (there (settled o g) (Small c i) || not (g.holder (Small c i) == 0))) ≡ (not (g.runs c && nat_lt i (blocks_of (cond z cl (g.geo.class c)))) || (there (settled o g) (Small c i) || not (g.holder (Small c i) == 0))))
+          (λ e. let r = ap g.runs (eqb-true c c₀ e) ∙ no_run0 in ap (λ y. not (y && nat_lt i (blocks_of (g.geo.class c))) || (there (settled o g) (Small c i) || not (g.holder (Small c i) == 0))) r ∙ sym (ap (λ y. not (y && nat_lt i (blocks_of cl)) || (there (settled o g) (Small c i) || not (g.holder (Small c i) == 0))) r)) (λ _. refl)
+      occ' (Big c) in_ = x.occ (Big c) in_
       occ' Root in_ = x.occ Root in_
