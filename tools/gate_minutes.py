@@ -1,12 +1,13 @@
 #!/usr/bin/env python3
-"""Runs `rt ci` and adds its minutes to bench/gate.csv: a row for each crate, and one for the whole run.
+"""Runs `rt ci` and adds its minutes to bench/gate.csv: a row for each crate, and one for all.
 
-    tools/gate_minutes.py FOLDER [--anew]   runs `rt ci` in FOLDER, a clean clone of this repository
-    tools/gate_minutes.py --log LOG         adds the rows of a log that such a run wrote, build/gate.log
+    tools/gate_minutes.py FOLDER [--anew]   runs `rt ci` in FOLDER, a clean clone
+    tools/gate_minutes.py --log LOG         adds the rows of such a run's log, build/gate.log
 
-Columns: the date, the machine's processors, the commit, the crate (`all` for the whole run), what came of it, the wall
-minutes from the start to that, and the processor minutes of its proofs, tests and edits together. Processor times are
-looked at each second, so a command that ends sooner is counted in the whole run alone.
+Columns: the date, the machine's processors, the commit, the crate (`all` for the whole run), what
+came of it, the wall minutes from the start to that, and the processor minutes of its proofs, tests
+and edits together. Processor times are looked at each second, so a command that ends sooner is
+counted in the whole run alone.
 """
 import csv
 import datetime
@@ -33,7 +34,7 @@ PROCESSOR = re.compile(r"^processor (\w+) (\d+\.\d)$")
 
 
 class Processors:
-    """The processor seconds of a group of processes, as a whole and by the crates that they work on."""
+    """The processor seconds of a group of processes, as a whole and by crates."""
 
     def __init__(self, group):
         self.group = group
@@ -70,8 +71,8 @@ class Processors:
 
 
 def run(folder, flags, log):
-    """Runs `rt ci` in the folder. Each of its lines goes to the log, with the seconds since the start before it, and then
-    the processor seconds of the crates and of the whole run."""
+    """Runs `rt ci` in the folder. Each of its lines goes to the log, with the seconds since the
+    start before it, and then the processor seconds of the crates and of the whole run."""
     start = time.time()
     gate = subprocess.Popen(
         ["rt", "ci", *flags],
@@ -130,13 +131,20 @@ def rows_of(log):
     def minutes(seconds):
         return "" if seconds is None else f"{seconds / 60:.1f}"
 
-    return [[it, what, minutes(at), minutes(processor.get(it))] for it, (what, at) in outcomes.items()]
+    return [
+        [it, what, minutes(at), minutes(processor.get(it))]
+        for it, (what, at) in outcomes.items()
+    ]
 
 
 def add(rows, folder):
     """Adds the rows to the table, with the date, the processors and the commit before each."""
     commit = subprocess.run(
-        ["git", "rev-parse", "--short", "HEAD"], cwd=folder, capture_output=True, text=True, check=False
+        ["git", "rev-parse", "--short", "HEAD"],
+        cwd=folder,
+        capture_output=True,
+        text=True,
+        check=False,
     ).stdout.strip()
     date = datetime.datetime.now(datetime.timezone.utc).strftime("%Y-%m-%dT%H:%MZ")
     path = os.path.join(HERE, "bench", "gate.csv")

@@ -1,6 +1,8 @@
-//! The program `pm_damage_transcripts`: what the commands answer on damaged pools, and on pools that need recovery.
+//! The program `pm_damage_transcripts`: what the commands answer on damaged pools, and on pools
+//! that need recovery.
 //!
-//! It reads the text from its standard input and prints it with the answers that come; docs/COMMANDS.md tells the commands.
+//! It reads the text from its standard input and prints it with the answers that come;
+//! docs/COMMANDS.md tells the commands.
 #![tactic(auto)]
 
 use pm_transcript::print_answers;

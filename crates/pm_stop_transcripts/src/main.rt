@@ -1,6 +1,8 @@
-//! The program `pm_stop_transcripts`: what runs leave that stop at each of their calls of the memory.
+//! The program `pm_stop_transcripts`: what runs leave that stop at each of their calls of the
+//! memory.
 //!
-//! It reads the text from its standard input and prints it with the answers that come; docs/COMMANDS.md tells the commands.
+//! It reads the text from its standard input and prints it with the answers that come;
+//! docs/COMMANDS.md tells the commands.
 #![tactic(auto)]
 
 use pm_transcript::print_answers;

@@ -3,7 +3,8 @@ use crate::session::Session;
 use std::alloc::Global;
 use std::io::{self, BufRead, BufReader, BufWriter, Read, Write};
 
-/// Reads a transcript to its end, and prints it with the answers that came in place of those that it has.
+/// Reads a transcript to its end, and prints it with the answers that came in place of those that
+/// it has.
 pub fn print_answers<R: Read + Drop, W: Write + Drop>(
     alloc: Global,
     input: R,

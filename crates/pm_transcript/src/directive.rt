@@ -1,4 +1,5 @@
-//! The lines of a transcript that act on files, or on how the next command meets its shelf and its sink.
+//! The lines of a transcript that act on files, or on how the next command meets its shelf and
+//! its sink.
 use crate::fault::Fault;
 use hex::FromHexError;
 use std::alloc::Global;
@@ -47,9 +48,11 @@ pub enum Directive<'a> {
     },
     /// `names`: answers with the names of all files, in rising order.
     Names,
-    /// `shelf fails N`: in the next command a call of the shelf fails, after so many others as are told here: N - 1.
+    /// `shelf fails N`: in the next command a call of the shelf fails, after so many others as
+    /// are told here: N - 1.
     ShelfFails(u64),
-    /// `sink fails N`: in the next command a call of the sink fails, after so many others as are told here: N - 1.
+    /// `sink fails N`: in the next command a call of the sink fails, after so many others as are
+    /// told here: N - 1.
     SinkFails(u64),
 }
 

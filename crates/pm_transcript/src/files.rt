@@ -95,8 +95,8 @@ impl Files {
         Ok(text)
     }
 
-    /// A shelf with those files whose names a command has among its words: it reads and writes no other name. Of its calls the
-    /// one after so many others fails, if there is a number.
+    /// A shelf with those files whose names a command has among its words: it reads and writes no
+    /// other name. Of its calls the one after so many others fails, if there is a number.
     pub fn shelf(
         &self,
         words: &[String],

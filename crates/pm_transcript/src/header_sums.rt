@@ -16,7 +16,8 @@ pub fn make_sums(page: &mut [u8]) -> Option<()> {
     make_pair_sums(page, COPY_AT)
 }
 
-/// Gives the pair at this place its sums: word 6 is the name line's, and word 7 that of the seven before it.
+/// Gives the pair at this place its sums: word 6 is the name line's, and word 7 that of the seven
+/// before it.
 fn make_pair_sums(page: &mut [u8], at: usize) -> Option<()> {
     let pair = page.get_mut(at..)?.get_mut(..PAIR_BYTES)?;
     let mut words = [0; PAIR_WORDS];

@@ -23,7 +23,8 @@ pub struct Session {
     files: Files,
     /// The script that the lines are of, up to `END`.
     script: Option<Script>,
-    /// Whether an answer came, and lines that are none of another kind are what was expected of it.
+    /// Whether an answer came, and lines that are none of another kind are what was expected of
+    /// it.
     is_answered: bool,
     /// After how many calls of the shelf, and of the sink, one fails in the next command.
     shelf_fails: Option<u64>,
@@ -43,7 +44,8 @@ impl Session {
         }
     }
 
-    /// Does what the line says. The text has the line and the answer that came, or nothing where the line was an expected answer.
+    /// Does what the line says. The text has the line and the answer that came, or nothing where
+    /// the line was an expected answer.
     pub fn take(&mut self, line: &str) -> Result<Vec<u8>, AllocError> {
         if self.script.is_some() {
             return self.take_script_line(line);
@@ -66,7 +68,8 @@ impl Session {
         Ok(text)
     }
 
-    /// Ends the transcript. The text is what there is to be said: a script that is open has no end.
+    /// Ends the transcript. The text is what there is to be said: a script that is open has no
+    /// end.
     pub fn end(self) -> Result<Vec<u8>, AllocError> {
         let mut text = Vec::new(self.alloc);
         if self.script.is_some() {
@@ -108,7 +111,8 @@ impl Session {
         Ok(text)
     }
 
-    /// Runs the command or the directive of the line, and appends its answer. Whether there is an answer is told.
+    /// Runs the command or the directive of the line, and appends its answer. Whether there is an
+    /// answer is told.
     fn answer(&mut self, line: &str, text: &mut Vec<u8>) -> Result<bool, Fault> {
         match line.strip_prefix("$ ") {
             Some(command) => self.run(command, text),

@@ -1,6 +1,7 @@
 //! The program `pm_transcripts`: what the commands answer, from a first pool to each refusal.
 //!
-//! It reads the text from its standard input and prints it with the answers that come; docs/COMMANDS.md tells the commands.
+//! It reads the text from its standard input and prints it with the answers that come;
+//! docs/COMMANDS.md tells the commands.
 #![tactic(auto)]
 
 use pm_transcript::print_answers;

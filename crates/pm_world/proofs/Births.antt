@@ -90,23 +90,23 @@ module _ (sh : Shape) (cells : Cells) (S : State) (flies : ℕ → Diff → Type
           let oi : own (sight_of v).hold (Small c i) ≡ true = subst (λ n. own (sight_of v).hold (Small c n) ≡ true) (at cl) o in
           let known : class v.claims c ≡ cl = f.hold.class c i (own_has (sight_of v).hold (Small c i) oi) in
           let s : is_size g.geo p ≡ true = let e : (8 * (1 + cl * i) + 1) / 8 - 1 ≡ cl * i = omega arith in and_from (nat_le 8 (8 * (1 + cl * i) + 1)) ((((8 * (1 + cl * i) + 1) / 8 - 1) % cl == 0) && ((8 * (1 + cl * i) + 1) % 8 == 1)) (le-leb 8 (8 * (1 + cl * i) + 1) (omega arith))
-              (and_from (((8 * (1 + cl * i) + 1) / 8 - 1) % cl == 0) ((8 * (1 + cl * i) + 1) % 8 == 1) (eq-eqb (((8 * (1 + cl * i) + 1) / 8 - 1) % cl) 0 (ap (λ n. n % cl) e ∙ mul-mod_right cl i)) (eq-eqb ((8 * (1 + cl * i) + 1) % 8) 1 (omega arith))) in
+          (and_from (((8 * (1 + cl * i) + 1) / 8 - 1) % cl == 0) ((8 * (1 + cl * i) + 1) % 8 == 1) (eq-eqb (((8 * (1 + cl * i) + 1) / 8 - 1) % cl) 0 (ap (λ n. n % cl) e ∙ mul-mod_right cl i)) (eq-eqb ((8 * (1 + cl * i) + 1) % 8) 1 (omega arith))) in
           let of : (n : ℕ) → block_of g.geo p n ≡ Small c i = λ n. ap (λ m. Small c m) (size_part cl i n one) in
           let ofv : (n : ℕ) → block_of (geometry v.fixed.shape v.claims) p n ≡ Small c i = λ n. ap (λ m. Small c (part m (8 * (1 + cl * i) + 1) n)) known ∙ of n in
           let u = and_parts (S' (InRun c 0) i) (lit (S' p) l) q in
           let d : is_data (InRun c w) ≡ true = (and_parts (nat_le 8 w) (nat_lt w 512) range).0 in
           ⊎_elim (λ (n : latest (redos v.log.entries) (InRun c 0) i ≡ None). absurd (both_ways (live S g.geo g.runs (InRun c w)) dead (and_from (g.runs c) (shown S cl c w) r (or_right (eqb w 0) ((nat_le 8 w && nat_lt w 512) && bright S cl c i l) (and_from (nat_le 8 w && nat_lt w 512) (bright S cl c i l) range
-              (and_from (S (InRun c 0) i) (lit (S p) l) (sym (ap (λ a. over (first_of_two a None) (S (InRun c 0) i)) n) ∙ u.0) (sym (ap (λ a. lit a l) (size_stays p (Small c i) s of n)) ∙ u.1)))))))
+          (and_from (S (InRun c 0) i) (lit (S p) l) (sym (ap (λ a. over (first_of_two a None) (S (InRun c 0) i)) n) ∙ u.0) (sym (ap (λ a. lit a l) (size_stays p (Small c i) s of n)) ∙ u.1)))))))
           (⊎_elim (λ (n : latest (redos v.log.entries) (InRun c 0) i ≡ Some true). let m = new (Small c i) n in
-              let tv : (a : ℕ) → turn (latest (redos v.log.entries)) (block_of (geometry v.fixed.shape v.claims) p a) ≡ Some true = λ a. ap (turn (latest (redos v.log.entries))) (ofv a) ∙ n in
-              let base = word_of_chunk v.fixed.shape c in
-              let sized : value_in v (word_of v.fixed.shape p) ≡ Some m.size = ap (value_in v) (let e : base + (8 * (1 + cl * i) + 1) ≡ base + 8 * (1 + cl * i) + 1 = omega arith in e ∙ ap (λ a. base + 8 * (1 + a * i) + 1) (sym known)) ∙ m.sized in
-              let stored = size_stored p m.size s (and_parts (nat_le 8 (8 * (1 + cl * i) + 1)) ((((8 * (1 + cl * i) + 1) / 8 - 1) % cl == 0) && ((8 * (1 + cl * i) + 1) % 8 == 1)) s).0 tv sized in
-              let l' : l ≤ (m.size + 63) / 64 = leb-true l ((m.size + 63) / 64) (sym (ap (λ a. nat_le l ((a + 63) / 64)) (val_word m.size m.small)) ∙ (sym (ap (λ a. lit a l) stored) ∙ u.1)) in
-              let line = in_line (w / 8 - 1) cl in
-              let e : base + 8 * (1 + class v.claims c * i) + (8 * l + w % 8) ≡ base + w = ap (λ a. base + 8 * (1 + a * i) + (8 * l + w % 8)) known ∙ omega arith in
-              let val = some_value (value_in v (base + w)) (λ a. m.filled l (w % 8) l' (omega arith) (ap (value_in v) e ∙ a)) in
-              fresh_given (latest (redos v.log.entries) (InRun c w) b) ((call_in v).fresh (InRun c w) b) (ap given (stored_at (InRun c w) b d (ap (λ a. turn (latest (redos v.log.entries)) (Small c a)) (ap (λ a. part a w b) known ∙ at cl) ∙ n) val.0 val.1)))
+          let tv : (a : ℕ) → turn (latest (redos v.log.entries)) (block_of (geometry v.fixed.shape v.claims) p a) ≡ Some true = λ a. ap (turn (latest (redos v.log.entries))) (ofv a) ∙ n in
+          let base = word_of_chunk v.fixed.shape c in
+          let sized : value_in v (word_of v.fixed.shape p) ≡ Some m.size = ap (value_in v) (let e : base + (8 * (1 + cl * i) + 1) ≡ base + 8 * (1 + cl * i) + 1 = omega arith in e ∙ ap (λ a. base + 8 * (1 + a * i) + 1) (sym known)) ∙ m.sized in
+          let stored = size_stored p m.size s (and_parts (nat_le 8 (8 * (1 + cl * i) + 1)) ((((8 * (1 + cl * i) + 1) / 8 - 1) % cl == 0) && ((8 * (1 + cl * i) + 1) % 8 == 1)) s).0 tv sized in
+          let l' : l ≤ (m.size + 63) / 64 = leb-true l ((m.size + 63) / 64) (sym (ap (λ a. nat_le l ((a + 63) / 64)) (val_word m.size m.small)) ∙ (sym (ap (λ a. lit a l) stored) ∙ u.1)) in
+          let line = in_line (w / 8 - 1) cl in
+          let e : base + 8 * (1 + class v.claims c * i) + (8 * l + w % 8) ≡ base + w = ap (λ a. base + 8 * (1 + a * i) + (8 * l + w % 8)) known ∙ omega arith in
+          let val = some_value (value_in v (base + w)) (λ a. m.filled l (w % 8) l' (omega arith) (ap (value_in v) e ∙ a)) in
+          fresh_given (latest (redos v.log.entries) (InRun c w) b) ((call_in v).fresh (InRun c w) b) (ap given (stored_at (InRun c w) b d (ap (λ a. turn (latest (redos v.log.entries)) (Small c a)) (ap (λ a. part a w b) known ∙ at cl) ∙ n) val.0 val.1)))
           (λ (n : latest (redos v.log.entries) (InRun c 0) i ≡ Some false). absurd (both_ways (S' (InRun c 0) i) (ap (λ a. over (first_of_two a None) (S (InRun c 0) i)) n) u.0))) (option_cases (latest (redos v.log.entries) (InRun c 0) i))
 
   born_huge : (c w b : ℕ) → owns g.geo S (sight_of v).hold (InHuge c w) b ≡ true → live S g.geo g.runs (InHuge c w) ≡ false → live (after_diff (diff (call_in v)) S) g.geo g.runs (InHuge c w) ≡ true → given (diff (call_in v) (InHuge c w) b) ≡ true
@@ -118,15 +118,15 @@ module _ (sh : Shape) (cells : Cells) (S : State) (flies : ℕ → Diff → Type
       let hb' : (Rattle.pm_world.specs.Lanes.has (sight_of v).hold (Big (g.geo.first h))) ≡ true = subst (λ a. Rattle.pm_world.specs.Lanes.has (sight_of v).hold (Big a) ≡ true) (sym (geo.twice c)) hb in
       let ofv : (n : ℕ) → block_of (geometry v.fixed.shape v.claims) p n ≡ Big h = λ n. ap (λ a. Big a) (f.hold.first h hb' ∙ geo.twice c) in
       ⊎_elim (λ (n : latest (redos v.log.entries) (Descr h) 1 ≡ None). absurd (both_ways (live S g.geo g.runs (InHuge c w)) dead (and_from (nat_lt w 512) (bright_huge S h l) y.0
-          (and_from (S (Descr h) 1) (lit (S p) l) (sym (ap (λ a. over (first_of_two a None) (S (Descr h) 1)) n) ∙ u.0) (sym (ap (λ a. lit a l) (size_stays p (Big h) s of n)) ∙ u.1)))))
+      (and_from (S (Descr h) 1) (lit (S p) l) (sym (ap (λ a. over (first_of_two a None) (S (Descr h) 1)) n) ∙ u.0) (sym (ap (λ a. lit a l) (size_stays p (Big h) s of n)) ∙ u.1)))))
       (⊎_elim (λ (n : latest (redos v.log.entries) (Descr h) 1 ≡ Some true). let m = new (Big h) n in
-          let tv : (a : ℕ) → turn (latest (redos v.log.entries)) (block_of (geometry v.fixed.shape v.claims) p a) ≡ Some true = λ a. ap (turn (latest (redos v.log.entries))) (ofv a) ∙ n in
-          let stored = size_stored p m.size s refl tv m.sized in
-          let l' : l ≤ (m.size + 63) / 64 = leb-true l ((m.size + 63) / 64) (sym (ap (λ a. nat_le l ((a + 63) / 64)) (val_word m.size m.small)) ∙ (sym (ap (λ a. lit a l) stored) ∙ u.1)) in
-          let span = and_parts (nat_le h c) (nat_lt c (h + (sight_of v).hold.span h)) (sym (f.hold.span h hb c) ∙ eq-eqb (g.geo.first c) h refl) in
-          let e = word_at h c w ((sight_of v).hold.span h) (leb-true h c span.0) (Rattle.std.proofs.lemmas.Bool.ltb-true c (h + (sight_of v).hold.span h) span.1) (f.hold.zone h hb) (Rattle.std.proofs.lemmas.Bool.ltb-true w 512 y.0) in
-          let val = some_value (value_in v (word_of_chunk v.fixed.shape c + w)) (λ a. m.filled l (w % 8) l' (omega arith) (ap (value_in v) e ∙ a)) in
-          fresh_given (latest (redos v.log.entries) (InHuge c w) b) ((call_in v).fresh (InHuge c w) b) (ap given (stored_at (InHuge c w) b refl (ap (λ a. turn (latest (redos v.log.entries)) (Big a)) (f.hold.first c hb) ∙ n) val.0 val.1)))
+      let tv : (a : ℕ) → turn (latest (redos v.log.entries)) (block_of (geometry v.fixed.shape v.claims) p a) ≡ Some true = λ a. ap (turn (latest (redos v.log.entries))) (ofv a) ∙ n in
+      let stored = size_stored p m.size s refl tv m.sized in
+      let l' : l ≤ (m.size + 63) / 64 = leb-true l ((m.size + 63) / 64) (sym (ap (λ a. nat_le l ((a + 63) / 64)) (val_word m.size m.small)) ∙ (sym (ap (λ a. lit a l) stored) ∙ u.1)) in
+      let span = and_parts (nat_le h c) (nat_lt c (h + (sight_of v).hold.span h)) (sym (f.hold.span h hb c) ∙ eq-eqb (g.geo.first c) h refl) in
+      let e = word_at h c w ((sight_of v).hold.span h) (leb-true h c span.0) (Rattle.std.proofs.lemmas.Bool.ltb-true c (h + (sight_of v).hold.span h) span.1) (f.hold.zone h hb) (Rattle.std.proofs.lemmas.Bool.ltb-true w 512 y.0) in
+      let val = some_value (value_in v (word_of_chunk v.fixed.shape c + w)) (λ a. m.filled l (w % 8) l' (omega arith) (ap (value_in v) e ∙ a)) in
+      fresh_given (latest (redos v.log.entries) (InHuge c w) b) ((call_in v).fresh (InHuge c w) b) (ap given (stored_at (InHuge c w) b refl (ap (λ a. turn (latest (redos v.log.entries)) (Big a)) (f.hold.first c hb) ∙ n) val.0 val.1)))
       (λ (n : latest (redos v.log.entries) (Descr h) 1 ≡ Some false). absurd (both_ways (S' (Descr h) 1) (ap (λ a. over (first_of_two a None) (S (Descr h) 1)) n) u.0))) (option_cases (latest (redos v.log.entries) (Descr h) 1))
     where
       -- the chunks of a huge block lie one after another in one zone

@@ -38,9 +38,15 @@ module _ (sh : Shape) (L : ℕ) (o : State) (cells : Cells) (sights : ℕ → Si
 
   -- calls of others in flight stay so: the new one is of other bits
   others_fly : (j n : ℕ) (d : Diff) → j ≢ k → ((p : Place) (b : ℕ) → given (d p b) ≡ true → owns g.geo (settled o g) (sights k).hold p b ≡ false) → Flies g j n d → Flies (longer g log' who' decided') j n d
-  others_fly j n d ne apart f = let l = f.0 in (omega arith, λ p b. ap (λ c. diff c p b) (w.log_else n l) ∙ f.1 p b, w.who_else n l ∙ f.2, w.decided_else n l ∙ f.3, λ m a c p b t. ⊎_elim
-      (λ (e : m ≡ g.length). ap (λ i. given (diff (log' i) p b)) e ∙ (ap given (w.log_here p b) ∙ false_from_ne_true (given (diff (sights k).call p b)) (λ y. both_ways (owns g.geo (settled o g) (sights k).hold p b) (apart p b t) ((x.each_lane k).reach p b y))))
-      (λ (e : m ≢ g.length). let l' : m < g.length = omega arith in ap (λ c. given (diff c p b)) (w.log_else m l') ∙ f.4 m a l' p b t) (cases_eq m g.length))
+  others_fly j n d ne apart f = let l = f.0 in (
+    omega arith,
+    λ p b. ap (λ c. diff c p b) (w.log_else n l) ∙ f.1 p b,
+    w.who_else n l ∙ f.2,
+    w.decided_else n l ∙ f.3,
+    λ m a c p b t. ⊎_elim
+        (λ (e : m ≡ g.length). ap (λ i. given (diff (log' i) p b)) e ∙ (ap given (w.log_here p b) ∙ false_from_ne_true (given (diff (sights k).call p b)) (λ y. both_ways (owns g.geo (settled o g) (sights k).hold p b) (apart p b t) ((x.each_lane k).reach p b y))))
+        (λ (e : m ≢ g.length). let l' : m < g.length = omega arith in ap (λ c. given (diff c p b)) (w.log_else m l') ∙ f.4 m a l' p b t) (cases_eq m g.length),
+  )
 
   own_flies : done ≡ false → Flies (longer g log' who' decided') k g.length (diff (sights k).call)
   own_flies e = (omega arith, w.log_here, w.who_here, w.decided_here ∙ e, λ m a c. absurd (omega arith))
@@ -57,8 +63,11 @@ module _ (sh : Shape) (L : ℕ) (o : State) (cells : Cells) (sights : ℕ → Si
     geo = record { twice = x.geo.twice; classes = x.geo.classes; shape = x.geo.shape; head = x.geo.head; huge = x.geo.huge; zeros = x.geo.zeros; in_zone = x.geo.in_zone; within = x.geo.within };
     alone = x.alone;
     counter = ap suc x.counter;
-    flying = λ n l u. (fl n l u, λ ne. ⊎_elim (λ (e : n ≡ g.length). absurd (ne (ap who' e ∙ w.who_here)))
-        (λ (e : n ≢ g.length). let l' : n < g.length = omega arith in subst (λ i. flies_at (sights i).phase n) (sym (w.who_else n l')) (x.flying n l' (sym (w.decided_else n l') ∙ u))) (cases_eq n g.length));
+    flying = λ n l u. (
+      fl n l u,
+      λ ne. ⊎_elim (λ (e : n ≡ g.length). absurd (ne (ap who' e ∙ w.who_here)))
+          (λ (e : n ≢ g.length). let l' : n < g.length = omega arith in subst (λ i. flies_at (sights i).phase n) (sym (w.who_else n l')) (x.flying n l' (sym (w.decided_else n l') ∙ u))) (cases_eq n g.length),
+    );
   }
 
   -- a call that is to be decided flies

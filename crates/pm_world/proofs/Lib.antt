@@ -4,6 +4,7 @@ pub mod Replays
 pub mod Going
 pub mod Draws
 pub mod Cells
+pub mod WordsApart
 pub mod Worlds
 pub mod Counting
 pub mod StepPlain
@@ -13,3 +14,4 @@ pub mod Occupies
 pub mod Vacates
 pub mod StepDraw
 pub mod Runs
+pub mod Stores

@@ -1,15 +1,15 @@
 -- A lane takes occupancy bits, over bits: its rights grow by a block that was nobody's and is not allocated.
-use Rattle.std.proofs.Common.{◌≡◌, ◌≢◌, ℕ, zero, suc, ◌+◌, ◌*◌, ◌/◌, ◌%◌, ◌<◌, ◌≤◌, ◌⊎◌, inl, inr, ⊎_elim, nat_lt, Bool, true, false, cond, not, ◌&&◌, ◌||◌, eqb, ◌==◌, refl, sym, ap, ◌∙◌, subst, arith, ne_eqb, Option, None, Some}
-use Rattle.std.proofs.lemmas.Bool.{cases_eq, cases_Bool, eqb-true, both_ways, and_parts, or_cases, or_left, or_right, or_parts, or_from, cond-true, cond-false, false_from_ne_true, true_from_ne_false}
+use Rattle.std.proofs.Common.{◌≡◌, ◌≢◌, ℕ, zero, suc, ◌+◌, ◌*◌, ◌/◌, ◌%◌, ◌<◌, ◌≤◌, ◌⊎◌, inl, inr, ⊎_elim, nat_le, nat_lt, Bool, true, false, cond, not, ◌&&◌, ◌||◌, eqb, ◌==◌, refl, sym, ap, ◌∙◌, subst, arith, eq-eqb, ne_eqb, Option, None, Some}
+use Rattle.std.proofs.lemmas.Bool.{cases_eq, cases_Bool, eqb-true, both_ways, le-leb, lt-ltb, and_parts, and_from, or_cases, or_left, or_right, or_parts, or_from, cond-true, cond-false, false_from_ne_true, true_from_ne_false}
 use Rattle.pm_layout.specs.declared.shape.Shape.{Shape}
 use Rattle.pm_layout.specs.Sizes.{blocks_of}
-use Rattle.pm_view.specs.Places.{Place, InRun, InHuge, Descr, RootWord, Block, Small, Big, Root, Geometry, part, block_of, header, is_data, same}
+use Rattle.pm_view.specs.Places.{Place, InRun, InHuge, Descr, RootWord, Block, Small, Big, Root, Geometry, part, block_of, header, in_span, is_data, same}
 use Rattle.pm_view.specs.Entries.{latest, turn, first_of_two}
 use Rattle.pm_view.specs.Log.{Phase, Idle, Open, Drawn, Sealing, Applying, Clearing, Retiring, Voiding}
 use Rattle.pm_view.specs.Claims.{making_of}
-use Rattle.pm_world.specs.States.{State, Diff, Call, diff, given, there, live, guards, read, Cells}
+use Rattle.pm_world.specs.States.{State, Diff, Call, diff, given, there, lit, bright_huge, live, guards, read, claimed, Cells}
 use Rattle.pm_world.specs.Sights.{Hold, Sight}
-use Rattle.pm_world.specs.Lanes.{Ghost, own, rights, owns, has, valid, is_decided, in_flight, left, blank, BitFits, open_soils, soils, TurnFits, settled, SightFits, Flies, is_occupancy, is_taken, Bits}
+use Rattle.pm_world.specs.Lanes.{Ghost, own, rights, owns, has, valid, is_decided, in_flight, left, blank, BitFits, open_soils, soils, TurnFits, settled, SightFits, Flies, is_occupancy, is_taken, is_size, DescrFits, GeoFits, Bits}
 use Rattle.pm_world.proofs.Geometry.{same_true, same_refl}
 use Rattle.pm_world.proofs.Frame.{Around, own_cases, mine_own, own_has, maker_no_run, turn_stays, stay_fits}
 use Rattle.pm_world.proofs.Going.{Turned, goes_on, own_fits, same_made, still_flying}
@@ -21,7 +21,7 @@ split false P a b = b refl
 
 -- what may be undrained may be so still where more blocks are the lane's own
 more_open : (p : Place) (m m' lg : Bool) → (m ≡ true → m' ≡ true) → open_soils p m lg ≡ true → open_soils p m' lg ≡ true
-more_open (InRun c w) m m' lg u t = let y = and_parts (is_data (InRun c w)) (m || lg) t in Rattle.std.proofs.lemmas.Bool.and_from (is_data (InRun c w)) (m' || lg) y.0 (more m m' lg u y.1)
+more_open (InRun c w) m m' lg u t = let y = and_parts (is_data (InRun c w)) (m || lg) t in and_from (is_data (InRun c w)) (m' || lg) y.0 (more m m' lg u y.1)
   where
     more : (m m' lg : Bool) → (m ≡ true → m' ≡ true) → (m || lg) ≡ true → (m' || lg) ≡ true
     more m m' lg u t = ⊎_elim (λ (e : m ≡ true). or_left m' lg (u e)) (λ (e : lg ≡ true). or_right m' lg e) (or_cases m lg t)
@@ -232,3 +232,102 @@ module _ (sh : Shape) (L : ℕ) (o : State) (cells : Cells) (sights : ℕ → Si
           (λ _. sym (or_right (not (valid g (Small d j))) (there (settled o g) (Small d j) || not (suc k == 0)) (or_right (there (settled o g) (Small d j)) (not (suc k == 0)) (ap not (ne_eqb (suc k) 0 (λ e. omega arith)))))) (λ _. x.occ (Small d j) in_)
       occ_after (Big d) in_ = ap (λ z. z || cells.occ (Big d)) (no_big d) ∙ (x.occ (Big d) in_ ∙ ap (λ z. g.runs d || (there (settled o g) (Big (g.geo.first d)) || not (cond z (suc k) (g.holder (Big (g.geo.first d))) == 0))) (sym (no_big (g.geo.first d))))
       occ_after Root in_ = absurd (both_ways false refl in_)
+
+-- ---- CHUNKS OF A ZONE, one after another: their bits were clear, and they are one claim from here on
+abbrev pub with_claim : Hold → (Block → Bool) → ℕ → ℕ → Hold
+with_claim h new f₀ n = record h { mine = λ B. new B || h.mine B; span = λ y. cond (new (Big y)) n (h.span y); first = λ c. cond (in_span f₀ n c) f₀ (h.first c) }
+
+abbrev pub ghost_with_claim : ℕ → Ghost → (Block → Bool) → ℕ → ℕ → Ghost
+ghost_with_claim k g new f₀ n = record g { geo = claimed g.geo f₀ n; holder = λ B. cond (new B) (suc k) (g.holder B) }
+
+module _ (sh : Shape) (L : ℕ) (o : State) (cells : Cells) (sights : ℕ → Sight) (g : Ghost) (x : Bits sh L o cells sights g) (k : ℕ) (ink : k < L) (f₀ n : ℕ) (one : 1 ≤ n) (new : Block → Bool) (is : (B : Block) → new B ≡ same B (Big f₀))
+    (found : (c : ℕ) → in_span f₀ n c ≡ true → (is_occupancy sh (Big c) ≡ true) × (cells.occ (Big c) ≡ false)) where
+  abbrev hk : Hold
+  hk = (sights k).hold
+
+  abbrev first' : ℕ → ℕ
+  first' c = cond (in_span f₀ n c) f₀ (cond (in_span f₀ n (g.geo.first c)) c (g.geo.first c))
+
+  in_f : in_span f₀ n f₀ ≡ true
+  in_f = and_from (nat_le f₀ f₀) (nat_lt f₀ (f₀ + n)) (le-leb f₀ f₀ (omega arith)) (lt-ltb f₀ (f₀ + n) (omega arith))
+
+  not_f : (c : ℕ) → in_span f₀ n c ≡ false → c ≡ f₀ → ⊥
+  not_f c u e = both_ways (in_span f₀ n c) u (ap (in_span f₀ n) e ∙ in_f)
+
+  new_else : (y : ℕ) → (y ≡ f₀ → ⊥) → new (Big y) ≡ false
+  new_else y ne = is (Big y) ∙ ne_eqb y f₀ ne
+
+  new_f : new (Big f₀) ≡ true
+  new_f = is (Big f₀) ∙ eq-eqb f₀ f₀ refl
+
+  -- neither allocated nor anybody's
+  abbrev Nothing : ℕ → Type 0
+  Nothing c = ((j : ℕ) → own (sights j).hold (Big c) ≡ false) × (there (settled o g) (Big c) ≡ false) × (g.holder (Big c) ≡ 0)
+
+  unowned_big : (c : ℕ) → there (settled o g) (Big c) ≡ false → g.holder (Big c) ≡ 0 → (j : ℕ) → own (sights j).hold (Big c) ≡ false
+  unowned_big c u e j = let f = x.each_lane j in false_from_ne_true (own (sights j).hold (Big c)) (λ t. ⊎_elim (λ (m : (sights j).hold.mine (Big c) ≡ true). let y = (f.hold.mine (Big c) m).0 in absurd (omega arith))
+      (⊎_elim (λ (m : (sights j).hold.here (Big c) ≡ true). both_ways (there (settled o g) (Big c)) u (f.hold.found (Big c) (f.hold.here (Big c) m).1).2) (λ (m : false ≡ true). both_ways false refl m)) (own_cases (sights j).hold (Big c) t))
+
+  unfound : (c : ℕ) → Nothing c → (j : ℕ) → has (sights j).hold (Big c) ≡ false
+  unfound c z j = or_from (own (sights j).hold (Big c)) ((sights j).hold.found (Big c)) (z.0 j) (false_from_ne_true ((sights j).hold.found (Big c)) (λ t. both_ways (there (settled o g) (Big c)) z.1 ((x.each_lane j).hold.found (Big c) t).2))
+
+  free_chunk : (c : ℕ) → in_span f₀ n c ≡ true → (g.runs c ≡ false) × (there (settled o g) (Big (g.geo.first c)) ≡ false) × (g.holder (Big (g.geo.first c)) ≡ 0)
+  free_chunk c t = let e = g.geo.first c in let y = found c t in let z = or_parts (g.runs c) (there (settled o g) (Big e) || not (g.holder (Big e) == 0)) (sym (x.occ (Big c) y.0) ∙ y.1) in
+      let w = or_parts (there (settled o g) (Big e)) (not (g.holder (Big e) == 0)) z.1 in (z.0, w.0, eqb-true (g.holder (Big e)) 0 (true_from_ne_false (eqb (g.holder (Big e)) 0) (λ q. both_ways (not (g.holder (Big e) == 0)) w.1 (ap not q))))
+
+  none_in : (c : ℕ) → in_span f₀ n c ≡ true → Nothing (g.geo.first c)
+  none_in c t = let y = free_chunk c t in (unowned_big (g.geo.first c) y.1 y.2, y.1, y.2)
+
+  none_loose : (c : ℕ) → (g.geo.first c ≡ c → ⊥) → Nothing c
+  none_loose c ne = let u : there (settled o g) (Big c) ≡ false = false_from_ne_true (there (settled o g) (Big c)) (λ t. ne (x.geo.head c t)) in let e = unheld (g.holder (Big c)) refl in (unowned_big c u e, u, e)
+    where
+      unheld : (y : ℕ) → g.holder (Big c) ≡ y → g.holder (Big c) ≡ 0
+      unheld zero e = e
+      unheld (suc j) e = let f = x.each_lane j in absurd (ne (eqb-true (g.geo.first c) c (f.hold.mine (Big c) (f.hold.holds (Big c) e)).1))
+
+  none_f : Nothing f₀
+  none_f = ⊎_elim (λ (e : g.geo.first f₀ ≡ f₀). subst Nothing e (none_in f₀ in_f)) (λ (ne : g.geo.first f₀ ≢ f₀). none_loose f₀ ne) (cases_eq (g.geo.first f₀) f₀)
+
+  -- a chunk is of the new claim; or it was named to be of a block of which a chunk is taken, and is its own; or its block stays
+  abbrev New : ℕ → Type 0
+  New c = (in_span f₀ n c ≡ true) × (first' c ≡ f₀) × Nothing (g.geo.first c)
+
+  abbrev Loose : ℕ → Type 0
+  Loose c = (in_span f₀ n c ≡ false) × (in_span f₀ n (g.geo.first c) ≡ true) × (first' c ≡ c) × Nothing (g.geo.first c) × Nothing c
+
+  abbrev Stays : ℕ → Type 0
+  Stays c = (in_span f₀ n c ≡ false) × (in_span f₀ n (g.geo.first c) ≡ false) × (first' c ≡ g.geo.first c)
+
+  cases : (c : ℕ) → New c ⊎ (Loose c ⊎ Stays c)
+  cases c = let e = g.geo.first c in ⊎_elim (λ (t : in_span f₀ n c ≡ true). inl (t, cond-true (in_span f₀ n c) f₀ (cond (in_span f₀ n e) c e) t, none_in c t))
+      (λ (u : in_span f₀ n c ≡ false). let z = cond-false (in_span f₀ n c) f₀ (cond (in_span f₀ n e) c e) u in
+      ⊎_elim (λ (t : in_span f₀ n e ≡ true). inr (inl (u, t, z ∙ cond-true (in_span f₀ n e) c e t, subst Nothing (x.geo.twice c) (none_in e t), none_loose c (λ s. both_ways (in_span f₀ n c) u (ap (in_span f₀ n) (sym s) ∙ t)))))
+      (λ (w : in_span f₀ n e ≡ false). inr (inr (u, w, z ∙ cond-false (in_span f₀ n e) c e w))) (cases_Bool (in_span f₀ n e))) (cases_Bool (in_span f₀ n c))
+
+  moves : (c : ℕ) → (first' c ≡ g.geo.first c) ⊎ (Nothing (g.geo.first c) × Nothing (first' c))
+  moves c = ⊎_elim (λ (t : New c). inr (t.2, subst Nothing (sym t.1) none_f)) (λ (r : Loose c ⊎ Stays c). ⊎_elim (λ (t : Loose c). inr (t.3, subst Nothing (sym t.2) t.4)) (λ (t : Stays c). inl t.2) r) (cases c)
+
+  -- a claim's or an allocated block's chunks stay its own
+  claim_same : (y : ℕ) → (Nothing y → ⊥) → (c : ℕ) → eqb (first' c) y ≡ eqb (g.geo.first c) y
+  claim_same y some_ c = ⊎_elim (λ (t : first' c ≡ g.geo.first c). ap (λ a. eqb a y) t) (λ (t : Nothing (g.geo.first c) × Nothing (first' c)). ne_eqb (first' c) y (λ s. some_ (subst Nothing s t.1)) ∙ sym (ne_eqb (g.geo.first c) y (λ s. some_ (subst Nothing s t.0)))) (moves c)
+
+  chunks_of_new : (c : ℕ) → eqb (first' c) f₀ ≡ in_span f₀ n c
+  chunks_of_new c = ⊎_elim (λ (t : New c). eq-eqb (first' c) f₀ t.1 ∙ sym t.0)
+      (λ (r : Loose c ⊎ Stays c). ⊎_elim (λ (t : Loose c). ne_eqb (first' c) f₀ (λ s. not_f c t.0 (sym t.2 ∙ s)) ∙ sym t.0) (λ (t : Stays c). ne_eqb (first' c) f₀ (λ s. not_f (g.geo.first c) t.1 (sym t.2 ∙ s)) ∙ sym t.0) r) (cases c)
+
+  first_of_block : (y : ℕ) → (Nothing y → ⊥) → g.geo.first y ≡ y → first' y ≡ y
+  first_of_block y some_ e = eqb-true (first' y) y (claim_same y some_ y ∙ eq-eqb (g.geo.first y) y e)
+
+  geo_after : GeoFits sh (settled o g) (ghost_with_claim k g new f₀ n)
+  geo_after = record {
+    twice = λ c. ⊎_elim (λ (t : New c). ap first' t.1 ∙ (eqb-true (first' f₀) f₀ (chunks_of_new f₀ ∙ in_f) ∙ sym t.1))
+        (λ (r : Loose c ⊎ Stays c). ⊎_elim (λ (t : Loose c). ap first' t.2)
+        (λ (t : Stays c). let e = g.geo.first c in let tw = x.geo.twice c in ap first' t.2 ∙ (cond-false (in_span f₀ n e) f₀ (cond (in_span f₀ n (g.geo.first e)) e (g.geo.first e)) t.1 ∙ (cond-false (in_span f₀ n (g.geo.first e)) e (g.geo.first e) (ap (in_span f₀ n) tw ∙ t.1) ∙ (tw ∙ sym t.2)))) r) (cases c);
+    classes = x.geo.classes;
+    shape = λ y t c. claim_same y (λ z. both_ways (there (settled o g) (Big y)) z.1 t) c ∙ x.geo.shape y t c;
+    head = λ y t. first_of_block y (λ z. both_ways (there (settled o g) (Big y)) z.1 t) (x.geo.head y t);
+    huge = λ c t. ⊎_elim (λ (e : first' c ≡ g.geo.first c). x.geo.huge c (ap (λ a. there (settled o g) (Big a)) (sym e) ∙ t)) (λ (z : Nothing (g.geo.first c) × Nothing (first' c)). absurd (both_ways (there (settled o g) (Big (first' c))) z.1.1 t)) (moves c);
+    zeros = x.geo.zeros;
+    in_zone = x.geo.in_zone;
+    within = x.geo.within;
+  }

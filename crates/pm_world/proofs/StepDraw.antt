@@ -178,8 +178,25 @@ module _ (o : Opening) (mem new : Memory) (views views' : Views) (g : Past) (x :
   open_log = subst (λ ph. Logged (record (views k).log { phase = ph })) a.is_open f.log
 
   log_drawn : (views k).changes ≡ [] → Logged (record (views k).log { phase = Drawn g.length })
-  log_drawn e = let l = open_log in record { first = l.first; last = l.last; below = l.below; stored = l.stored; bump = l.bump; sealed = l.sealed; entries_most = l.entries_most; records_most = l.records_most; pairs = l.pairs; pair_part = l.pair_part;
-    records = l.records; once = l.once; olds = l.olds; slot_part = l.slot_part; stale = l.stale; area_changes = λ i d q. let z = ap length e in absurd (omega arith); phase = (e, a.whole.0, a.whole.1) }
+  log_drawn e = let l = open_log in record {
+    first = l.first;
+    last = l.last;
+    below = l.below;
+    stored = l.stored;
+    bump = l.bump;
+    sealed = l.sealed;
+    entries_most = l.entries_most;
+    records_most = l.records_most;
+    pairs = l.pairs;
+    pair_part = l.pair_part;
+    records = l.records;
+    once = l.once;
+    olds = l.olds;
+    slot_part = l.slot_part;
+    stale = l.stale;
+    area_changes = λ i d q. let z = ap length e in absurd (omega arith);
+    phase = (e, a.whole.0, a.whole.1);
+  }
 
   chunk_change : (p : Rattle.pm_view.specs.Parts.Part) (c : Undrained) → Rattle.pm_world.specs.Lawful.is_chunk_part p ≡ true → AreaChange Idle (length (views k).log.entries) (views k).log.generation p c
   chunk_change Rattle.pm_view.specs.Parts.GenerationPart c e = both_ways false refl e
@@ -192,12 +209,27 @@ module _ (o : Opening) (mem new : Memory) (views views' : Views) (g : Past) (x :
   chunk_change Rattle.pm_view.specs.Parts.OtherPart c e = tt
 
   log_idle : (views k).log.records ≡ [] → (views k).log.entries ≡ [] → Logged (record (views k).log { phase = Idle })
-  log_idle er ee = let l = open_log in record { first = l.first; last = l.last; below = l.below; stored = l.stored; bump = l.bump; sealed = l.sealed; entries_most = l.entries_most; records_most = l.records_most; pairs = l.pairs; pair_part = l.pair_part;
-    records = l.records; once = l.once; olds = l.olds; slot_part = l.slot_part; stale = l.stale;
+  log_idle er ee = let l = open_log in record {
+    first = l.first;
+    last = l.last;
+    below = l.below;
+    stored = l.stored;
+    bump = l.bump;
+    sealed = l.sealed;
+    entries_most = l.entries_most;
+    records_most = l.records_most;
+    pairs = l.pairs;
+    pair_part = l.pair_part;
+    records = l.records;
+    once = l.once;
+    olds = l.olds;
+    slot_part = l.slot_part;
+    stale = l.stale;
     area_changes = ⊎_elim (λ (e : (views k).changes ≡ []). λ i d q. let z = ap length e in absurd (omega arith))
         (λ (e : ((views k).log.records ≡ []) × ((views k).log.entries ≡ []) × All (FilledChange (views k)) (views k).changes). λ i d q. let c = Rattle.std.specs.Prelude.slice_index_or (views k).changes i d in
         chunk_change (Rattle.pm_view.specs.Parts.part_of o.shape k c.word) c (subst (λ n. Rattle.pm_world.specs.Lawful.is_chunk_part (Rattle.pm_view.specs.Parts.part_of o.shape n c.word) ≡ true) f.lane (subst (λ s. Rattle.pm_world.specs.Lawful.is_chunk_part (Rattle.pm_view.specs.Parts.part_of s (views k).fixed.lane c.word) ≡ true) f.shape (e.2 i d q).0))) a.drained;
-    phase = (er, ee, a.whole.0, a.whole.1) }
+    phase = (er, ee, a.whole.0, a.whole.1);
+  }
 
   alike : (w : ℕ) → new (PoolWord w) ≡ mem (PoolWord w)
   alike w = same (PoolWord w) (Rattle.pm_world.proofs.Cells.other_sort (PoolWord w) CommitCounter (λ q. omega arith))
@@ -292,7 +324,10 @@ module _ (o : Opening) (mem new : Memory) (views views' : Views) (g : Past) (x :
 
 -- THE DRAW OF A NUMBER KEEPS THE WORLD
 pub draw : (n : ℕ) → Keeps (Draw n)
-draw n o mem new views views' g k x ink law moves t = let a = law.allowed in let f = x.each_lane k ink in let e : n ≡ g.length = moves.1 ∙ x.bits.counter in
-    (drawn_world o mem new views views' g x k ink a moves.0.0 (let c = moves.0.1 in omega arith) (subst (λ m. Turn views views' k (after (views k) (Draw m))) e t),
-     (subst (λ l. All (λ (y : Numbered). y.number ≤ n) l) (sym f.entries) (numbers_below k g.drew g.length n (omega arith)),
-     λ one. let l : o.lanes ≡ 1 = sym f.lanes ∙ eqb-true (views k).fixed.lanes 1 one in e ∙ (sym (all_numbered k g.drew g.length (λ m q. let z = x.of_lanes m q in omega arith)) ∙ sym (ap length f.entries))))
+draw n o mem new views views' g k x ink law moves t = let a = law.allowed in let f = x.each_lane k ink in let e : n ≡ g.length = moves.1 ∙ x.bits.counter in (
+  drawn_world o mem new views views' g x k ink a moves.0.0 (let c = moves.0.1 in omega arith) (subst (λ m. Turn views views' k (after (views k) (Draw m))) e t),
+  (
+    subst (λ l. All (λ (y : Numbered). y.number ≤ n) l) (sym f.entries) (numbers_below k g.drew g.length n (omega arith)),
+    λ one. let l : o.lanes ≡ 1 = sym f.lanes ∙ eqb-true (views k).fixed.lanes 1 one in e ∙ (sym (all_numbered k g.drew g.length (λ m q. let z = x.of_lanes m q in omega arith)) ∙ sym (ap length f.entries)),
+  ),
+)

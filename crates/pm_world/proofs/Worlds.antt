@@ -15,7 +15,7 @@ use Rattle.pm_world.specs.Logs.{LogFits}
 use Rattle.pm_world.specs.Memory.{Memory, PoolWord, ZoneLock, CommitCounter, StopWord, cells_of}
 use Rattle.pm_world.specs.World.{Opening, Views, Past, origin, ghost_of, settled_words, numbered_by, LaneFits, may_draw_count, is_header, World}
 use Rattle.pm_world.specs.Laws.{Turn}
-use Rattle.pm_world.proofs.Frame.{Around, owned_kept, bit_away}
+use Rattle.pm_world.proofs.Frame.{Around, owned_kept, bit_away, owns_apart}
 use Rattle.pm_world.proofs.Going.{Turned}
 
 -- what the step leaves of the other lanes' areas, zone locks and entries
@@ -104,3 +104,7 @@ module _ (o : Opening) (mem : Memory) (views : Views) (g : Past) (x : World o me
 -- a lane that is at its stop number stays so
 pub stops_stay : (views views' : Views) (k : ℕ) (v : View) → Turn views views' k v → (IsAtStop (views k) → IsAtStop v) → (j : ℕ) → IsAtStop (views j) → IsAtStop (views' j)
 stops_stay views views' k v t stops j e = ⊎_elim (λ (q : j ≡ k). subst (λ i. IsAtStop (views' i)) (sym q) (subst IsAtStop (sym t.here) (stops (subst (λ i. IsAtStop (views i)) q e)))) (λ (ne : j ≢ k). subst IsAtStop (sym (t.else_ j ne)) e) (cases_eq j k)
+
+-- no bit is owned by two lanes
+pub rights_apart : Rattle.pm_world.specs.Laws.RightsApart
+rights_apart o mem views g x j k ne = owns_apart o.shape (cells_of o.shape mem) (settled_words o g) (Flies (ghost_of g) j) (Flies (ghost_of g) k) (ghost_of g) x.bits.geo x.bits.alone j k (sight_of (views j)) (sight_of (views k)) (x.bits.each_lane j) (x.bits.each_lane k) ne

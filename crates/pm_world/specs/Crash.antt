@@ -1,7 +1,8 @@
 -- What a power failure may leave of a world's words, which calls it loses, and what recovery then gives.
-use Rattle.std.specs.Prelude.{◌≡◌, ◌≢◌, ◌⊎◌, ℕ, zero, suc, ◌+◌, ◌<◌, ◌≤◌, ◌==◌, ◌&&◌, ◌||◌, not, Bool, true, false, All, Contains, List, [], ◌∷◌, length, slice_index, Option, Some}
+use Rattle.std.specs.Prelude.{◌≡◌, ◌≢◌, ◌⊎◌, ℕ, zero, suc, ◌+◌, ◌<◌, ◌≤◌, ◌==◌, ◌&&◌, ◌||◌, not, cond, Bool, true, false, All, Contains, List, [], ◌∷◌, length, slice_index, Option, Some}
 use Rattle.pm_record.specs.declared.undo.Undo.{Undo}
 use Rattle.pm_layout.specs.declared.shape.Shape.{Shape}
+use Rattle.pm_layout.specs.Chunks.{chunks_of, word_of_chunk}
 use Rattle.pm_image.specs.Logs.{undo_slot, generation_word, recovered, seal_word}
 use Rattle.pm_image.specs.Steps.{valid_record}
 use Rattle.pm_view.specs.declared.change.Change.{Change}
@@ -13,8 +14,8 @@ use Rattle.pm_world.specs.States.{State, live, replay}
 use Rattle.pm_world.specs.Sights.{is_slot_drained}
 use Rattle.pm_world.specs.Logs.{IsRecordAt, spelled, used_slots}
 use Rattle.pm_world.specs.Lawful.{CanRecord}
-use Rattle.pm_world.specs.Memory.{Memory, PoolWord, bits_of}
-use Rattle.pm_world.specs.World.{Opening, Views, Past, origin, ghost_of}
+use Rattle.pm_world.specs.Memory.{Memory, PoolWord, bit, bits_of, descriptor_told}
+use Rattle.pm_world.specs.World.{Opening, Views, Past, origin, ghost_of, is_header}
 
 -- a change of word w that some lane has undrained, with what it found
 pub record IsUndrainedOf (views : Views) (lanes w : ℕ) (c : Change) : Type 0 where
@@ -73,8 +74,15 @@ is_kept o views g image n = g.decided n || is_decided_in image views o.lanes n
 abbrev pub kept_words : Opening → Views → Past → List ℕ → State
 kept_words o views g image = replay (is_kept o views g image) (origin o) (ghost_of g).log g.length
 
--- THE IMAGE MEANS WHAT THE KEPT CALLS DO: at each place that is alive by the words with the calls that it keeps, its recovered bits are these words'; each chunk that
--- it describes as a run is one, or has no block; and the header page is as it was
+-- a chunk is described as it is: as a run, where it is one; or it is to become one, and has no block
+abbrev pub DescribesRun : Opening → Past → (ℕ → ℕ) → ℕ → Type 0
+DescribesRun o g words c = (descriptor_told o.shape words c ≡ cond (g.runs c) (g.geo.class c) 0)
+    ⊎ ((g.runs c ≡ false) × (descriptor_told o.shape words c ≡ g.geo.class c) × ((b : ℕ) → b < 64 → bit (words (word_of_chunk o.shape c)) b ≡ false))
+
+-- THE IMAGE MEANS WHAT THE KEPT CALLS DO: at each place that is alive by the words with the calls that it keeps, its recovered bits are these words'; its descriptors are
+-- those of the runs; and the header page is as it was
 pub record MeansKept (o : Opening) (views : Views) (g : Past) (image : List ℕ) : Type 0 where
   pub words : (p : Place) (b : ℕ) → is_place o.shape p ≡ true → b < 64 → live (kept_words o views g image) g.geo g.runs p ≡ true
       → bits_of o.shape (recovered image o.shape.lanes) p b ≡ kept_words o views g image p b
+  pub runs : (c : ℕ) → c < chunks_of o.shape → DescribesRun o g (recovered image o.shape.lanes) c
+  pub header : (w : ℕ) → is_header o.shape w ≡ true → recovered image o.shape.lanes w ≡ slice_index o.words w

@@ -1,5 +1,5 @@
 -- THE LAWS of a world.
-use Rattle.std.specs.Prelude.{◌≡◌, ℕ, ◌<◌, ◌==◌, Bool, true, cond, List, ◌&&◌, ◌||◌, Option, Some}
+use Rattle.std.specs.Prelude.{◌≡◌, ◌≢◌, ℕ, ◌<◌, Bool, true, false, List, ◌||◌}
 use Rattle.pm_view.specs.Places.{Place}
 use Rattle.pm_view.specs.Steps.{Step}
 use Rattle.pm_view.specs.View.{View}
@@ -7,12 +7,12 @@ use Rattle.pm_view.specs.Views.{after}
 use Rattle.pm_view.specs.Founds.{Found}
 use Rattle.pm_world.specs.States.{State, replay}
 use Rattle.pm_world.specs.Sights.{sight_of}
-use Rattle.pm_world.specs.Lanes.{Ghost, settled, owns, sees}
+use Rattle.pm_world.specs.Lanes.{Ghost, owns, sees}
 use Rattle.pm_world.specs.Memory.{Memory}
 use Rattle.pm_world.specs.Moves.{Moves}
 use Rattle.pm_world.specs.Lawful.{IsLawful}
 use Rattle.pm_world.specs.Course.{past_after}
-use Rattle.pm_world.specs.World.{Opening, Views, Past, World, origin, ghost_of}
+use Rattle.pm_world.specs.World.{Opening, Views, Past, World, origin, ghost_of, settled_words}
 use Rattle.pm_world.specs.Crash.{Survives, NoneTorn, MeansKept, is_kept}
 
 -- lane k's view is v, the others' are as before
@@ -25,6 +25,11 @@ abbrev pub Keeps : Step → Type 0
 Keeps s = (o : Opening) (old mem : Memory) (views new : Views) (g : Past) (k : ℕ)
     → World o old views g → k < o.lanes → IsLawful (views k) s → Moves k s old mem → Turn views new k (after (views k) s)
     → World o mem new (past_after g (views k) s) × Found (views k) s
+
+-- NO BIT IS OWNED BY TWO LANES
+abbrev pub RightsApart : Type 0
+RightsApart = (o : Opening) (mem : Memory) (views : Views) (g : Past) → World o mem views g → (j k : ℕ) → j ≢ k → (p : Place) (b : ℕ)
+    → owns g.geo (settled_words o g) (sight_of (views j)).hold p b ≡ true → owns g.geo (settled_words o g) (sight_of (views k)).hold p b ≡ false
 
 -- EVERY CRASH IMAGE MEANS WHAT THE KEPT CALLS DO
 abbrev pub CrashLaw : Type 0

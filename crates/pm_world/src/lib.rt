@@ -2,4 +2,12 @@
 //! the other lanes hold, and every crash image of a world has the settled words with the calls that it does not lose.
 //!
 //! It speaks of places and bits, and of the calls by what they make final; what they mean is said above. Docs/MODEL.md, "The world".
+//!
+//! So far it is proved of three kinds of step that they keep the world: the draw of a number, of any call; a look at the stop word; and an
+//! operation that is told. Still to come: loads, stores, OR and AND, flush and drain; locks and zones' locks; occupancy; the number seen,
+//! the stop set; the opening of a world; crash images; the history.
 #![tactic(auto)]
+
+mod laws;
+
+pub use laws::{lawful_steps_keep_the_world, no_bit_is_owned_twice};
