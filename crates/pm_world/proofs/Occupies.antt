@@ -1,5 +1,5 @@
 -- A lane takes occupancy bits, over bits: its rights grow by a block that was nobody's and is not allocated.
-use Rattle.std.proofs.Common.{◌≡◌, ◌≢◌, ℕ, zero, suc, ◌+◌, ◌*◌, ◌/◌, ◌%◌, ◌<◌, ◌≤◌, ◌⊎◌, inl, inr, ⊎_elim, nat_le, nat_lt, Bool, true, false, cond, not, ◌&&◌, ◌||◌, eqb, ◌==◌, refl, sym, ap, ◌∙◌, subst, arith, eq-eqb, ne_eqb, Option, None, Some}
+use Rattle.std.proofs.Common.{◌≡◌, ◌≢◌, ℕ, zero, suc, ◌+◌, ◌-◌, ◌*◌, ◌/◌, ◌%◌, ◌<◌, ◌≤◌, ◌⊎◌, inl, inr, ⊎_elim, nat_le, nat_lt, Bool, true, false, cond, not, ◌&&◌, ◌||◌, eqb, ◌==◌, refl, sym, ap, ◌∙◌, subst, arith, eq-eqb, ne_eqb, Option, None, Some}
 use Rattle.std.proofs.lemmas.Bool.{cases_eq, cases_Bool, eqb-true, both_ways, le-leb, lt-ltb, and_parts, and_from, or_cases, or_left, or_right, or_parts, or_from, cond-true, cond-false, false_from_ne_true, true_from_ne_false}
 use Rattle.pm_layout.specs.declared.shape.Shape.{Shape}
 use Rattle.pm_layout.specs.Sizes.{blocks_of}
@@ -11,7 +11,7 @@ use Rattle.pm_world.specs.States.{State, Diff, Call, diff, given, there, lit, br
 use Rattle.pm_world.specs.Sights.{Hold, Sight}
 use Rattle.pm_world.specs.Lanes.{Ghost, own, rights, owns, has, valid, is_decided, in_flight, left, blank, BitFits, open_soils, soils, TurnFits, settled, SightFits, Flies, is_occupancy, is_taken, is_size, DescrFits, GeoFits, Bits}
 use Rattle.pm_world.proofs.Geometry.{same_true, same_refl}
-use Rattle.pm_world.proofs.Frame.{Around, own_cases, mine_own, own_has, maker_no_run, turn_stays, stay_fits}
+use Rattle.pm_world.proofs.Frame.{Around, own_cases, mine_own, own_has, maker_no_run, turn_stays, stay_fits, some_first, fresh_given, soiled_owned}
 use Rattle.pm_world.proofs.Going.{Turned, goes_on, own_fits, same_made, still_flying}
 
 -- by cases of a test that stands in several places
@@ -149,7 +149,7 @@ module _ (sh : Shape) (L : ℕ) (o : State) (cells : Cells) (sights : ℕ → Si
         plain = f.plain;
         logged = λ p b u y. let z = f.logged p b u y in (more_owned g.geo (settled o g) h new (is Root) p b z.0, z.1);
         stored = f.stored;
-        fresh = λ p b y e. pic.else_ p b (f.reach p b (Rattle.pm_world.proofs.Frame.fresh_given (latest (sights k).call.entries p b) ((sights k).call.fresh p b) (ap given e))) ∙ f.fresh p b y e;
+        fresh = λ p b y e. pic.else_ p b (f.reach p b (fresh_given (latest (sights k).call.entries p b) ((sights k).call.fresh p b) (ap given e))) ∙ f.fresh p b y e;
         sizes = f.sizes;
         born = λ y. absurd (both_ways (in_flight (sights k).phase) flight y);
         guarded = λ y. absurd (both_ways (in_flight (sights k).phase) flight y);
@@ -331,3 +331,228 @@ module _ (sh : Shape) (L : ℕ) (o : State) (cells : Cells) (sights : ℕ → Si
     in_zone = x.geo.in_zone;
     within = x.geo.within;
   }
+
+  abbrev h' : Hold
+  h' = with_claim (sights k).hold new f₀ n
+
+  no_root : new Root ≡ false
+  no_root = is Root
+
+  no_small : (c i : ℕ) → new (Small c i) ≡ false
+  no_small c i = is (Small c i)
+
+  owned_some : (y : ℕ) → own (sights k).hold (Big y) ≡ true → Nothing y → ⊥
+  owned_some y t z = both_ways (own hk (Big y)) (z.0 k) t
+
+  more_has : (B : Block) → own (sights k).hold B ≡ true → own (with_claim (sights k).hold new f₀ n) B ≡ true
+  more_has B t = more_own hk new B t
+
+  less_big : (y : ℕ) → (y ≡ f₀ → ⊥) → own (with_claim (sights k).hold new f₀ n) (Big y) ≡ own (sights k).hold (Big y)
+  less_big y ne = ap (λ t. (t || hk.mine (Big y)) || (hk.here (Big y) || false)) (new_else y ne)
+
+  less_small : (c i : ℕ) → own (with_claim (sights k).hold new f₀ n) (Small c i) ≡ own (sights k).hold (Small c i)
+  less_small c i = ap (λ t. (t || hk.mine (Small c i)) || (hk.here (Small c i) || hk.making c)) (no_small c i)
+
+  -- of what the lane owned the blocks stay
+  blocks_stay : (p : Place) (b : ℕ) → owns g.geo (settled o g) (sights k).hold p b ≡ true → block_of (claimed g.geo f₀ n) p b ≡ block_of g.geo p b
+  blocks_stay (InRun c w) b t = refl
+  blocks_stay (InHuge c w) b t = ⊎_elim (λ (e : first' c ≡ g.geo.first c). ap (λ a. Big a) e) (λ (z : Nothing (g.geo.first c) × Nothing (first' c)). absurd (owned_some (g.geo.first c) t z.0)) (moves c)
+  blocks_stay (Descr c) b t = ⊎_elim (λ (e : first' c ≡ g.geo.first c). ap (λ a. Big a) e) (λ (z : Nothing (g.geo.first c) × Nothing (first' c)). absurd (owned_some (g.geo.first c) t z.0)) (moves c)
+  blocks_stay RootWord b t = refl
+
+  owns_more : (p : Place) (b : ℕ) → owns g.geo (settled o g) (sights k).hold p b ≡ true → owns (claimed g.geo f₀ n) (settled o g) (with_claim (sights k).hold new f₀ n) p b ≡ true
+  owns_more (InRun c w) b t = more_has (block_of g.geo (InRun c w) b) t
+  owns_more (InHuge c w) b t = subst (λ B. own h' B ≡ true) (sym (blocks_stay (InHuge c w) b t)) (more_has (Big (g.geo.first c)) t)
+  owns_more (Descr c) b t = subst (λ B. own h' B ≡ true) (sym (blocks_stay (Descr c) b t)) (more_has (Big (g.geo.first c)) t)
+  owns_more RootWord b t = ap (λ z. ((z || hk.mine Root) || false) || Rattle.pm_world.specs.Lanes.all_held hk.locked (guards (settled o g) RootWord)) no_root ∙ t
+
+  size_stays : (p : Place) (b : ℕ) → owns g.geo (settled o g) (sights k).hold p b ≡ true → is_size (claimed g.geo f₀ n) p ≡ true → is_size g.geo p ≡ true
+  size_stays (InRun c w) b t s = s
+  size_stays (InHuge c w) b t s = ⊎_elim (λ (e : first' c ≡ g.geo.first c). sym (ap (λ a. (a == c) && (w == 1)) e) ∙ s) (λ (z : Nothing (g.geo.first c) × Nothing (first' c)). absurd (owned_some (g.geo.first c) t z.0)) (moves c)
+  size_stays (Descr c) b t s = s
+  size_stays RootWord b t s = s
+
+  -- a huge block's chunk: of the new claim, or as it was
+  chunk_cases : (c : ℕ) → has (with_claim (sights k).hold new f₀ n) (Big (first' c)) ≡ true → New c ⊎ ((first' c ≡ g.geo.first c) × (has (sights k).hold (Big (g.geo.first c)) ≡ true))
+  chunk_cases c a = ⊎_elim (λ (t : New c). inl t) (λ (r : Loose c ⊎ Stays c). ⊎_elim
+      (λ (t : Loose c). absurd (both_ways (has hk (Big c)) (unfound c t.4 k) (sym (ap (λ z. z || hk.found (Big c)) (less_big c (not_f c t.0))) ∙ subst (λ a. has h' (Big a) ≡ true) t.2 a)))
+      (λ (t : Stays c). inr (t.2, sym (ap (λ z. z || hk.found (Big (g.geo.first c))) (less_big (g.geo.first c) (not_f (g.geo.first c) t.1))) ∙ subst (λ a. has h' (Big a) ≡ true) t.2 a)) r) (cases c)
+
+  turn_f : turn (latest (sights k).call.entries) (Big f₀) ≡ None
+  turn_f = turn_stays (sights k).phase (hk.locked (header sh g.geo (Big f₀))) (hk.mine (Big f₀)) (hk.here (Big f₀)) false (turn (latest (sights k).call.entries) (Big f₀)) ((x.each_lane k).turns (Big f₀)) (none_f.0 k)
+
+  pub record PicturedClaim (pc : Diff) : Type 0 where
+    pub less : (p : Place) (b : ℕ) (y : Bool) → pc p b ≡ Some y → (sights k).picture p b ≡ Some y
+    pub none_ : (p : Place) (b : ℕ) → new (block_of (claimed g.geo f₀ n) p b) ≡ true → pc p b ≡ None
+    pub else_ : (p : Place) (b : ℕ) → owns g.geo (settled o g) (sights k).hold p b ≡ true → pc p b ≡ (sights k).picture p b
+
+  pub occupies_chunks : f₀ % 64 + n ≤ 64 → is_decided (sights k).phase ≡ false → in_flight (sights k).phase ≡ false
+      → (occ' : Block → Bool) → ((c i : ℕ) → is_occupancy sh (Small c i) ≡ true → occ' (Small c i) ≡ cells.occ (Small c i)) → ((c : ℕ) → is_occupancy sh (Big c) ≡ true → occ' (Big c) ≡ (in_span f₀ n c || cells.occ (Big c))) → (pc : Diff) → PicturedClaim pc
+      → (sights' : ℕ → Sight) → Turned sights sights' k (record (sights k) { hold = with_claim (sights k).hold new f₀ n; picture = pc }) → Bits sh L o (record cells { occ = occ' }) sights' (ghost_with_claim k g new f₀ n)
+  occupies_chunks zone0 early flight occ' small_occs big_occs pc pic sights' t =
+      goes_on sh L o cells sights g x k ink (settled o g) (record cells { occ = occ' }) x' g' sights' refl record {
+        writer = λ l j ne. refl;
+        reader = λ l j ne. refl;
+        pool = λ p b u w. refl;
+        set = λ p b u. refl;
+        descr = λ d u. refl;
+        up = λ d n e. e;
+        runs = λ d u. refl;
+        holder = λ B j ne e. split (new B) (λ z. cond z (suc k) (g.holder B) ≡ suc j) (λ y. let a = holder0 B y in absurd (omega arith)) (λ _. e);
+        holder_back = λ B j ne. split (new B) (λ z. cond z (suc k) (g.holder B) ≡ suc j → g.holder B ≡ suc j) (λ y e. absurd (ne (omega arith))) (λ _ e. e);
+        class = λ d u. refl;
+        first = λ c j ne. ⊎_elim (λ (e : first' c ≡ g.geo.first c). inl e) (λ (z : Nothing (g.geo.first c) × Nothing (first' c)). inr (unfound (g.geo.first c) z.0 j, unfound (first' c) z.1 j)) (moves c);
+        flies = λ j n d ne w y. y;
+      } record {
+        hold = record {
+          locks = f.hold.locks;
+          reading = f.hold.reading;
+          found = λ B a. let y = f.hold.found B a in (ap (λ l. hk.locked l || hk.reads l) (header_same B) ∙ y.0, valid_there B y.1 y.2, y.2);
+          here = λ B a. let y = f.hold.here B a in (ap hk.locked (header_same B) ∙ y.0, y.1);
+          found_here = λ B a l. f.hold.found_here B a (sym (ap hk.locked (header_same B)) ∙ l);
+          mine = λ B. split (new B) (λ z. (z || hk.mine B) ≡ true → (cond z (suc k) (g.holder B) ≡ suc k) × (valid g' B ≡ true) × (there (settled o g) B ≡ false))
+              (λ y _. subst (λ C. (suc k ≡ suc k) × (valid g' C ≡ true) × (there (settled o g) C ≡ false)) (sym (new_is B y)) (refl, chunks_of_new f₀ ∙ in_f, none_f.1)) (λ _ m. let y = f.hold.mine B m in (y.0, valid_mine B m y.1, y.2));
+          holds = λ B. split (new B) (λ z. cond z (suc k) (g.holder B) ≡ suc k → (z || hk.mine B) ≡ true) (λ _ _. refl) (λ _ e. f.hold.holds B e);
+          class = λ d j a. f.hold.class d j (sym (ap (λ z. z || hk.found (Small d j)) (less_small d j)) ∙ a);
+          span = λ y a c. ⊎_elim (λ (e : y ≡ f₀). subst (λ a. (first' c == a) ≡ in_span a (cond (new (Big a)) n (hk.span a)) c) (sym e) (chunks_of_new c ∙ sym (ap (λ m. in_span f₀ m c) (cond-true (new (Big f₀)) n (hk.span f₀) new_f))))
+              (λ (ne : y ≢ f₀). let w = old_has y ne a in claim_same y (λ z. both_ways (has hk (Big y)) (unfound y z k) w) c ∙ (f.hold.span y w c ∙ sym (ap (λ m. in_span y m c) (cond-false (new (Big y)) n (hk.span y) (new_else y ne))))) (cases_eq y f₀);
+          first = λ c a. ⊎_elim (λ (z : New c). cond-true (in_span f₀ n c) f₀ (hk.first c) z.0 ∙ sym z.1)
+              (λ (z : (first' c ≡ g.geo.first c) × (has hk (Big (g.geo.first c)) ≡ true)). ⊎_elim (λ (t : in_span f₀ n c ≡ true). absurd (both_ways (has hk (Big (g.geo.first c))) (unfound (g.geo.first c) (none_in c t) k) z.1)) (λ (u : in_span f₀ n c ≡ false). cond-false (in_span f₀ n c) f₀ (hk.first c) u ∙ (f.hold.first c z.1 ∙ sym z.0)) (cases_Bool (in_span f₀ n c))) (chunk_cases c a);
+          zone = λ y a. ⊎_elim (λ (e : y ≡ f₀). subst (λ a. a % 64 + cond (new (Big a)) n (hk.span a) ≤ 64) (sym e) (subst (λ m. f₀ % 64 + m ≤ 64) (sym (cond-true (new (Big f₀)) n (hk.span f₀) new_f)) zone0))
+              (λ (ne : y ≢ f₀). subst (λ m. y % 64 + m ≤ 64) (sym (cond-false (new (Big y)) n (hk.span y) (new_else y ne))) (f.hold.zone y (old_has y ne a))) (cases_eq y f₀);
+          making = λ c a. let y = f.hold.making c a in (or_right (new (Big c)) (hk.mine (Big c)) y.0, y.1, y.2, y.3, cond-false (new (Big c)) n (hk.span c) (new_else c (λ e. owned_some c (mine_own hk (Big c) y.0) (subst Nothing (sym e) none_f))) ∙ y.4);
+          free = λ c a. ⊎_elim (λ (z : New c). (free_chunk c z.0).0) (λ (z : (first' c ≡ g.geo.first c) × (has hk (Big (g.geo.first c)) ≡ true)). f.hold.free c (mine_of (g.geo.first c) (λ e. both_ways (has hk (Big (g.geo.first c))) (unfound (g.geo.first c) (subst Nothing (sym e) none_f) k) z.1) (subst (λ a. (new (Big a) || hk.mine (Big a)) ≡ true) z.0 a)))
+              (chunk_cases c (own_has h' (Big (first' c)) (mine_own h' (Big (first' c)) a)));
+          seen = f.hold.seen;
+        };
+        bits = bits';
+        picture = λ p b s y e. f.picture p b (sees_same p b s) y (pic.less p b y e);
+        turns = turns';
+        call = record {
+          flight = f.call.flight;
+          todo = f.call.todo;
+          descr = λ y. ⊎_elim (λ (e : y ≡ f₀). subst (λ a. DescrFits (turn (latest (sights k).call.entries) (Big a)) a (cond (new (Big a)) n (hk.span a)) (λ b. diff (sights k).call (Descr a) b)) (sym e)
+              (subst (λ t. DescrFits t f₀ (cond (new (Big f₀)) n (hk.span f₀)) (λ b. diff (sights k).call (Descr f₀) b)) (sym turn_f) (subst (λ t. DescrFits t f₀ (hk.span f₀) (λ b. diff (sights k).call (Descr f₀) b)) turn_f (f.call.descr f₀))))
+              (λ (ne : y ≢ f₀). subst (λ m. DescrFits (turn (latest (sights k).call.entries) (Big y)) y m (λ b. diff (sights k).call (Descr y) b)) (sym (cond-false (new (Big y)) n (hk.span y) (new_else y ne))) (f.call.descr y)) (cases_eq y f₀);
+        };
+        reach = λ p b y. owns_more p b (f.reach p b y);
+        plain = f.plain;
+        logged = λ p b u y. let z = f.logged p b u y in (owns_more p b z.0, z.1);
+        stored = f.stored;
+        fresh = λ p b y e. pic.else_ p b (f.reach p b (fresh_given (latest (sights k).call.entries p b) ((sights k).call.fresh p b) (ap given e))) ∙ f.fresh p b y e;
+        sizes = λ p b s. (
+          false_from_ne_true (given (latest (sights k).call.entries p b)) (λ u. both_ways (given (latest (sights k).call.entries p b)) (f.sizes p b (size_stays p b (f.reach p b (some_first (latest (sights k).call.entries p b) ((sights k).call.fresh p b) u)) s)).0 u),
+          λ u. let w = f.reach p b (fresh_given (latest (sights k).call.entries p b) ((sights k).call.fresh p b) u) in subst (λ B. turn (latest (sights k).call.entries) B ≡ Some true) (sym (blocks_stay p b w)) ((f.sizes p b (size_stays p b w s)).1 u),
+        );
+        born = λ y. absurd (both_ways (in_flight (sights k).phase) flight y);
+        guarded = λ y. absurd (both_ways (in_flight (sights k).phase) flight y);
+        soiled = λ p b y. let z = f.soiled p b y in let w = soiled_owned sh cells (settled o g) (Flies g k) g x.geo k (sights k) f p b y in let B = block_of g.geo p b in
+            (subst (λ C. soils (sights k).phase p (new C || hk.mine C) ((sights k).logged p) (latest (sights k).call.entries p b) ≡ true) (sym (blocks_stay p b w)) (more_soils (sights k).phase p (hk.mine B) (new B || hk.mine B) ((sights k).logged p) (latest (sights k).call.entries p b) (or_right (new B) (hk.mine B)) z.0), z.1);
+      } record {
+        gone = λ p b q u l. absurd (both_ways (owns (claimed g.geo f₀ n) (settled o g) (with_claim hk new f₀ n) p b) u (owns_more p b q));
+        back = back';
+        made = same_made sh L o cells sights g x k ink x' (λ d. refl);
+        occ = occ_after;
+        geo = geo_after;
+        alone = x.alone;
+        counter = x.counter;
+        flying = still_flying sh L o cells sights g x k ink x' (λ n y. y);
+      } t
+    where
+      x' : Sight
+      x' = record (sights k) { hold = with_claim (sights k).hold new f₀ n; picture = pc }
+
+      g' : Ghost
+      g' = ghost_with_claim k g new f₀ n
+
+      f : SightFits sh cells (settled o g) (Flies g k) g k (sights k)
+      f = x.each_lane k
+
+      new_is : (B : Block) → new B ≡ true → B ≡ Big f₀
+      new_is B t = same_true B (Big f₀) (sym (is B) ∙ t)
+
+      holder0 : (B : Block) → new B ≡ true → g.holder B ≡ 0
+      holder0 B y = subst (λ C. g.holder C ≡ 0) (sym (new_is B y)) none_f.2
+
+      header_same : (B : Block) → header sh (claimed g.geo f₀ n) B ≡ header sh g.geo B
+      header_same (Small c i) = refl
+      header_same (Big y) = refl
+      header_same Root = refl
+
+      valid_there : (B : Block) → valid g B ≡ true → there (settled o g) B ≡ true → valid g' B ≡ true
+      valid_there (Small c i) v u = v
+      valid_there (Big y) v u = claim_same y (λ z. both_ways (there (settled o g) (Big y)) z.1 u) y ∙ v
+      valid_there Root v u = v
+
+      valid_mine : (B : Block) → hk.mine B ≡ true → valid g B ≡ true → valid g' B ≡ true
+      valid_mine (Small c i) m v = v
+      valid_mine (Big y) m v = claim_same y (owned_some y (mine_own hk (Big y) m)) y ∙ v
+      valid_mine Root m v = v
+
+      old_has : (y : ℕ) → (y ≡ f₀ → ⊥) → has h' (Big y) ≡ true → has hk (Big y) ≡ true
+      old_has y ne a = sym (ap (λ z. z || hk.found (Big y)) (less_big y ne)) ∙ a
+
+      mine_of : (y : ℕ) → (y ≡ f₀ → ⊥) → (new (Big y) || hk.mine (Big y)) ≡ true → hk.mine (Big y) ≡ true
+      mine_of y ne a = sym (ap (λ z. z || hk.mine (Big y)) (new_else y ne)) ∙ a
+
+      sees_same : (p : Place) (b : ℕ) → Rattle.pm_world.specs.Lanes.sees (claimed g.geo f₀ n) (settled o g) (with_claim hk new f₀ n) p b ≡ true → Rattle.pm_world.specs.Lanes.sees g.geo (settled o g) hk p b ≡ true
+      sees_same (InRun c w) b s = s
+      sees_same (InHuge c w) b s = ⊎_elim (λ (e : first' c ≡ g.geo.first c). subst (λ a. hk.found (Big a) ≡ true) e s) (λ (z : Nothing (g.geo.first c) × Nothing (first' c)). absurd (both_ways (there (settled o g) (Big (first' c))) z.1.1 (f.hold.found (Big (first' c)) s).2)) (moves c)
+      sees_same (Descr c) b s = ⊎_elim (λ (e : first' c ≡ g.geo.first c). subst (λ a. hk.found (Big a) ≡ true) e s) (λ (z : Nothing (g.geo.first c) × Nothing (first' c)). absurd (both_ways (there (settled o g) (Big (first' c))) z.1.1 (f.hold.found (Big (first' c)) s).2)) (moves c)
+      sees_same RootWord b s = s
+
+      turns' : (B : Block) → TurnFits (sights k).phase (hk.locked (header sh (claimed g.geo f₀ n) B)) (new B || hk.mine B) (hk.here B) (turn (latest (sights k).call.entries) B)
+      turns' B = subst (λ l. TurnFits (sights k).phase (hk.locked l) (new B || hk.mine B) (hk.here B) (turn (latest (sights k).call.entries) B)) (sym (header_same B)) (split (new B) (λ z. TurnFits (sights k).phase (hk.locked (header sh g.geo B)) (z || hk.mine B) (hk.here B) (turn (latest (sights k).call.entries) B))
+          (λ y. subst (TurnFits (sights k).phase (hk.locked (header sh g.geo B)) true (hk.here B)) (sym (subst (λ C. turn (latest (sights k).call.entries) C ≡ None) (sym (new_is B y)) turn_f)) (stay_fits (sights k).phase (hk.locked (header sh g.geo B)) true (hk.here B))) (λ _. f.turns B))
+
+      abbrev_fits : Place → ℕ → Bool → Bool → Option Bool → Type 0
+      abbrev_fits p b al bl y = BitFits al bl (is_decided (sights k).phase) (left (sights k).phase p b) ((sights k).logged p) (latest (sights k).call.entries p b) y (read cells.pool p b) (settled o g p b)
+
+      -- a bit of the new claim
+      claimed_bit : (p : Place) (b : ℕ) (al : Bool) → (al ≡ true → read cells.pool p b ≡ settled o g p b) → new (block_of (claimed g.geo f₀ n) p b) ≡ true → abbrev_fits p b al false (pc p b)
+      claimed_bit p b al u y = (λ a _ _. u a, λ bl. absurd (both_ways false refl bl), λ dec. absurd (both_ways (is_decided (sights k).phase) early dec), λ z e. absurd (both_ways true (ap given (sym e ∙ pic.none_ p b y)) refl))
+
+      -- a bit that the lane owned
+      same_bit : (p : Place) (b : ℕ) (al bl : Bool) → owns g.geo (settled o g) hk p b ≡ true → abbrev_fits p b al bl ((sights k).picture p b) → abbrev_fits p b al bl (pc p b)
+      same_bit p b al bl a u = (u.0, u.1, u.2, λ z e. u.3 z (sym (pic.else_ p b a) ∙ e))
+
+      huge_dead : (c w : ℕ) → New c → live (settled o g) (claimed g.geo f₀ n) g.runs (InHuge c w) ≡ true → ⊥
+      huge_dead c w z al = both_ways (there (settled o g) (Big (first' c))) (subst (λ a. there (settled o g) (Big a) ≡ false) (sym z.1) none_f.1) (and_parts (settled o g (Descr (first' c)) 1) (lit (settled o g (InHuge (first' c) 1)) (64 * (c - first' c) + w / 8)) (and_parts (nat_lt w 512) (bright_huge (settled o g) (first' c) (64 * (c - first' c) + w / 8)) al).1).0
+
+      owned_old : (c : ℕ) → own h' (Big (first' c)) ≡ true → New c ⊎ ((first' c ≡ g.geo.first c) × (own hk (Big (g.geo.first c)) ≡ true))
+      owned_old c a = ⊎_elim (λ (z : New c). inl z) (λ (z : (first' c ≡ g.geo.first c) × (has hk (Big (g.geo.first c)) ≡ true)). inr (z.0, sym (less_big (g.geo.first c) (λ e. both_ways (has hk (Big (g.geo.first c))) (unfound (g.geo.first c) (subst Nothing (sym e) none_f) k) z.1)) ∙ subst (λ a. own h' (Big a) ≡ true) z.0 a)) (chunk_cases c (own_has h' (Big (first' c)) a))
+
+      bits' : (p : Place) (b : ℕ) → owns (claimed g.geo f₀ n) (settled o g) (with_claim hk new f₀ n) p b ≡ true
+          → BitFits (live (settled o g) (claimed g.geo f₀ n) g.runs p) (blank (with_claim hk new f₀ n) p) (is_decided (sights k).phase) (left (sights k).phase p b) ((sights k).logged p) (latest (sights k).call.entries p b) (pc p b) (read cells.pool p b) (settled o g p b)
+      bits' (InRun c w) b a = let a' = sym (less_small c (part (g.geo.class c) w b)) ∙ a in same_bit (InRun c w) b (live (settled o g) g.geo g.runs (InRun c w)) (blank hk (InRun c w)) a' (f.bits (InRun c w) b a')
+      bits' (InHuge c w) b a = ⊎_elim (λ (z : New c). claimed_bit (InHuge c w) b (live (settled o g) (claimed g.geo f₀ n) g.runs (InHuge c w)) (λ al. absurd (huge_dead c w z al)) (ap (λ a. new (Big a)) z.1 ∙ new_f))
+          (λ (z : (first' c ≡ g.geo.first c) × (own hk (Big (g.geo.first c)) ≡ true)). let u = f.bits (InHuge c w) b z.1 in
+          same_bit (InHuge c w) b (live (settled o g) (claimed g.geo f₀ n) g.runs (InHuge c w)) false z.1 (λ al. u.0 (sym (ap (λ a. nat_lt w 512 && bright_huge (settled o g) a (64 * (c - a) + w / 8)) z.0) ∙ al), u.1, u.2, u.3)) (owned_old c a)
+      bits' (Descr c) b a = ⊎_elim (λ (z : New c). claimed_bit (Descr c) b true (λ _. x.unowned (Descr c) b z.2.0 refl) (ap (λ a. new (Big a)) z.1 ∙ new_f)) (λ (z : (first' c ≡ g.geo.first c) × (own hk (Big (g.geo.first c)) ≡ true)). same_bit (Descr c) b true false z.1 (f.bits (Descr c) b z.1)) (owned_old c a)
+      bits' RootWord b a = let a' = sym (ap (λ z. ((z || hk.mine Root) || false) || Rattle.pm_world.specs.Lanes.all_held hk.locked (guards (settled o g) RootWord)) no_root) ∙ a in same_bit RootWord b true false a' (f.bits RootWord b a')
+
+      back' : (p : Place) (b : ℕ) → owns g.geo (settled o g) hk p b ≡ false → owns (claimed g.geo f₀ n) (settled o g) (with_claim hk new f₀ n) p b ≡ false → live (settled o g) (claimed g.geo f₀ n) g.runs p ≡ true
+          → (live (settled o g) g.geo g.runs p ≡ true) × ((j : ℕ) → j ≢ k → owns (claimed g.geo f₀ n) (settled o g) (sights j).hold p b ≡ false → owns g.geo (settled o g) (sights j).hold p b ≡ false)
+      back' (InRun c w) b u u' l = (l, λ j ne t. t)
+      back' (InHuge c w) b u u' l = ⊎_elim (λ (e : first' c ≡ g.geo.first c). (sym (ap (λ a. nat_lt w 512 && bright_huge (settled o g) a (64 * (c - a) + w / 8)) e) ∙ l, λ j ne t. subst (λ a. own (sights j).hold (Big a) ≡ false) e t))
+          (λ (z : Nothing (g.geo.first c) × Nothing (first' c)). absurd (both_ways (there (settled o g) (Big (first' c))) z.1.1 (and_parts (settled o g (Descr (first' c)) 1) (lit (settled o g (InHuge (first' c) 1)) (64 * (c - first' c) + w / 8)) (and_parts (nat_lt w 512) (bright_huge (settled o g) (first' c) (64 * (c - first' c) + w / 8)) l).1).0)) (moves c)
+      back' (Descr c) b u u' l = (refl, λ j ne t. ⊎_elim (λ (e : first' c ≡ g.geo.first c). subst (λ a. own (sights j).hold (Big a) ≡ false) e t) (λ (z : Nothing (g.geo.first c) × Nothing (first' c)). z.0.0 j) (moves c))
+      back' RootWord b u u' l = (l, λ j ne t. t)
+
+      -- a chunk that is nobody's is taken exactly where it is a run
+      nothing_taken : (r : Bool) (y : ℕ) → Nothing y → (r || (there (settled o g) (Big y) || not (g.holder (Big y) == 0))) ≡ (r || false)
+      nothing_taken r y z = ap (λ t. r || t) (or_from (there (settled o g) (Big y)) (not (g.holder (Big y) == 0)) z.1 (ap (λ m. not (m == 0)) z.2))
+
+      holder_else : (y : ℕ) → (y ≡ f₀ → ⊥) → g'.holder (Big y) ≡ g.holder (Big y)
+      holder_else y ne = cond-false (new (Big y)) (suc k) (g.holder (Big y)) (new_else y ne)
+
+      occ_after : (a : Block) → is_occupancy sh a ≡ true → occ' a ≡ is_taken (settled o g) g' a
+      occ_after (Small c i) in_ = small_occs c i in_ ∙ (x.occ (Small c i) in_ ∙ ap (λ m. not (valid g (Small c i)) || (there (settled o g) (Small c i) || not (m == 0))) (sym (cond-false (new (Small c i)) (suc k) (g.holder (Small c i)) (no_small c i))))
+      occ_after (Big c) in_ = big_occs c in_ ∙ ⊎_elim
+          (λ (z : New c). or_left (in_span f₀ n c) (cells.occ (Big c)) z.0 ∙ sym (or_right (g.runs c) (there (settled o g) (Big (first' c)) || not (g'.holder (Big (first' c)) == 0)) (or_right (there (settled o g) (Big (first' c))) (not (g'.holder (Big (first' c)) == 0))
+          (ap not (ne_eqb (g'.holder (Big (first' c))) 0 (λ e. let w : g'.holder (Big (first' c)) ≡ suc k = ap (λ a. g'.holder (Big a)) z.1 ∙ cond-true (new (Big f₀)) (suc k) (g.holder (Big f₀)) new_f in absurd (omega arith)))))))
+          (λ (r : Loose c ⊎ Stays c). ⊎_elim
+          (λ (z : Loose c). ap (λ t. t || cells.occ (Big c)) z.0 ∙ (x.occ (Big c) in_ ∙ (nothing_taken (g.runs c) (g.geo.first c) z.3 ∙ (sym (nothing_taken (g.runs c) c z.4)
+          ∙ (ap (λ m. g.runs c || (there (settled o g) (Big c) || not (m == 0))) (sym (holder_else c (not_f c z.0))) ∙ ap (λ a. g.runs c || (there (settled o g) (Big a) || not (g'.holder (Big a) == 0))) (sym z.2))))))
+          (λ (z : Stays c). ap (λ t. t || cells.occ (Big c)) z.0 ∙ (x.occ (Big c) in_ ∙ (ap (λ m. g.runs c || (there (settled o g) (Big (g.geo.first c)) || not (m == 0))) (sym (holder_else (g.geo.first c) (not_f (g.geo.first c) z.1))) ∙ ap (λ a. g.runs c || (there (settled o g) (Big a) || not (g'.holder (Big a) == 0))) (sym z.2)))) r) (cases c)
+      occ_after Root in_ = absurd (both_ways false refl in_)
