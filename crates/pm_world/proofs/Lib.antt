@@ -15,3 +15,4 @@ pub mod Vacates
 pub mod StepDraw
 pub mod Runs
 pub mod Stores
+pub mod StepOccupies
