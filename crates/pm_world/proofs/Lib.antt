@@ -15,4 +15,5 @@ pub mod Vacates
 pub mod StepDraw
 pub mod Runs
 pub mod Stores
+pub mod WordPlaces
 pub mod StepOccupies
