@@ -107,9 +107,10 @@ module _ (sh : Shape) (L : ℕ) (o : State) (cells : Cells) (sights : ℕ → Si
 
   pub occupies_small : is_occupancy sh (Small c i) ≡ true → cells.occ (Small c i) ≡ false → (sights k).hold.class c ≢ 0 → is_decided (sights k).phase ≡ false → in_flight (sights k).phase ≡ false
       → (occ' : Block → Bool) → ((a : Block) → is_occupancy sh a ≡ true → occ' a ≡ (new a || cells.occ a)) → (pc : Diff) → Pictured pc
-      → (sights' : ℕ → Sight) → Turned sights sights' k (record (sights k) { hold = with_mine (sights k).hold new; picture = pc }) → Bits sh L o (record cells { occ = occ' }) sights' (record g { holder = λ B. cond (new B) (suc k) (g.holder B) })
+      → (sights' : ℕ → Sight) → Turned sights sights' k (record (sights k) { hold = with_mine (sights k).hold new; picture = pc }) → Around k (sights k).hold (λ j. (sights j).hold) cells (record cells { occ = occ' }) (settled o g) (settled o g) g (record g { holder = λ B. cond (new B) (suc k) (g.holder B) })
+      × Bits sh L o (record cells { occ = occ' }) sights' (record g { holder = λ B. cond (new B) (suc k) (g.holder B) })
   occupies_small ins free kn early flight occ' occs pc pic sights' t =
-      goes_on sh L o cells sights g x k ink (settled o g) (record cells { occ = occ' }) x' g' sights' refl record {
+      let a : Around k (sights k).hold (λ j. (sights j).hold) cells (record cells { occ = occ' }) (settled o g) (settled o g) g (record g { holder = λ B. cond (new B) (suc k) (g.holder B) }) = record {
         writer = λ l j ne. refl;
         reader = λ l j ne. refl;
         pool = λ p b u w. refl;
@@ -122,7 +123,8 @@ module _ (sh : Shape) (L : ℕ) (o : State) (cells : Cells) (sights : ℕ → Si
         class = λ d u. refl;
         first = λ d j ne. inl refl;
         flies = λ j n d ne w y. y;
-      } record {
+      } in
+      (a, goes_on sh L o cells sights g x k ink (settled o g) (record cells { occ = occ' }) x' g' sights' refl a record {
         hold = record {
           locks = f.hold.locks;
           reading = f.hold.reading;
@@ -163,7 +165,7 @@ module _ (sh : Shape) (L : ℕ) (o : State) (cells : Cells) (sights : ℕ → Si
         alone = x.alone;
         counter = x.counter;
         flying = still_flying sh L o cells sights g x k ink x' (λ n y. y);
-      } t
+      } t)
     where
       x' : Sight
       x' = record (sights k) { hold = with_mine (sights k).hold new; picture = pc }
@@ -388,9 +390,10 @@ module _ (sh : Shape) (L : ℕ) (o : State) (cells : Cells) (sights : ℕ → Si
 
   pub occupies_chunks : f₀ % 64 + n ≤ 64 → is_decided (sights k).phase ≡ false → in_flight (sights k).phase ≡ false
       → (occ' : Block → Bool) → ((c i : ℕ) → is_occupancy sh (Small c i) ≡ true → occ' (Small c i) ≡ cells.occ (Small c i)) → ((c : ℕ) → is_occupancy sh (Big c) ≡ true → occ' (Big c) ≡ (in_span f₀ n c || cells.occ (Big c))) → (pc : Diff) → PicturedClaim pc
-      → (sights' : ℕ → Sight) → Turned sights sights' k (record (sights k) { hold = with_claim (sights k).hold new f₀ n; picture = pc }) → Bits sh L o (record cells { occ = occ' }) sights' (ghost_with_claim k g new f₀ n)
+      → (sights' : ℕ → Sight) → Turned sights sights' k (record (sights k) { hold = with_claim (sights k).hold new f₀ n; picture = pc }) → Around k (sights k).hold (λ j. (sights j).hold) cells (record cells { occ = occ' }) (settled o g) (settled o g) g (ghost_with_claim k g new f₀ n)
+      × Bits sh L o (record cells { occ = occ' }) sights' (ghost_with_claim k g new f₀ n)
   occupies_chunks zone0 early flight occ' small_occs big_occs pc pic sights' t =
-      goes_on sh L o cells sights g x k ink (settled o g) (record cells { occ = occ' }) x' g' sights' refl record {
+      let a : Around k (sights k).hold (λ j. (sights j).hold) cells (record cells { occ = occ' }) (settled o g) (settled o g) g (ghost_with_claim k g new f₀ n) = record {
         writer = λ l j ne. refl;
         reader = λ l j ne. refl;
         pool = λ p b u w. refl;
@@ -403,7 +406,8 @@ module _ (sh : Shape) (L : ℕ) (o : State) (cells : Cells) (sights : ℕ → Si
         class = λ d u. refl;
         first = λ c j ne. ⊎_elim (λ (e : first' c ≡ g.geo.first c). inl e) (λ (z : Nothing (g.geo.first c) × Nothing (first' c)). inr (unfound (g.geo.first c) z.0 j, unfound (first' c) z.1 j)) (moves c);
         flies = λ j n d ne w y. y;
-      } record {
+      } in
+      (a, goes_on sh L o cells sights g x k ink (settled o g) (record cells { occ = occ' }) x' g' sights' refl a record {
         hold = record {
           locks = f.hold.locks;
           reading = f.hold.reading;
@@ -457,7 +461,7 @@ module _ (sh : Shape) (L : ℕ) (o : State) (cells : Cells) (sights : ℕ → Si
         alone = x.alone;
         counter = x.counter;
         flying = still_flying sh L o cells sights g x k ink x' (λ n y. y);
-      } t
+      } t)
     where
       x' : Sight
       x' = record (sights k) { hold = with_claim (sights k).hold new f₀ n; picture = pc }

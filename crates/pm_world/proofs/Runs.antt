@@ -189,9 +189,10 @@ module _ (sh : Shape) (L : ℕ) (o : State) (cells : Cells) (sights : ℕ → Si
     pub fewer : (p : Place) (b : ℕ) → so p b ≡ true → (sights k).soiled p b ≡ true
 
   pub makes_runs : (lg : Place → Bool) (so : Place → ℕ → Bool) → Drains lg so → (sights' : ℕ → Sight) → Turned sights sights' k (record (sights k) { hold = with_runs (sights k).hold dirty; logged = lg; soiled = so })
-      → Bits sh L o cells sights' (ghost_with_runs k (sights k).hold dirty g)
+      → Around k (sights k).hold (λ j. (sights j).hold) cells cells (settled o g) (settled o g) g (ghost_with_runs k (sights k).hold dirty g)
+      × Bits sh L o cells sights' (ghost_with_runs k (sights k).hold dirty g)
   makes_runs lg so d sights' t =
-      goes_on sh L o cells sights g x k ink (settled o g) cells x' g' sights' refl record {
+      let a : Around k (sights k).hold (λ j. (sights j).hold) cells cells (settled o g) (settled o g) g (ghost_with_runs k (sights k).hold dirty g) = record {
         writer = λ l j ne. refl;
         reader = λ l j ne. refl;
         pool = λ p b u w. refl;
@@ -204,7 +205,8 @@ module _ (sh : Shape) (L : ℕ) (o : State) (cells : Cells) (sights : ℕ → Si
         class = λ c u. refl;
         first = λ c j ne. inl refl;
         flies = λ j n y ne w z. z;
-      } record {
+      } in
+      (a, goes_on sh L o cells sights g x k ink (settled o g) cells x' g' sights' refl a record {
         hold = record {
           locks = f.hold.locks;
           reading = f.hold.reading;
@@ -253,7 +255,7 @@ module _ (sh : Shape) (L : ℕ) (o : State) (cells : Cells) (sights : ℕ → Si
         alone = x.alone;
         counter = x.counter;
         flying = still_flying sh L o cells sights g x k ink x' (λ n y. y);
-      } t
+      } t)
     where
       x' : Sight
       x' = record (sights k) { hold = with_runs (sights k).hold dirty; logged = lg; soiled = so }
@@ -431,9 +433,10 @@ module _ (sh : Shape) (L : ℕ) (o : State) (cells : Cells) (sights : ℕ → Si
     pub same_pool : (p : Place) (b : ℕ) → (p ≡ Descr c₀ → ⊥) → pool' p b ≡ cells.pool p b
 
   pub marks_run : (pool' : State) (so : Place → ℕ → Bool) → Marks pool' so → is_decided (sights k).phase ≡ false → in_flight (sights k).phase ≡ false
-      → (sights' : ℕ → Sight) → Turned sights sights' k (record (sights k) { hold = with_mark (sights k).hold c₀ cl; soiled = so }) → Bits sh L o (record cells { pool = pool'; descr = put1 cells.descr c₀ cl }) sights' (ghost_with_mark g c₀ cl)
+      → (sights' : ℕ → Sight) → Turned sights sights' k (record (sights k) { hold = with_mark (sights k).hold c₀ cl; soiled = so }) → Around k (sights k).hold (λ j. (sights j).hold) cells (record cells { pool = pool'; descr = put1 cells.descr c₀ cl }) (settled o g) (settled o g) g (ghost_with_mark g c₀ cl)
+      × Bits sh L o (record cells { pool = pool'; descr = put1 cells.descr c₀ cl }) sights' (ghost_with_mark g c₀ cl)
   marks_run pool' so q early flight sights' t =
-      goes_on sh L o cells sights g x k ink (settled o g) cells' x' g' sights' refl record {
+      let a : Around k (sights k).hold (λ j. (sights j).hold) cells (record cells { pool = pool'; descr = put1 cells.descr c₀ cl }) (settled o g) (settled o g) g (ghost_with_mark g c₀ cl) = record {
         writer = λ l j ne. refl;
         reader = λ l j ne. refl;
         pool = λ p b u w. read_same p b;
@@ -446,7 +449,8 @@ module _ (sh : Shape) (L : ℕ) (o : State) (cells : Cells) (sights : ℕ → Si
         class = λ c u. put_else g.geo.class c (λ e. both_ways (own h (Big c)) u (ap (λ a. own h (Big a)) e ∙ own0));
         first = λ c j ne. inl refl;
         flies = λ j n d ne w y. y;
-      } record {
+      } in
+      (a, goes_on sh L o cells sights g x k ink (settled o g) cells' x' g' sights' refl a record {
         hold = record {
           locks = f.hold.locks;
           reading = f.hold.reading;
@@ -495,7 +499,7 @@ module _ (sh : Shape) (L : ℕ) (o : State) (cells : Cells) (sights : ℕ → Si
         alone = x.alone;
         counter = x.counter;
         flying = still_flying sh L o cells sights g x k ink x' (λ n y. y);
-      } t
+      } t)
     where
       h : Hold
       h = (sights k).hold

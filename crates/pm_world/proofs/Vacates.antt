@@ -49,9 +49,10 @@ module _ (sh : Shape) (L : ℕ) (o : State) (cells : Cells) (sights : ℕ → Si
     pub clean : (p : Place) (b : ℕ) → out (block_of g.geo p b) ≡ true → (sights k).soiled p b ≡ false
 
   pub vacates : GivesBack → is_decided (sights k).phase ≡ false → in_flight (sights k).phase ≡ false → (occ' : Block → Bool) → ((a : Block) → is_occupancy sh a ≡ true → occ' a ≡ (not (out a) && cells.occ a))
-      → (sights' : ℕ → Sight) → Turned sights sights' k (record (sights k) { hold = without_mine (sights k).hold out }) → Bits sh L o (record cells { occ = occ' }) sights' (record g { holder = λ B. cond (out B) 0 (g.holder B) })
+      → (sights' : ℕ → Sight) → Turned sights sights' k (record (sights k) { hold = without_mine (sights k).hold out }) → Around k (sights k).hold (λ j. (sights j).hold) cells (record cells { occ = occ' }) (settled o g) (settled o g) g (record g { holder = λ B. cond (out B) 0 (g.holder B) })
+      × Bits sh L o (record cells { occ = occ' }) sights' (record g { holder = λ B. cond (out B) 0 (g.holder B) })
   vacates q early flight occ' occs sights' t =
-      goes_on sh L o cells sights g x k ink (settled o g) (record cells { occ = occ' }) x' g' sights' refl record {
+      let a : Around k (sights k).hold (λ j. (sights j).hold) cells (record cells { occ = occ' }) (settled o g) (settled o g) g (record g { holder = λ B. cond (out B) 0 (g.holder B) }) = record {
         writer = λ l j ne. refl;
         reader = λ l j ne. refl;
         pool = λ p b u w. refl;
@@ -64,7 +65,8 @@ module _ (sh : Shape) (L : ℕ) (o : State) (cells : Cells) (sights : ℕ → Si
         class = λ d u. refl;
         first = λ d j ne. inl refl;
         flies = λ j n d ne w y. y;
-      } record {
+      } in
+      (a, goes_on sh L o cells sights g x k ink (settled o g) (record cells { occ = occ' }) x' g' sights' refl a record {
         hold = record {
           locks = f.hold.locks;
           reading = f.hold.reading;
@@ -104,7 +106,7 @@ module _ (sh : Shape) (L : ℕ) (o : State) (cells : Cells) (sights : ℕ → Si
         alone = x.alone;
         counter = x.counter;
         flying = still_flying sh L o cells sights g x k ink x' (λ n y. y);
-      } t
+      } t)
     where
       h : Hold
       h = (sights k).hold
