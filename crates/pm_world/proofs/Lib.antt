@@ -16,4 +16,5 @@ pub mod StepDraw
 pub mod Runs
 pub mod Stores
 pub mod WordPlaces
+pub mod OccWorlds
 pub mod StepOccupies

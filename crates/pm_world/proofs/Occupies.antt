@@ -94,10 +94,16 @@ module _ (sh : Shape) (L : ℕ) (o : State) (cells : Cells) (sights : ℕ → Si
       let y = or_parts (there (settled o g) (Small c i)) (not (g.holder (Small c i) == 0)) t.1 in
       (true_from_ne_false (valid g (Small c i)) (λ e. both_ways (not (valid g (Small c i))) t.0 (ap not e)), y.0, eqb-true (g.holder (Small c i)) 0 (true_from_ne_false (eqb (g.holder (Small c i)) 0) (λ e. both_ways (not (g.holder (Small c i) == 0)) y.1 (ap not e))))
 
-  nobody : valid g (Small c i) ≡ true → there (settled o g) (Small c i) ≡ false → g.holder (Small c i) ≡ 0 → (j : ℕ) → own (sights j).hold (Small c i) ≡ false
+  pub nobody : valid g (Small c i) ≡ true → there (settled o g) (Small c i) ≡ false → g.holder (Small c i) ≡ 0 → (j : ℕ) → own (sights j).hold (Small c i) ≡ false
   nobody v u e j = let f = x.each_lane j in false_from_ne_true (own (sights j).hold (Small c i)) (λ t. ⊎_elim (λ (m : (sights j).hold.mine (Small c i) ≡ true). let y = (f.hold.mine (Small c i) m).0 in absurd (omega arith))
       (⊎_elim (λ (m : (sights j).hold.here (Small c i) ≡ true). both_ways (there (settled o g) (Small c i)) u (f.hold.found (Small c i) (f.hold.here (Small c i) m).1).2)
       (λ (m : (sights j).hold.making c ≡ true). both_ways (g.runs c) (maker_no_run sh cells (settled o g) (Flies g j) g x.geo j (sights j) f c m) (and_parts (g.runs c) (nat_lt i (blocks_of (g.geo.class c))) v).0)) (own_cases (sights j).hold (Small c i) t))
+
+  -- the lane knows the run's class
+  pub class_known : valid g (Small c i) ≡ true → (sights k).hold.class c ≢ 0 → (sights k).hold.class c ≡ g.geo.class c
+  class_known v kn = let f = x.each_lane k in let r : g.runs c ≡ true = (and_parts (g.runs c) (nat_lt i (blocks_of (g.geo.class c))) v).0 in
+      sym (known_class ((sights k).hold.class c) (cells.descr c) (f.hold.seen c) kn)
+      ∙ (x.descr c (λ j. false_from_ne_true ((sights j).hold.making c) (λ m. both_ways (g.runs c) (maker_no_run sh cells (settled o g) (Flies g j) g x.geo j (sights j) (x.each_lane j) c m) r)) ∙ cond-true (g.runs c) (g.geo.class c) 0 r)
 
   -- what the lane has a picture of where its rights have grown
   pub record Pictured (pc : Diff) : Type 0 where
@@ -194,7 +200,7 @@ module _ (sh : Shape) (L : ℕ) (o : State) (cells : Cells) (sights : ℕ → Si
       class_at Root = h.class c ≡ g.geo.class c
 
       class_here : h.class c ≡ g.geo.class c
-      class_here = sym (known_class (h.class c) (cells.descr c) (f.hold.seen c) kn) ∙ (x.descr c no_maker ∙ cond-true (g.runs c) (g.geo.class c) 0 run)
+      class_here = class_known fb.0 kn
 
       less_has : (B : Block) → has (with_mine h new) B ≡ true → (new B ≡ true) ⊎ (has h B ≡ true)
       less_has B a = ⊎_elim (λ (y : own (with_mine h new) B ≡ true). ⊎_elim (λ (z : new B ≡ true). inl z) (λ (z : own h B ≡ true). inr (own_has h B z)) (less_own h new B y)) (λ (y : h.found B ≡ true). inr (or_right (own h B) (h.found B) y)) (or_cases (own (with_mine h new) B) (h.found B) a)
