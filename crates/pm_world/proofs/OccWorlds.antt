@@ -20,7 +20,7 @@ use Rattle.pm_world.specs.Sights.{Sight, sight_of}
 use Rattle.pm_world.specs.Lanes.{owns, is_decided, in_flight, Bits}
 use Rattle.pm_world.specs.Logs.{slot_list, PhaseFits}
 use Rattle.pm_world.specs.Memory.{Location, PoolWord, ZoneLock, CommitCounter, StopWord, Memory, Becomes, occ_at, cells_of}
-use Rattle.pm_world.specs.World.{Opening, Views, Past, origin, ghost_of, settled_words, LaneFits, may_draw, may_draw_count, World}
+use Rattle.pm_world.specs.World.{Opening, Views, Past, origin, ghost_of, settled_words, is_at_page, LaneFits, may_draw, may_draw_count, World}
 use Rattle.pm_world.specs.Laws.{Turn}
 use Rattle.pm_world.proofs.Cells.{sort, occ_sort}
 use Rattle.pm_world.proofs.Counting.{count_same}
@@ -70,7 +70,7 @@ module _ (o : Opening) (mem new : Memory) (views views' : Views) (g : Past) (x :
     pub early : is_early (views k).log.phase ≡ true
     pub olds : (p : Place) (c : ℕ) → Rattle.pm_world.specs.States.given (Rattle.pm_view.specs.Log.old_of (views k).log.records p) ≡ true → owns g.geo (settled_words o g) (sight_of (views k)).hold p c ≡ true → owns geo (settled_words o g) (sight_of (record (views k) { claims = claims; occupancy = occupancy; seen = seen })).hold p c ≡ true
     pub words : (w z : ℕ) → pictured (views k).fixed.shape claims w ≡ Some z → pictured (views k).fixed.shape (views k).claims w ≡ Some z
-    pub occs : o.lanes ≡ 1 → (other : Occ) (z : ℕ) → occupancy_of occupancy other ≡ Some z → new (occ_at other) ≡ z
+    pub occs : o.lanes ≡ 1 → (other : Occ) (z : ℕ) → occupancy_of occupancy other ≡ Some z → (new (occ_at other) ≡ z) × (is_at_page other ≡ true)
     pub draws : may_draw (record (views k) { claims = claims; occupancy = occupancy; seen = seen }) ≡ may_draw (views k)
 
   pub occ_world : OwesOcc → Around k (sight_of (views k)).hold (λ j. (sight_of (views j)).hold) (cells_of o.shape mem) (cells_of o.shape new) (settled_words o g) (settled_words o g) (ghost_of g) (ghost_of (record g { geo = geo; holder = holder }))
