@@ -180,7 +180,7 @@ module _ (sh : Shape) (L : ℕ) (o : State) (cells : Cells) (sights : ℕ → Si
           zone = λ a s. ⊎_elim (λ (e : (sights k).hold.found (Big a) ≡ true). subst (λ z. a % 64 + z ≤ 64) (sym (r.span_old a (inr e))) (f.hold.zone a (found_has (sights k).hold (Big a) e)))
               (λ (e : (sights k).hold.found (Big a) ≡ false). ⊎_elim (λ (q : now (Big a) ≡ true). subst (λ z. a % 64 + z ≤ 64) (sym (r.span_new a q e ∙ ap (λ w. val w 8 56) (λ i b. told a q b i))) (x.geo.in_zone a (there_now (Big a) q)))
               (λ (q : now (Big a) ≡ false). subst (λ z. a % 64 + z ≤ 64) (sym (r.span_old a (inl q))) (f.hold.zone a (had_old (Big a) s q))) (cases_Bool (now (Big a)))) (cases_Bool ((sights k).hold.found (Big a)));
-          making = f.hold.making;
+          making = λ c e. let y = f.hold.making c e in (y.0, y.1, y.2, y.3, r.span_old c (inl (false_from_ne_true (now (Big c)) (λ q. both_ways (there (settled o g) (Big c)) (f.hold.mine (Big c) y.0).2 (there_now (Big c) q)))) ∙ y.4);
           free = f.hold.free;
           seen = knew;
         };

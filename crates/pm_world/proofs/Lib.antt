@@ -16,5 +16,11 @@ pub mod StepLocks
 pub mod StepZones
 pub mod Values
 pub mod Births
+pub mod Occupies
+pub mod Vacates
 pub mod StepDraw
+pub mod Runs
 pub mod Stores
+pub mod WordPlaces
+pub mod OccWorlds
+pub mod StepOccupies

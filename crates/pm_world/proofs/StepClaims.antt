@@ -98,7 +98,7 @@ module _ (o : Opening) (mem new : Memory) (views views' : Views) (g : Past) (x :
       → (o.lanes ≡ 1 → (w y : ℕ) → pictured (views k).fixed.shape claims' w ≡ Some y → mem (PoolWord w) ≡ y) → LaneFits o new g k claimed_view
   lane_after early owned known = let f = x.each_lane k ink in lane_again o mem new g k (views k) f pool_word claims' seen' (views k).zones (views k).occupancy
       (phase_early o.shape k (sight_of (views k)).picture (sight_of claimed_view).picture (views k).log (views k).changes (views k).log.phase early f.log.phase) owned (λ z. ap (λ n. n == suc k) (zone_lock z) ∙ f.zones z)
-      (λ one. record { words = λ w y e. pool_word w ∙ known one w y e; occupancy = λ at y e. same (occ_at at) (occ_sort at (LockWord l) (λ q. omega arith) (λ q. omega arith)) ∙ (f.alone one).occupancy at y e })
+      (λ one. record { words = λ w y e. pool_word w ∙ known one w y e; occupancy = λ at y e. let z = (f.alone one).occupancy at y e in (same (occ_at at) (occ_sort at (LockWord l) (λ q. omega arith) (λ q. omega arith)) ∙ z.0, z.1) })
 
   pub claims_step : is_early (views k).log.phase ≡ true
       → ((p : Place) (b : ℕ) → is_recorded (views k).log.records p ≡ true → owns g.geo (settled_words o g) (sight_of (views k)).hold p b ≡ true → owns g.geo (settled_words o g) (sight_of claimed_view).hold p b ≡ true)

@@ -1,4 +1,4 @@
--- STEPS THAT CHANGE NO BIT: zones' locks are tried and given back, occupancy words are seen, the stop word is set.
+-- STEPS THAT CHANGE NO BIT: zones' locks are tried and given back, the stop word is set.
 use Rattle.std.specs.Prelude.{List, [], ◌∷◌, IsTrue, IfSome}
 use Rattle.std.specs.List.{filter, list_any}
 use Rattle.std.proofs.Common.{◌≡◌, ◌≢◌, ℕ, suc, ◌+◌, ◌*◌, ◌/◌, ◌^◌, ◌<◌, ◌⊎◌, inl, inr, ⊎_elim, Bool, true, false, cond, not, ◌&&◌, ◌||◌, eqb, ◌==◌, refl, sym, ap, ◌∙◌, subst, arith, eq-eqb, ne_eqb, Option, None, Some}
@@ -85,7 +85,7 @@ pub set_stop : Keeps SetStop
 set_stop o mem new views views' g k x ink law moves t = let f = x.each_lane k ink in let same : (l : Location) → sort l ≢ 6 → new l ≡ mem l = λ l ne. moves.0 l (other_sort l StopWord ne) in
     (aside_step o mem new views views' g x k ink (λ l a b. same l b) (views k) t refl refl (λ z j ne. ap (λ n. n == suc j) (same (ZoneLock z) (λ q. omega arith)))
         (lane_again o mem new g k (views k) f (λ w. same (PoolWord w) (λ q. omega arith)) (views k).claims (views k).seen (views k).zones (views k).occupancy f.log.phase (λ p b _ w. w) (λ z. ap (λ n. n == suc k) (same (ZoneLock z) (λ q. omega arith)) ∙ f.zones z)
-        (λ one. record { words = λ w y e. same (PoolWord w) (λ q. omega arith) ∙ (f.alone one).words w y e; occupancy = λ at y e. moves.0 (occ_at at) (occ_sort at StopWord (λ q. omega arith) (λ q. omega arith)) ∙ (f.alone one).occupancy at y e }))
+        (λ one. record { words = λ w y e. same (PoolWord w) (λ q. omega arith) ∙ (f.alone one).words w y e; occupancy = λ at y e. (moves.0 (occ_at at) (occ_sort at StopWord (λ q. omega arith) (λ q. omega arith)) ∙ ((f.alone one).occupancy at y e).0, ((f.alone one).occupancy at y e).1) }))
         (inr (k, ink, subst IsAtStop (sym t.here) law.allowed)), tt)
 
 -- ---- ZONES' LOCKS
@@ -102,7 +102,7 @@ module _ (o : Opening) (mem new : Memory) (views views' : Views) (g : Past) (x :
       (lane_again o mem new g k (views k) f (λ w. stays (PoolWord w) (λ q. omega arith)) (views k).claims seen' zones' (views k).occupancy f.log.phase (λ p b _ w. w)
       (λ z. ⊎_elim (λ (q : z ≡ zone). subst (λ i. (new (ZoneLock i) == suc k) ≡ list_any (λ other. other == i) zones') (sym q) (ap (λ n. n == suc k) moves.1 ∙ here))
       (λ (n : z ≢ zone). ap (λ n. n == suc k) (moves.0 (ZoneLock z) (other_number (ZoneLock z) (ZoneLock zone) n)) ∙ (f.zones z ∙ sym (else_ z n))) (cases_eq z zone))
-      (λ one. record { words = λ w y e. stays (PoolWord w) (λ q. omega arith) ∙ (f.alone one).words w y e; occupancy = λ at y e. moves.0 (occ_at at) (occ_sort at (ZoneLock zone) (λ q. omega arith) (λ q. omega arith)) ∙ (f.alone one).occupancy at y e }))
+      (λ one. record { words = λ w y e. stays (PoolWord w) (λ q. omega arith) ∙ (f.alone one).words w y e; occupancy = λ at y e. (moves.0 (occ_at at) (occ_sort at (ZoneLock zone) (λ q. omega arith) (λ q. omega arith)) ∙ ((f.alone one).occupancy at y e).0, ((f.alone one).occupancy at y e).1) }))
       (stop_stays o mem new views views' g x k ink (λ l a b. stays l a) (record (views k) { seen = seen'; zones = zones' }) t refl (λ e. e) (stays StopWord (λ q. omega arith)))
 
 -- a list of zones without one of them
@@ -141,25 +141,3 @@ zone_given zone o mem new views views' g k x ink law moves t = let f = x.each_la
     (zone_step o mem new views views' g x k ink zone 0 moves (views k).seen (filter (λ other. not (other == zone)) (views k).zones) t refl
         (λ j ne. ne_eqb 0 (suc j) (λ q. absurd (omega arith)) ∙ sym (ap (λ n. n == suc j) (eqb-true (mem (ZoneLock zone)) (suc k) (f.zones zone ∙ law.allowed.held)) ∙ ne_eqb (suc k) (suc j) (λ q. ne (omega arith))))
         (ne_eqb 0 (suc k) (λ q. absurd (omega arith)) ∙ sym (without_here zone (views k).zones)) (λ z ne. without_else zone z ne (views k).zones), tt)
-
--- ---- AN OCCUPANCY WORD IS SEEN
-same_occ : (a b : Occ) → is_same_occ a b ≡ true → occ_at b ≡ occ_at a
-same_occ (Run p) (Run q) e = ap (λ n. RunWord (n / 4096)) (sym (eqb-true p q e))
-same_occ (Run p) (Zone z) e = absurd (both_ways false refl e)
-same_occ (Zone z) (Run p) e = absurd (both_ways false refl e)
-same_occ (Zone z) (Zone y) e = ap ZoneWord (sym (eqb-true z y e))
-
-pub occupied : (at : Occ) (found : ℕ) → Keeps (Occupied at found)
-occupied at found o mem new views views' g k x ink law moves t = let f = x.each_lane k ink in
-    (plain_step o mem new views views' g x k ink moves.0 (record (views k) { occupancy = record { at = at; bits = found } ∷ (views k).occupancy }) t refl refl (λ e. e)
-        (lane_again o mem mem g k (views k) f (λ w. refl) (views k).claims (views k).seen (views k).zones (record { at = at; bits = found } ∷ (views k).occupancy) f.log.phase (λ p b _ w. w) f.zones
-        (λ one. record { words = (f.alone one).words; occupancy = λ a y e. seen one a y (is_same_occ at a) refl e })),
-    λ one. told (sym f.lanes ∙ eqb-true (views k).fixed.lanes 1 one) (occupancy_of (views k).occupancy at) refl)
-  where
-    seen : o.lanes ≡ 1 → (a : Occ) (y : ℕ) (b : Bool) → is_same_occ at a ≡ b → cond b (Some found) (occupancy_of (views k).occupancy a) ≡ Some y → mem (occ_at a) ≡ y
-    seen one a y true q e = ap mem (same_occ at a q) ∙ (sym moves.1 ∙ Rattle.std.proofs.lemmas.Option.same_Some found y e)
-    seen one a y false q e = ((x.each_lane k ink).alone one).occupancy a y e
-
-    told : o.lanes ≡ 1 → (s : Option ℕ) → occupancy_of (views k).occupancy at ≡ s → IfSome s (λ n. found ≡ n)
-    told one None q = tt
-    told one (Some n) q = moves.1 ∙ ((x.each_lane k ink).alone one).occupancy at n q

@@ -1,11 +1,12 @@
 -- THE WORLD: the words that lanes share, with each lane's view, and what must be so of them at every moment.
-use Rattle.std.specs.Prelude.{◌≡◌, ◌⊎◌, ℕ, zero, suc, ◌+◌, ◌*◌, ◌/◌, ◌^◌, ◌<◌, ◌≤◌, nat_lt, Bool, true, false, cond, ◌==◌, ◌&&◌, ◌||◌, not, All, List, [], ◌∷◌, length, slice_index, Option, None, Some, is_none}
+use Rattle.std.specs.Prelude.{◌≡◌, ◌⊎◌, ℕ, zero, suc, ◌+◌, ◌*◌, ◌/◌, ◌%◌, ◌^◌, ◌<◌, ◌≤◌, nat_lt, Bool, true, false, cond, ◌==◌, ◌&&◌, ◌||◌, not, All, List, [], ◌∷◌, length, slice_index, Option, None, Some, is_none}
 use Rattle.std.specs.Option.{ForSome}
 use Rattle.std.specs.List.{list_any}
 use Rattle.pm_layout.specs.declared.shape.Shape.{Shape}
 use Rattle.pm_view.specs.Limits.{greatest_generation}
 use Rattle.pm_layout.specs.Chunks.{words_of, word_of_descriptor, word_of_root}
 use Rattle.pm_view.specs.declared.occ.Occ.{Occ}
+use Rattle.pm_view.specs.declared.occ.Occ.TheVariants.{Run, Zone}
 use Rattle.pm_view.specs.Changes.{Undrained}
 use Rattle.pm_view.specs.Places.{Place, InRun, InHuge, Descr, RootWord, Block, Geometry}
 use Rattle.pm_view.specs.Claims.{pictured, is_run}
@@ -71,10 +72,15 @@ NumberFits (Sealing n) number = number ≡ Some (suc n)
 NumberFits (Retiring n) number = number ≡ Some (suc n)
 NumberFits phase number = Unit {0}
 
+-- an occupancy word of a run is named by the place at which a page begins
+abbrev pub is_at_page : Occ → Bool
+is_at_page (Run place) = place % 4096 == 0
+is_at_page (Zone zone) = true
+
 -- where one lane runs, each word and each occupancy word that it saw or made is so still
 pub record AloneFits (mem : Memory) (v : View) : Type 0 where
   pub words : (w x : ℕ) → pictured v.fixed.shape v.claims w ≡ Some x → mem (PoolWord w) ≡ x
-  pub occupancy : (at : Occ) (x : ℕ) → occupancy_of v.occupancy at ≡ Some x → mem (occ_at at) ≡ x
+  pub occupancy : (at : Occ) (x : ℕ) → occupancy_of v.occupancy at ≡ Some x → (mem (occ_at at) ≡ x) × (is_at_page at ≡ true)
 
 -- of a lane's view, beside what is said of its sight
 pub record LaneFits (o : Opening) (mem : Memory) (g : Past) (k : ℕ) (v : View) : Type 0 where
