@@ -164,11 +164,18 @@ abbrev pub first_by : Occ → ℕ → ℕ → ℕ → ℕ
 first_by (Run place) bits c f = f
 first_by (Zone zone) bits c f = cond ((c / 64 == zone) && (bit_at bits (c % 64) == 1)) (64 * zone + lowest 64 bits) f
 
+abbrev pub last_first : Shape → List Claim → ℕ → ℕ
+last_first sh [] c = c
+last_first sh (Reserved at bits ∷ t) c = first_by at bits c (last_first sh t c)
+last_first sh (SawDescriptor d x ∷ t) c = cond (shown_by_descriptor sh t d x (Big d) && in_span d (x / 256) c) d (last_first sh t c)
+last_first sh (e ∷ t) c = last_first sh t c
+
+-- the same, where the block still has the chunk: one reserved again may have fewer
+abbrev pub within_span : Shape → List Claim → ℕ → ℕ → ℕ
+within_span sh t f c = cond (in_span f (span sh t f) c) f c
+
 abbrev pub first : Shape → List Claim → ℕ → ℕ
-first sh [] c = c
-first sh (Reserved at bits ∷ t) c = first_by at bits c (first sh t c)
-first sh (SawDescriptor d x ∷ t) c = cond (shown_by_descriptor sh t d x (Big d) && in_span d (x / 256) c) d (first sh t c)
-first sh (e ∷ t) c = first sh t c
+first sh t c = within_span sh t (last_first sh t c) c
 
 -- what the lane knows of which blocks words are in
 abbrev pub geometry : Shape → List Claim → Geometry

@@ -422,7 +422,7 @@ module _ (sh : Shape) (k : ℕ) (x : Sight) (holds : ℕ → Hold) (cells cells'
     first = λ c o. let s = first_back c o in f.hold.first c (subst (λ a. has v.hold (Big a) ≡ true) s o) ∙ sym s;
     zone = f.hold.zone;
     making = λ c o. let t = f.hold.making c o in let e = class_kept c 0 (own_has v.hold (Small c 0) (making_own v.hold c 0 o)) in
-        (t.0, m.descr c (away (Big c) (mine_own v.hold (Big c) t.0)) ∙ (t.1 ∙ sym e), subst (λ cl. 1 ≤ cl) (sym e) t.2, subst (λ cl. 0 < blocks_of cl) (sym e) t.3);
+        (t.0, m.descr c (away (Big c) (mine_own v.hold (Big c) t.0)) ∙ (t.1 ∙ sym e), subst (λ cl. 1 ≤ cl) (sym e) t.2, subst (λ cl. 0 < blocks_of cl) (sym e) t.3, t.4);
     free = λ c o. let s = first_back c (own_has v.hold (Big (g'.geo.first c)) (mine_own v.hold (Big (g'.geo.first c)) o)) in let o' : v.hold.mine (Big (g.geo.first c)) ≡ true = subst (λ a. v.hold.mine (Big a) ≡ true) s o in
         m.runs c (false_from_ne_true (x.hold.making c) (λ y. let t = maker_owns sh cells S (Flies g k) g geo k x z c y in both_ways (own x.hold (Big c)) (subst (λ a. own x.hold (Big a) ≡ false) t.1 (away (Big (g.geo.first c)) (mine_own v.hold (Big (g.geo.first c)) o'))) t.0)) ∙ f.hold.free c o';
     seen = λ c n o. m.up c n (f.hold.seen c n o);

@@ -21,3 +21,15 @@ pub mod EntriesAtPlaces
 pub mod RecordsAtPlaces
 pub mod ImageSays
 pub mod CrashLaw
+pub mod Locks
+pub mod Finds
+pub mod LockBits
+pub mod StepClaims
+pub mod StepLocks
+pub mod StepZones
+pub mod Occupies
+pub mod Vacates
+pub mod Runs
+pub mod WordPlaces
+pub mod OccWorlds
+pub mod StepOccupies

@@ -271,7 +271,7 @@ module _ (o : Opening) (mem new : Memory) (views views' : Views) (g : Past) (x :
       masks = f.masks;
       room = f.room;
       within = f.within;
-      alone = λ one. let y = f.alone one in record { words = λ w n q. alike w ∙ y.words w n q; occupancy = λ at n q. same (Rattle.pm_world.specs.Memory.occ_at at) (occ_sort at) ∙ y.occupancy at n q };
+      alone = λ one. let y = f.alone one in record { words = λ w n q. alike w ∙ y.words w n q; occupancy = λ at n q. let z = y.occupancy at n q in (same (Rattle.pm_world.specs.Memory.occ_at at) (occ_sort at) ∙ z.0, z.1) };
       entries = own_entries;
     }
 

@@ -1,7 +1,7 @@
 -- THE WORLD GOES ON: what a step of lane k owes of words, views and ghosts beside the bits.
 use Rattle.std.specs.Prelude.{List, [], length, slice_index}
-use Rattle.std.proofs.Common.{◌≡◌, ◌≢◌, ℕ, suc, ◌+◌, ◌*◌, ◌^◌, ◌<◌, ◌≤◌, ◌⊎◌, ⊎_elim, Bool, true, false, eqb, ◌==◌, refl, sym, ap, ◌∙◌, subst, arith, Option, None, Some}
-use Rattle.std.proofs.lemmas.Bool.{cases_eq, cases_lt, both_ways}
+use Rattle.std.proofs.Common.{◌≡◌, ◌≢◌, ℕ, zero, suc, ◌+◌, ◌*◌, ◌^◌, ◌<◌, ◌≤◌, ◌⊎◌, ⊎_elim, Bool, true, false, eqb, ◌==◌, refl, sym, ap, ◌∙◌, subst, arith, Option, None, Some}
+use Rattle.std.proofs.lemmas.Bool.{cases_eq, eqb-true, eq-eqb, cases_lt, both_ways}
 use Rattle.pm_layout.specs.declared.shape.Shape.{Shape}
 use Rattle.pm_view.specs.Limits.{greatest_generation}
 use Rattle.pm_record.specs.Undo.{undo_of}
@@ -95,17 +95,23 @@ module _ (o : Opening) (mem : Memory) (views : Views) (g : Past) (x : World o me
   world_after new views' g' S' v e m a t bits f of_lanes small header room stop = record {
     some_lanes = x.some_lanes;
     most_lanes = x.most_lanes;
+    few_lanes = x.few_lanes;
     size = x.size;
     bits = bits;
     each_lane = λ j inj. ⊎_elim (λ (q : j ≡ k). subst (λ i. LaneFits o new g' i (views' i)) (sym q) (subst (λ y. LaneFits o new g' k y) (sym t.here) f)) (λ (ne : j ≢ k). subst (λ y. LaneFits o new g' j y) (sym (t.else_ j ne)) (lane_stays new g' S' e m a j ne inj)) (cases_eq j k);
     logs_beyond = λ j out inj. let ne : j ≢ k = λ q. omega arith in subst (AreaFits o new g' j) (sym (t.else_ j ne)) (log_stays new g' S' e m a j ne (x.logs_beyond j out inj));
-    idle_beyond = λ j out. subst (λ y. (y.changes ≡ []) × (y.log.phase ≡ Idle)) (sym (t.else_ j (λ q. omega arith))) (x.idle_beyond j out);
+    idle_beyond = λ j out. subst (λ y. (y.changes ≡ []) × (y.log.phase ≡ Idle) × (y.claims ≡ [])) (sym (t.else_ j (λ q. omega arith))) (x.idle_beyond j out);
     of_lanes = of_lanes;
     small = small;
     header = header;
     counter_room = room;
+    zone_locks = λ z. locked_by z (new (ZoneLock z)) refl;
     stop_word = stop;
   }
+    where
+      locked_by : (z n : ℕ) → new (ZoneLock z) ≡ n → new (ZoneLock z) ≤ o.lanes
+      locked_by z zero e = omega arith
+      locked_by z (suc j) e = ⊎_elim (λ (q : j ≡ k). omega arith) (λ (ne : j ≢ k). let y = eqb-true (mem (ZoneLock z)) (suc j) (sym (a.zone z j ne) ∙ eq-eqb (new (ZoneLock z)) (suc j) e) in let l = x.zone_locks z in omega arith) (cases_eq j k)
 
 -- a lane that is at its stop number stays so
 pub stops_stay : (views views' : Views) (k : ℕ) (v : View) → Turn views views' k v → (IsAtStop (views k) → IsAtStop v) → (j : ℕ) → IsAtStop (views j) → IsAtStop (views' j)

@@ -202,8 +202,8 @@ pub record HoldFits (sh : Shape) (writer reader : ℕ → ℕ → Bool) (descr :
   pub span : (f : ℕ) → has h (Big f) ≡ true → (c : ℕ) → (g.geo.first c == f) ≡ in_span f (h.span f) c
   pub first : (c : ℕ) → has h (Big (g.geo.first c)) ≡ true → h.first c ≡ g.geo.first c
   pub zone : (f : ℕ) → has h (Big f) ≡ true → f % 64 + h.span f ≤ 64
-  -- a chunk that it makes a run is its own, and its descriptor is stored
-  pub making : (c : ℕ) → h.making c ≡ true → (h.mine (Big c) ≡ true) × (descr c ≡ g.geo.class c) × (1 ≤ g.geo.class c) × (0 < blocks_of (g.geo.class c))
+  -- a chunk that it makes a run is its own, one alone, and its descriptor is stored
+  pub making : (c : ℕ) → h.making c ≡ true → (h.mine (Big c) ≡ true) × (descr c ≡ g.geo.class c) × (1 ≤ g.geo.class c) × (0 < blocks_of (g.geo.class c)) × (h.span c ≡ 1)
   pub free : (c : ℕ) → h.mine (Big (g.geo.first c)) ≡ true → g.runs c ≡ false
   -- what it knows of runs is so
   pub seen : (c n : ℕ) → h.class c ≡ suc n → descr c ≡ suc n

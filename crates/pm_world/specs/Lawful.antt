@@ -239,10 +239,12 @@ pub record MayRaise (v : View) (line : ℕ) : Type 0 where
   pub held : reads v.claims line ≡ true
   pub early : is_early v.log.phase ≡ true
 
--- a lock goes back once the call's number is drawn and its log is retired and drained, or where nothing was found under it
+-- a lock goes back once the call's number is drawn and its log is retired and drained; or, where nothing was found under it, as long as no entry changes the
+-- root word, which the line may guard
 abbrev pub GiveFits : View → ℕ → Phase → Type 0
 GiveFits v line Idle = Unit {0}
 GiveFits v line Open = (line ≢ 0) × ((B : Block) → found v.fixed.shape v.claims B ≡ true → header_in v.fixed.shape v.claims B ≢ line)
+    × All (λ (e : Entry). e.place ≢ Some RootWord) v.log.entries
 GiveFits v line phase = ⊥
 
 pub record MayGive (v : View) (line : ℕ) : Type 0 where

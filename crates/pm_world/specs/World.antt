@@ -1,11 +1,12 @@
 -- THE WORLD: the words that lanes share, with each lane's view, and what must be so of them at every moment.
-use Rattle.std.specs.Prelude.{◌≡◌, ◌⊎◌, ℕ, zero, suc, ◌+◌, ◌*◌, ◌/◌, ◌^◌, ◌<◌, ◌≤◌, nat_lt, Bool, true, false, cond, ◌==◌, ◌&&◌, ◌||◌, not, All, List, [], ◌∷◌, length, slice_index, Option, None, Some, is_none}
+use Rattle.std.specs.Prelude.{◌≡◌, ◌⊎◌, ℕ, zero, suc, ◌+◌, ◌*◌, ◌/◌, ◌%◌, ◌^◌, ◌<◌, ◌≤◌, nat_lt, Bool, true, false, cond, ◌==◌, ◌&&◌, ◌||◌, not, All, List, [], ◌∷◌, length, slice_index, Option, None, Some, is_none}
 use Rattle.std.specs.Option.{ForSome}
 use Rattle.std.specs.List.{list_any}
 use Rattle.pm_layout.specs.declared.shape.Shape.{Shape}
 use Rattle.pm_view.specs.Limits.{greatest_generation}
 use Rattle.pm_layout.specs.Chunks.{words_of, word_of_descriptor, word_of_root}
 use Rattle.pm_view.specs.declared.occ.Occ.{Occ}
+use Rattle.pm_view.specs.declared.occ.Occ.TheVariants.{Run, Zone}
 use Rattle.pm_view.specs.Changes.{Undrained}
 use Rattle.pm_view.specs.Places.{Place, InRun, InHuge, Descr, RootWord, Block, Geometry}
 use Rattle.pm_view.specs.Claims.{making, pictured, is_run}
@@ -71,10 +72,15 @@ NumberFits (Sealing n) number = number ≡ Some (suc n)
 NumberFits (Retiring n) number = number ≡ Some (suc n)
 NumberFits phase number = Unit {0}
 
+-- an occupancy word of a run is named by the place at which a page begins
+abbrev pub is_at_page : Occ → Bool
+is_at_page (Run place) = place % 4096 == 0
+is_at_page (Zone zone) = true
+
 -- where one lane runs, each word and each occupancy word that it saw or made is so still
 pub record AloneFits (mem : Memory) (v : View) : Type 0 where
   pub words : (w x : ℕ) → pictured v.fixed.shape v.claims w ≡ Some x → mem (PoolWord w) ≡ x
-  pub occupancy : (at : Occ) (x : ℕ) → occupancy_of v.occupancy at ≡ Some x → mem (occ_at at) ≡ x
+  pub occupancy : (at : Occ) (x : ℕ) → occupancy_of v.occupancy at ≡ Some x → (mem (occ_at at) ≡ x) × (is_at_page at ≡ true)
 
 -- the log of a lane's view stands in its area
 abbrev pub AreaFits : Opening → Memory → Past → ℕ → View → Type 0
@@ -117,17 +123,21 @@ is_header sh w = nat_lt w 512 && not (w == word_of_root sh)
 pub record World (o : Opening) (mem : Memory) (views : Views) (g : Past) : Type 0 where
   pub some_lanes : 1 ≤ o.lanes
   pub most_lanes : o.lanes ≤ o.shape.lanes
+  -- as many as a lock word has bits for
+  pub few_lanes : o.lanes ≤ 32
   pub size : length o.words ≡ words_of o.shape
   -- the bits at places, and locks and occupancy bits
   pub bits : Bits o.shape o.lanes (origin o) (cells_of o.shape mem) (λ k. sight_of (views k)) (ghost_of g)
   pub each_lane : (k : ℕ) → k < o.lanes → LaneFits o mem g k (views k)
-  pub idle_beyond : (k : ℕ) → o.lanes ≤ k → ((views k).changes ≡ []) × ((views k).log.phase ≡ Idle)
+  pub idle_beyond : (k : ℕ) → o.lanes ≤ k → ((views k).changes ≡ []) × ((views k).log.phase ≡ Idle) × ((views k).claims ≡ [])
   -- the logs of the pool's other lanes are retired
   pub logs_beyond : (k : ℕ) → o.lanes ≤ k → k < o.shape.lanes → AreaFits o mem g k (views k)
   -- a call of the history is a lane's
   pub of_lanes : (n : ℕ) → n < g.length → (g.drew n).fixed.lane < o.lanes
   pub small : (w : ℕ) → mem (PoolWord w) < 2 ^ 64
   pub header : (w : ℕ) → is_header o.shape w ≡ true → mem (PoolWord w) ≡ slice_index o.words w
+  -- a zone's lock is free, or a lane's that runs
+  pub zone_locks : (z : ℕ) → mem (ZoneLock z) ≤ o.lanes
   -- numbers do not run out
   pub counter_room : mem CommitCounter + may_draw_count views o.lanes < greatest_generation o.shape + 32
   pub stop_word : (mem StopWord ≡ 0) ⊎ ((k : ℕ) × (k < o.lanes) × IsAtStop (views k))
