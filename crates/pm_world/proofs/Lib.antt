@@ -13,3 +13,4 @@ pub mod Births
 pub mod StepDraw
 pub mod Stores
 pub mod Stored
+pub mod Crashes

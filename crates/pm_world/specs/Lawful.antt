@@ -1,11 +1,11 @@
 -- WHICH STEPS A LANE MAY MAKE, by its own view alone, whatever a load or a lock answers.
-use Rattle.std.specs.Prelude.{◌≡◌, ◌≢◌, ◌⊎◌, ℕ, zero, suc, ◌+◌, ◌-◌, ◌*◌, ◌/◌, ◌%◌, ◌^◌, ◌<◌, ◌≤◌, ◌==◌, ◌&&◌, ◌||◌, nat_le, nat_lt, Bool, true, false, not, IsTrue, All, Any, Contains, List, [], ◌∷◌, ◌++◌, length, slice_index, take, Option, None, Some, IsSomeAnd}
+use Rattle.std.specs.Prelude.{◌≡◌, ◌≢◌, ◌⊎◌, ℕ, zero, suc, ◌+◌, ◌-◌, ◌*◌, ◌/◌, ◌%◌, ◌^◌, ◌<◌, ◌≤◌, ◌==◌, ◌&&◌, ◌||◌, nat_le, nat_lt, Bool, true, false, not, IsTrue, All, Any, Contains, List, [], ◌∷◌, ◌++◌, length, slice_index, take, Option, None, Some, IfSome, IsSomeAnd}
 use Rattle.std.specs.Int.{bit_at}
 use Rattle.std.specs.List.{list_any}
 use Rattle.pm_layout.specs.declared.shape.Shape.{Shape}
 use Rattle.pm_layout.specs.Areas.{undo_slots, slot_words, old_words, redo_entries, word_of_generation, word_of_seal, word_of_entry, line_of_slot}
 use Rattle.pm_view.specs.Limits.{greatest_generation}
-use Rattle.pm_layout.specs.Chunks.{words_of, chunks_of, word_of_chunk, page_of_chunk, line_of_chunk}
+use Rattle.pm_layout.specs.Chunks.{words_of, chunks_of, word_of_chunk, word_of_descriptor, page_of_chunk, line_of_chunk}
 use Rattle.pm_layout.specs.Sizes.{blocks_of}
 use Rattle.pm_record.specs.Redo.{op_code}
 use Rattle.pm_record.specs.declared.redo.Op.{Op}
@@ -29,7 +29,7 @@ use Rattle.pm_view.specs.Views.{part_in, value_in}
 use Rattle.pm_world.specs.States.{given, root_line}
 use Rattle.pm_world.specs.Sights.{is_recorded, is_logged, picture}
 use Rattle.pm_world.specs.Lanes.{all_held}
-use Rattle.pm_world.specs.Logs.{spelled, ends_with, AreWhole, AreRestored, IsEntryAt}
+use Rattle.pm_world.specs.Logs.{spelled, ends_with, EntryOf, AreWhole, AreRestored, IsEntryAt}
 
 -- ---- words of the view
 
@@ -122,6 +122,7 @@ pub record AppendsToPair (v : View) (w x : ℕ) : Type 0 where
   pub word : ℕ
   pub value : ℕ
   pub may : EntersWord v word how value (place_in v word)
+  pub gives : IfSome (place_in v word) (λ p. EntryOf p how value)
   pub small : value < 2 ^ 64
   pub spells : v.log.pair ++ x ∷ [] ≡ take (length v.log.pair + 1) ((8 * word + op_code how) ∷ value ∷ [])
   pub at : w ≡ word_of_entry v.fixed.shape v.fixed.lane (length v.log.entries) + length v.log.pair
@@ -151,6 +152,7 @@ pub record MayMark (v : View) (c x : ℕ) : Type 0 where
   pub one : span v.fixed.shape v.claims c ≡ 1
   pub unknown : class v.claims c ≡ 0
   pub no_block : knows v (word_of_chunk v.fixed.shape c) ≡ Some 0
+  pub clear : value_in v (word_of_descriptor v.fixed.shape c) ≡ Some 0
   pub drained : All (λ (u : Undrained). u.word / 512 ≢ page_of_chunk v.fixed.shape c) v.changes
   pub unentered : v.log.entries ≡ []
 
