@@ -19,7 +19,7 @@ use Rattle.pm_view.specs.Places.{Place, InRun, InHuge, Descr, RootWord, Block, S
 use Rattle.pm_view.specs.Entries.{Entry, entry_head, given_bit, latest, redos, turn}
 use Rattle.pm_view.specs.Parts.{Part, GenerationPart, SealPart, EntryPart, SlotPart, RootPart, DescriptorPart, ChunkPart, OtherPart}
 use Rattle.pm_view.specs.Log.{Phase, Idle, Open, Drawn, Sealing, Applying, Clearing, Retiring, Voiding, Recorded, is_early, old_of, place_at}
-use Rattle.pm_view.specs.Claims.{Claim, locked, reads, holds, class, making, header_in, found, here, mine, span, geometry, block_at, passes, is_among, is_block_of, run_chunk, ones}
+use Rattle.pm_view.specs.Claims.{Claim, locked, reads, holds, class, making, header_in, found, here, mine, span, first_in, geometry, block_at, passes, is_among, is_block_of, run_chunk, ones}
 use Rattle.pm_view.specs.Counts.{is_counted, MayCount, IsAtStop, HasRoom, FlushesSome, DropsSome}
 use Rattle.pm_view.specs.Founds.{knows}
 use Rattle.pm_view.specs.Steps.{Step}
@@ -42,7 +42,7 @@ block_in v p b = block_of (geometry v.fixed.shape v.claims) p b
 
 abbrev pub offset_in : View → Place → ℕ
 offset_in v (InRun c w) = w - 8 * (1 + class v.claims c * ((w / 8 - 1) / class v.claims c))
-offset_in v (InHuge c w) = 512 * (c - Rattle.pm_view.specs.Claims.first v.fixed.shape v.claims c) + w
+offset_in v (InHuge c w) = 512 * (c - first_in v.fixed.shape v.claims c) + w
 offset_in v (Descr c) = 0
 offset_in v RootWord = 0
 
