@@ -13,4 +13,6 @@ pub mod Births
 pub mod StepDraw
 pub mod Stores
 pub mod Stored
+pub mod AfterStore
+pub mod StoreArea
 pub mod Crashes
