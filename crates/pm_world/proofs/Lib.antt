@@ -15,4 +15,5 @@ pub mod Stores
 pub mod Stored
 pub mod AfterStore
 pub mod StoreArea
+pub mod Entering
 pub mod Crashes
