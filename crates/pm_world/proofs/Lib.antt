@@ -15,5 +15,6 @@ pub mod Stores
 pub mod Stored
 pub mod AfterStore
 pub mod StoreArea
+pub mod PlacesAt
 pub mod Entering
 pub mod Crashes
