@@ -17,4 +17,5 @@ pub mod AfterStore
 pub mod StoreArea
 pub mod PlacesAt
 pub mod Entering
+pub mod EntryBits
 pub mod Crashes
