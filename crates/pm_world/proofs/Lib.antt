@@ -18,4 +18,5 @@ pub mod StoreArea
 pub mod PlacesAt
 pub mod Entering
 pub mod EntryBits
+pub mod StoreEntry
 pub mod Crashes
