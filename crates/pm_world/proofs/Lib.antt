@@ -12,3 +12,4 @@ pub mod Values
 pub mod Births
 pub mod StepDraw
 pub mod Stores
+pub mod Decides
