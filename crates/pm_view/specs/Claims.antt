@@ -170,9 +170,13 @@ first sh (Reserved at bits ∷ t) c = first_by at bits c (first sh t c)
 first sh (SawDescriptor d x ∷ t) c = cond (shown_by_descriptor sh t d x (Big d) && in_span d (x / 256) c) d (first sh t c)
 first sh (e ∷ t) c = first sh t c
 
+-- so, of a chunk that is among the block's chunks; another is a block's first as far as the lane knows
+abbrev pub first_in : Shape → List Claim → ℕ → ℕ
+first_in sh t c = cond (in_span (first sh t c) (span sh t (first sh t c)) c) (first sh t c) c
+
 -- what the lane knows of which blocks words are in
 abbrev pub geometry : Shape → List Claim → Geometry
-geometry sh t = record { first = first sh t; class = class t }
+geometry sh t = record { first = first_in sh t; class = class t }
 
 -- the block that a word's bit belongs to, as the lane knows
 abbrev pub block_in : Shape → List Claim → Option Place → ℕ → Option Block

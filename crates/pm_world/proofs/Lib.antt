@@ -13,3 +13,5 @@ pub mod Births
 pub mod StepDraw
 pub mod Stores
 pub mod Decides
+pub mod Stored
+pub mod Crashes

@@ -1,11 +1,11 @@
 -- WHICH STEPS A LANE MAY MAKE, by its own view alone, whatever a load or a lock answers.
-use Rattle.std.specs.Prelude.{◌≡◌, ◌≢◌, ◌⊎◌, ℕ, zero, suc, ◌+◌, ◌-◌, ◌*◌, ◌/◌, ◌%◌, ◌^◌, ◌<◌, ◌≤◌, ◌==◌, ◌&&◌, ◌||◌, nat_le, nat_lt, Bool, true, false, not, IsTrue, All, Any, Contains, List, [], ◌∷◌, ◌++◌, length, slice_index, take, Option, None, Some, IsSomeAnd}
+use Rattle.std.specs.Prelude.{◌≡◌, ◌≢◌, ◌⊎◌, ℕ, zero, suc, ◌+◌, ◌-◌, ◌*◌, ◌/◌, ◌%◌, ◌^◌, ◌<◌, ◌≤◌, ◌==◌, ◌&&◌, ◌||◌, nat_le, nat_lt, Bool, true, false, not, IsTrue, All, Any, Contains, List, [], ◌∷◌, ◌++◌, length, slice_index, take, Option, None, Some, IfSome, IsSomeAnd}
 use Rattle.std.specs.Int.{bit_at}
 use Rattle.std.specs.List.{list_any}
 use Rattle.pm_layout.specs.declared.shape.Shape.{Shape}
 use Rattle.pm_layout.specs.Areas.{undo_slots, slot_words, old_words, redo_entries, word_of_generation, word_of_seal, word_of_entry, line_of_slot}
 use Rattle.pm_view.specs.Limits.{greatest_generation}
-use Rattle.pm_layout.specs.Chunks.{words_of, chunks_of, word_of_chunk, page_of_chunk, line_of_chunk}
+use Rattle.pm_layout.specs.Chunks.{words_of, chunks_of, word_of_chunk, word_of_descriptor, page_of_chunk, line_of_chunk}
 use Rattle.pm_layout.specs.Sizes.{blocks_of}
 use Rattle.pm_record.specs.Redo.{op_code}
 use Rattle.pm_record.specs.declared.redo.Op.{Op}
@@ -19,7 +19,7 @@ use Rattle.pm_view.specs.Places.{Place, InRun, InHuge, Descr, RootWord, Block, S
 use Rattle.pm_view.specs.Entries.{Entry, entry_head, given_bit, latest, redos, turn}
 use Rattle.pm_view.specs.Parts.{Part, GenerationPart, SealPart, EntryPart, SlotPart, RootPart, DescriptorPart, ChunkPart, OtherPart}
 use Rattle.pm_view.specs.Log.{Phase, Idle, Open, Drawn, Sealing, Applying, Clearing, Retiring, Voiding, Recorded, is_early, old_of, place_at}
-use Rattle.pm_view.specs.Claims.{Claim, locked, reads, holds, class, making, header_in, found, here, mine, span, geometry, block_at, passes, is_among, is_block_of, run_chunk, ones}
+use Rattle.pm_view.specs.Claims.{Claim, locked, reads, holds, class, making, header_in, found, here, mine, span, first_in, geometry, block_at, passes, is_among, is_block_of, run_chunk, ones}
 use Rattle.pm_view.specs.Counts.{is_counted, MayCount, IsAtStop, HasRoom, FlushesSome, DropsSome}
 use Rattle.pm_view.specs.Founds.{knows}
 use Rattle.pm_view.specs.Steps.{Step}
@@ -29,7 +29,7 @@ use Rattle.pm_view.specs.Views.{part_in, value_in}
 use Rattle.pm_world.specs.States.{given, root_line}
 use Rattle.pm_world.specs.Sights.{is_recorded, is_logged, picture}
 use Rattle.pm_world.specs.Lanes.{all_held}
-use Rattle.pm_world.specs.Logs.{spelled, ends_with, AreWhole, AreRestored, IsEntryAt}
+use Rattle.pm_world.specs.Logs.{spelled, ends_with, EntryOf, AreWhole, AreRestored, IsEntryAt}
 
 -- ---- words of the view
 
@@ -42,7 +42,7 @@ block_in v p b = block_of (geometry v.fixed.shape v.claims) p b
 
 abbrev pub offset_in : View → Place → ℕ
 offset_in v (InRun c w) = w - 8 * (1 + class v.claims c * ((w / 8 - 1) / class v.claims c))
-offset_in v (InHuge c w) = 512 * (c - Rattle.pm_view.specs.Claims.first v.fixed.shape v.claims c) + w
+offset_in v (InHuge c w) = 512 * (c - first_in v.fixed.shape v.claims c) + w
 offset_in v (Descr c) = 0
 offset_in v RootWord = 0
 
@@ -122,6 +122,7 @@ pub record AppendsToPair (v : View) (w x : ℕ) : Type 0 where
   pub word : ℕ
   pub value : ℕ
   pub may : EntersWord v word how value (place_in v word)
+  pub gives : IfSome (place_in v word) (λ p. EntryOf p how value)
   pub small : value < 2 ^ 64
   pub spells : v.log.pair ++ x ∷ [] ≡ take (length v.log.pair + 1) ((8 * word + op_code how) ∷ value ∷ [])
   pub at : w ≡ word_of_entry v.fixed.shape v.fixed.lane (length v.log.entries) + length v.log.pair
@@ -151,6 +152,7 @@ pub record MayMark (v : View) (c x : ℕ) : Type 0 where
   pub one : span v.fixed.shape v.claims c ≡ 1
   pub unknown : class v.claims c ≡ 0
   pub no_block : knows v (word_of_chunk v.fixed.shape c) ≡ Some 0
+  pub clear : value_in v (word_of_descriptor v.fixed.shape c) ≡ Some 0
   pub drained : All (λ (u : Undrained). u.word / 512 ≢ page_of_chunk v.fixed.shape c) v.changes
   pub unentered : v.log.entries ≡ []
 

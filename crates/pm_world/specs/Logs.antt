@@ -8,12 +8,14 @@ use Rattle.pm_record.specs.Undo.{undo_of, undo_words}
 use Rattle.pm_record.specs.declared.undo.Undo.{Undo}
 use Rattle.pm_record.specs.declared.redo.Op.{Op}
 use Rattle.pm_record.specs.declared.redo.Op.TheVariants.{Set}
+use Rattle.pm_view.specs.Bits.{all_bits}
 use Rattle.pm_view.specs.Changes.{Undrained}
-use Rattle.pm_view.specs.Places.{Place, word_of, is_place, is_data}
-use Rattle.pm_view.specs.Entries.{Entry, entry_head}
-use Rattle.pm_view.specs.Parts.{Part, GenerationPart, SealPart, EntryPart, SlotPart, part_of}
+use Rattle.pm_view.specs.Claims.{is_run}
+use Rattle.pm_view.specs.Places.{Place, InRun, InHuge, Descr, RootWord, word_of, is_place, is_data, place_after}
+use Rattle.pm_view.specs.Entries.{Entry, entry_head, given_bit}
+use Rattle.pm_view.specs.Parts.{Part, GenerationPart, SealPart, EntryPart, SlotPart, DescriptorPart, OtherPart, part_of}
 use Rattle.pm_view.specs.Log.{Phase, Idle, Open, Drawn, Sealing, Applying, Clearing, Retiring, Voiding, Recorded, Log, old_in, old_of}
-use Rattle.pm_world.specs.States.{State, Diff}
+use Rattle.pm_world.specs.States.{State, Diff, given}
 use Rattle.pm_world.specs.Lanes.{is_decided}
 
 -- the record stands in this slot, the entry in this pair
@@ -66,19 +68,28 @@ BumpFits (Retiring n) bumped = bumped ≡ true
 BumpFits Voiding bumped = bumped ≡ true
 BumpFits phase bumped = bumped ≡ false
 
--- an undrained change of the lane's area: of its words the log may grow; the seal and the generation are known as they were
+-- the change is of a whole word, which was x
+abbrev pub IsOld : ℕ → Undrained → Type 0
+IsOld x c = (c.mask ≡ all_bits) × (c.old ≡ Some x)
+
+-- an undrained change of the lane: of its area's words the log may grow; the seal and the generation are known as they were, and so is the descriptor of a
+-- run that it makes; entries change descriptors whole; and of no other lane's area is any
 abbrev pub AreaChange : Phase → ℕ → ℕ → Part → Undrained → Type 0
 AreaChange Open count generation SlotPart c = Unit {0}
 AreaChange Open count generation EntryPart c = Unit {0}
-AreaChange (Sealing n) count generation SealPart c = c.old ≡ Some 0
-AreaChange Clearing count generation SealPart c = c.old ≡ Some count
-AreaChange (Applying todo) count generation GenerationPart c = c.old ≡ Some generation
-AreaChange (Retiring n) count generation GenerationPart c = c.old ≡ Some generation
-AreaChange Voiding count generation GenerationPart c = c.old ≡ Some generation
+AreaChange (Sealing n) count generation SealPart c = IsOld 0 c
+AreaChange Clearing count generation SealPart c = IsOld count c
+AreaChange (Applying todo) count generation GenerationPart c = IsOld generation c
+AreaChange (Retiring n) count generation GenerationPart c = IsOld generation c
+AreaChange Voiding count generation GenerationPart c = IsOld generation c
+AreaChange Open count generation (DescriptorPart d) c = IsOld 0 c
+AreaChange (Applying todo) count generation (DescriptorPart d) c = c.mask ≡ all_bits
 AreaChange phase count generation GenerationPart c = ⊥
 AreaChange phase count generation SealPart c = ⊥
 AreaChange phase count generation EntryPart c = ⊥
 AreaChange phase count generation SlotPart c = ⊥
+AreaChange phase count generation (DescriptorPart d) c = ⊥
+AreaChange phase count generation OtherPart c = ⊥
 AreaChange phase count generation part c = Unit {0}
 
 -- every recorded word has its old value again
@@ -100,11 +111,16 @@ PhaseFits sh lane picture l changes Voiding = (l.entries ≡ []) × (l.slot ≡ 
 abbrev pub OldFits : State → (Place → ℕ → Bool) → Place → ℕ → Type 0
 OldFits S owned p x = (b : ℕ) → b < 64 → (owned p b ≡ true) × (S p b ≡ (bit_at x b == 1))
 
+-- an entry of a place gives some bit of it, and that of a descriptor sets it, to none of a run
+abbrev pub EntryOf : Place → Op → ℕ → Type 0
+EntryOf (Descr c) how value = (how ≡ Set) × (is_run value ≡ false)
+EntryOf p how value = (b : ℕ) × (b < 64) × (given (given_bit how value b) ≡ true)
+
 -- THE LOG: `generation`, `seal`, `entry` and `slot` have the words of the lane's area
 pub record LogFits (sh : Shape) (lane generation seal : ℕ) (entry slot : ℕ → ℕ → ℕ) (S : State) (owned : Place → ℕ → Bool) (picture : Diff) (l : Log) (changes : List Undrained) : Type 0 where
   pub first : 1 ≤ l.generation
   pub last : l.generation ≤ greatest_generation sh
-  pub below : l.bumped ≡ true → l.generation < greatest_generation sh
+  pub below : (l.bumped ≡ true) ⊎ ((1 ≤ used_slots l) ⊎ (1 ≤ length l.entries)) → l.generation < greatest_generation sh
   pub stored : generation ≡ cond l.bumped (suc l.generation) l.generation
   pub bump : BumpFits l.phase l.bumped
   pub sealed : seal ≡ seal_in l.phase (length l.entries)
@@ -112,11 +128,11 @@ pub record LogFits (sh : Shape) (lane generation seal : ℕ) (entry slot : ℕ �
   pub records_most : used_slots l ≤ undo_slots sh
   -- entries stand in their pairs, each of the place that its word is; of the words stored of the next one too
   pub pairs : (i : ℕ) (e : Entry) → IsEntryAt l i e → (entry i 0 ≡ entry_head e) × (entry i 1 ≡ e.value) × (e.value < 2 ^ 64)
-      × IfSome e.place (λ p. (is_place sh p ≡ true) × (word_of sh p ≡ e.word))
+      × IfSome e.place (λ p. (is_place sh p ≡ true) × (word_of sh p ≡ e.word) × EntryOf p e.op e.value)
   pub pair_part : (i : ℕ) → i < length l.pair → entry (length l.entries) i ≡ slice_index l.pair i
   -- records stand in their slots, and no word has two; the other slots are of earlier generations
   pub records : (j : ℕ) (r : Recorded) → IsRecordAt l j r → ((i : ℕ) → i < slot_words sh → slot j i ≡ slice_index (spelled sh l.generation r) i) × (1 ≤ length r.old) × (length r.old ≤ old_words sh)
-      × (is_place sh r.place ≡ true) × (is_data r.place ≡ true)
+      × (is_place sh r.place ≡ true) × (is_data r.place ≡ true) × ((i : ℕ) → i < length r.old → is_place sh (place_after r.place i) ≡ true)
   pub once : (j m : ℕ) (r q : Recorded) (p : Place) (x y : ℕ) → IsRecordAt l j r → IsRecordAt l m q → old_in r p ≡ Some x → old_in q p ≡ Some y → j ≡ m
   pub olds : is_decided l.phase ≡ false → (p : Place) (x : ℕ) → old_of l.records p ≡ Some x → OldFits S owned p x
   pub slot_part : (i : ℕ) → i < length l.slot → slot (length l.records) i ≡ slice_index l.slot i

@@ -76,6 +76,11 @@ pub record AloneFits (mem : Memory) (v : View) : Type 0 where
   pub words : (w x : ℕ) → pictured v.fixed.shape v.claims w ≡ Some x → mem (PoolWord w) ≡ x
   pub occupancy : (at : Occ) (x : ℕ) → occupancy_of v.occupancy at ≡ Some x → mem (occ_at at) ≡ x
 
+-- the log of a lane's view stands in its area
+abbrev pub AreaFits : Opening → Memory → Past → ℕ → View → Type 0
+AreaFits o mem g k v = LogFits o.shape k ((cells_of o.shape mem).generation k) ((cells_of o.shape mem).seal k) ((cells_of o.shape mem).entry k) ((cells_of o.shape mem).slot k)
+    (settled_words o g) (owns g.geo (settled_words o g) (sight_of v).hold) (sight_of v).picture v.log v.changes
+
 -- of a lane's view, beside what is said of its sight
 pub record LaneFits (o : Opening) (mem : Memory) (g : Past) (k : ℕ) (v : View) : Type 0 where
   pub lane : v.fixed.lane ≡ k
@@ -115,6 +120,8 @@ pub record World (o : Opening) (mem : Memory) (views : Views) (g : Past) : Type 
   pub bits : Bits o.shape o.lanes (origin o) (cells_of o.shape mem) (λ k. sight_of (views k)) (ghost_of g)
   pub each_lane : (k : ℕ) → k < o.lanes → LaneFits o mem g k (views k)
   pub idle_beyond : (k : ℕ) → o.lanes ≤ k → ((views k).changes ≡ []) × ((views k).log.phase ≡ Idle)
+  -- the logs of the pool's other lanes are retired
+  pub logs_beyond : (k : ℕ) → o.lanes ≤ k → k < o.shape.lanes → AreaFits o mem g k (views k)
   -- a call of the history is a lane's
   pub of_lanes : (n : ℕ) → n < g.length → (g.drew n).fixed.lane < o.lanes
   pub small : (w : ℕ) → mem (PoolWord w) < 2 ^ 64
