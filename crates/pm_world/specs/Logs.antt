@@ -94,7 +94,7 @@ AreaChange phase count generation part c = Unit {0}
 
 -- every recorded word has its old value again
 abbrev pub AreRestored : Diff → List Recorded → Type 0
-AreRestored picture records = (p : Place) (x b : ℕ) → b < 64 → old_of records p ≡ Some x → picture p b ≡ Some (bit_at x b == 1)
+AreRestored picture records = (p : Place) (x b : ℕ) → old_of records p ≡ Some x → picture p b ≡ Some (bit_at x b == 1)
 
 -- by how far the call has come
 abbrev pub PhaseFits : Shape → ℕ → Diff → Log → List Undrained → Phase → Type 0
@@ -109,7 +109,7 @@ PhaseFits sh lane picture l changes Voiding = (l.entries ≡ []) × (l.slot ≡ 
 
 -- a recorded word: the lane owns it, and its old value is the settled one
 abbrev pub OldFits : State → (Place → ℕ → Bool) → Place → ℕ → Type 0
-OldFits S owned p x = (b : ℕ) → b < 64 → (owned p b ≡ true) × (S p b ≡ (bit_at x b == 1))
+OldFits S owned p x = (b : ℕ) → (owned p b ≡ true) × (S p b ≡ (bit_at x b == 1))
 
 -- an entry of a place gives some bit of it, and that of a descriptor sets it, to none of a run
 abbrev pub EntryOf : Place → Op → ℕ → Type 0
