@@ -13,5 +13,6 @@ pub mod Births
 pub mod StepDraw
 pub mod Stores
 pub mod Decides
+pub mod StepDrain
 pub mod Stored
 pub mod Crashes

@@ -1,0 +1,216 @@
+-- ONCE NOTHING IS UNDRAINED the log goes on: a call is decided, or aborted, or its seal is cleared.
+use Rattle.std.specs.Prelude.{List, [], ◌∷◌, ◌++◌, length, slice_get, slice_index, Contains}
+use Rattle.std.proofs.Common.{◌≡◌, ◌≢◌, ℕ, zero, suc, ◌+◌, ◌*◌, ◌/◌, ◌%◌, ◌^◌, ◌<◌, ◌≤◌, ◌⊎◌, inl, inr, ⊎_elim, Bool, true, false, cond, not, ◌&&◌, ◌||◌, eqb, ◌==◌, refl, sym, ap, ◌∙◌, subst, arith, Option, None, Some}
+use Rattle.std.proofs.lemmas.Bool.{cases_eq, cases_Bool, cases_lt, both_ways, and_parts, or_cases, false_from_ne_true}
+use Rattle.std.proofs.lemmas.Option.{slice_get-get_or}
+use Rattle.std.proofs.lemmas.Nat.Bits.{bit_at_above}
+use Rattle.pm_layout.specs.declared.shape.Shape.{Shape}
+use Rattle.pm_view.specs.Limits.{greatest_generation}
+use Rattle.pm_layout.specs.Areas.{undo_slots}
+use Rattle.pm_record.specs.Undo.{is_record, undo_in, undo_of}
+use Rattle.pm_record.specs.declared.undo.Undo.{Undo}
+use Rattle.pm_view.specs.Changes.{Undrained}
+use Rattle.pm_view.specs.Places.{Place, InRun, InHuge, Descr, RootWord, Block, Small, Big, Root, block_of, header, is_data, is_place}
+use Rattle.pm_view.specs.Entries.{Entry, latest, redos, turn}
+use Rattle.pm_view.specs.Log.{Phase, Idle, Open, Drawn, Sealing, Applying, Clearing, Retiring, Voiding, Recorded, Log, old_in, old_of, next_log, log_drained}
+use Rattle.pm_view.specs.Claims.{Claim, Decided, class, locked, found, here, header_in, found_after, pictured}
+use Rattle.pm_view.specs.View.{View}
+use Rattle.pm_view.specs.Views.{decided_by}
+use Rattle.pm_view.specs.Counts.{IsAtStop}
+use Rattle.pm_world.specs.States.{State, Diff, diff, given, live, read, put1, Cells}
+use Rattle.pm_world.specs.Sights.{Sight, is_use, is_soiled, is_recorded, is_slot_drained, is_logged_from, is_logged, fresh, is_made, call_in, sight_of}
+use Rattle.pm_world.specs.Lanes.{Ghost, own, owns, has, left, is_decided, BitFits, TurnFlight, TurnFits, SightFits, settled, Flies, flies_at, Bits}
+use Rattle.pm_world.specs.Logs.{IsRecordAt, slot_list, spelled, ends_with, used_slots, seal_in, BumpFits, PhaseFits, AreWhole, AreLeft, OldFits, AreRestored, LogFits}
+use Rattle.pm_world.specs.Memory.{Memory, PoolWord, CommitCounter, StopWord, bit, cells_of}
+use Rattle.pm_world.specs.World.{Opening, Views, Past, origin, ghost_of, settled_words, NumberFits, AreaFits, LaneFits, may_draw, may_draw_count, World}
+use Rattle.pm_world.specs.Course.{holder_after, past_decided}
+use Rattle.pm_world.specs.Laws.{Turn}
+use Rattle.pm_world.proofs.Counting.{count_same}
+use Rattle.pm_world.proofs.Decides.{decided_ghost, decided_sight, some_of, none_of, over_idle, over_open, around, decides}
+use Rattle.pm_world.proofs.Frame.{Around, mine_own, found_has, own_has}
+use Rattle.pm_world.proofs.Going.{Turned, at_phase, unchanged}
+use Rattle.pm_world.proofs.StepPlain.{plain_step}
+use Rattle.pm_world.proofs.Stores.{goes_on_to, GoesOnAt}
+use Rattle.pm_world.proofs.Worlds.{Aside, turned, world_after, stops_stay}
+
+-- ---- numbers
+high_bit : (x b : ℕ) → x < 2 ^ 64 → 64 ≤ b → bit x b ≡ false
+high_bit x b l q = ap (λ d. d == 1) (bit_at_above x 64 b l q)
+
+and_false : (t : Bool) → (t && false) ≡ false
+and_false true = refl
+and_false false = refl
+
+-- ---- THE LOG OF THE NEXT GENERATION
+generation_of : (slot : List ℕ) (u : Undo) → undo_of slot ≡ Some u → u.generation ≡ slice_index slot 0
+generation_of slot u e = go (is_record slot) e
+  where
+    go : (t : Bool) → cond t (Some (undo_in slot)) None ≡ Some u → u.generation ≡ slice_index slot 0
+    go true e = sym (ap (λ w. gen w) e)
+      where
+        gen : Option Undo → ℕ
+        gen None = 0
+        gen (Some w) = w.generation
+    go false e = absurd (both_ways false refl (ap given e))
+
+module _ (sh : Shape) (lane generation seal : ℕ) (entry slot : ℕ → ℕ → ℕ) (S S' : State) (owned owned' : Place → ℕ → Bool) (picture : Diff) (l : Log) (changes : List Undrained)
+    (f : LogFits sh lane generation seal entry slot S owned picture l changes) (clean : changes ≡ []) where
+  -- the log of an ended generation is empty
+  pub ended : l.bumped ≡ true → seal ≡ 0 → l.slot ≡ [] → (ph : Phase) → BumpFits ph false → seal_in ph 0 ≡ 0 → PhaseFits sh lane picture (next_log ph l) changes ph → LogFits sh lane generation seal entry slot S' owned' picture (next_log ph l) changes
+  ended bumped unsealed no_slot ph bump none_ phase = record {
+    first = omega arith;
+    last = let z = f.below (inl bumped) in omega arith;
+    below = λ q. ⊎_elim (λ (e : false ≡ true). absurd (both_ways false refl e)) (λ q. ⊎_elim (λ (a : 1 ≤ 0). absurd (omega arith)) (λ (a : 1 ≤ 0). absurd (omega arith)) q) q;
+    stored = f.stored ∙ (ap (λ t. cond t (suc l.generation) l.generation) bumped ∙ omega arith);
+    bump = bump;
+    sealed = unsealed ∙ sym none_;
+    entries_most = omega arith;
+    records_most = omega arith;
+    pairs = λ i e q. absurd (both_ways false refl (ap given q));
+    pair_part = λ i q. absurd (omega arith);
+    records = λ i e q. absurd (both_ways false refl (ap given q));
+    once = λ j m r q p y z e. absurd (both_ways false refl (ap given e));
+    olds = λ _ p y e. absurd (both_ways false refl (ap given e));
+    slot_part = λ i q. absurd (omega arith);
+    stale = λ j u _ q e. ⊎_elim (λ (a : j < length l.records). older j u e a) (λ (a : length l.records ≤ j). let z = f.stale j u (used j a) q e in omega arith) (cases_lt j (length l.records));
+    area_changes = λ i d q. let z = ap length clean in absurd (omega arith);
+    phase = phase;
+  }
+    where
+      used : (j : ℕ) → length l.records ≤ j → used_slots l ≤ j
+      used j a = subst (λ s. length l.records + cond (length s == 0) 0 1 ≤ j) (sym no_slot) (omega arith)
+
+      older : (j : ℕ) (u : Undo) → undo_of (slot_list (slot j)) ≡ Some u → j < length l.records → u.generation < l.generation + 1
+      older j u e a = let r = Rattle.std.specs.Prelude.get_or l.records j (record { place = RootWord; old = [] }) in let z = (f.records j r (slice_get-get_or l.records j (record { place = RootWord; old = [] }) a)).0 0 (omega arith) in
+          let q = generation_of (slot_list (slot j)) u e in omega arith
+
+  -- its entries are to be applied
+  pub sealed_log : (n : ℕ) → l.phase ≡ Sealing n → LogFits sh lane generation seal entry slot S' owned' picture (record l { phase = Applying l.entries }) changes
+  sealed_log n e = let bump : l.bumped ≡ false = subst (λ ph. BumpFits ph l.bumped) e f.bump in let phase = subst (λ ph. PhaseFits sh lane picture l changes ph) e f.phase in record {
+    first = f.first;
+    last = f.last;
+    below = f.below;
+    stored = f.stored;
+    bump = tt;
+    sealed = f.sealed ∙ ap (λ ph. seal_in ph (length l.entries)) e;
+    entries_most = f.entries_most;
+    records_most = f.records_most;
+    pairs = f.pairs;
+    pair_part = f.pair_part;
+    records = f.records;
+    once = f.once;
+    olds = λ u. absurd (both_ways true u refl);
+    slot_part = f.slot_part;
+    stale = f.stale;
+    area_changes = λ i d q. let z = ap length clean in absurd (omega arith);
+    phase = (whole phase.0, record { done = []; are = refl; ends = λ b. absurd (both_ways l.bumped bump b); to_end = λ _. last_of phase.0 }, phase.1, phase.2);
+  }
+    where
+      whole : AreWhole sh lane l → AreWhole sh lane (record l { phase = Applying l.entries })
+      whole w = record { front = w.front; are = w.are; placed = w.placed }
+
+      last_of : AreWhole sh lane l → Contains l.entries (ends_with sh lane l.generation)
+      last_of w = subst (λ es. Contains es (ends_with sh lane l.generation)) (sym w.are) (at_end w.front (ends_with sh lane l.generation))
+        where
+          at_end : (xs : List Entry) (y : Entry) → Contains (xs ++ y ∷ []) y
+          at_end [] y = (0, omega arith, refl)
+          at_end (e ∷ xs) y = let z = at_end xs y in (suc z.0, omega arith, z.2)
+
+module _ (sh : Shape) (L : ℕ) (b : State) (cells : Cells) (sights : ℕ → Sight) (g : Ghost) (x : Bits sh L b cells sights g) (k : ℕ) (ink : k < L) where
+  pub around_same : Around k (sights k).hold (λ j. (sights j).hold) cells cells (settled b g) (settled b g) g g
+  around_same = record { writer = λ l j ne. refl; reader = λ l j ne. refl; pool = λ p b u w. refl; set = λ p b u. refl; descr = λ c u. refl; up = λ c n e. e; runs = λ c u. refl; holder = λ B j ne e. e; holder_back = λ B j ne e. e; class = λ c u. refl; first = λ c j ne. inl refl; flies = λ j n d ne w y. y }
+
+-- ---- THE VIEW, ITS PHASE WRITTEN OUT
+abbrev goes_on_in : Phase → View → View
+goes_on_in ph v = record v { claims = decided_by ph v.log.entries v.claims; log = log_drained ph v.log }
+
+abbrev GoesOnIn : Phase → Type 0
+GoesOnIn ph = (o : Opening) (mem : Memory) (views new : Views) (g : Past) (k : ℕ) → World o mem views g → k < o.lanes → (views k).changes ≡ [] → (views k).log.phase ≡ ph → Turn views new k (goes_on_in ph (views k)) → World o mem new (past_decided ph (views k) g)
+
+in_phase : (ph : Phase) → GoesOnIn ph → GoesOnAt ph
+in_phase ph f o mem views new g k x ink clean e t = subst (λ z. World o mem new (past_decided z (views k) g)) (sym e) (f o mem views new g k x ink clean e (subst (λ z. Turn views new k (goes_on_in z (views k))) e t))
+
+-- where nothing is to be decided the view stays
+module _ (o : Opening) (mem : Memory) (views new : Views) (g : Past) (k : ℕ) (x : World o mem views g) (ink : k < o.lanes) where
+  same_view : Turn views new k (views k) → World o mem new g
+  same_view t = plain_step o mem mem views new g x k ink (λ l. refl) (views k) t refl refl (λ e. e) (x.each_lane k ink)
+
+pub goes_on_idle : GoesOnAt Idle
+goes_on_idle = in_phase Idle (λ o mem views new g k x ink clean e t. same_view o mem views new g k x ink t)
+
+pub goes_on_open : GoesOnAt Open
+goes_on_open = in_phase Open (λ o mem views new g k x ink clean e t. same_view o mem views new g k x ink t)
+
+pub goes_on_drawn : (n : ℕ) → GoesOnAt (Drawn n)
+goes_on_drawn n = in_phase (Drawn n) (λ o mem views new g k x ink clean e t. same_view o mem views new g k x ink t)
+
+pub goes_on_applying : (todo : List Entry) → GoesOnAt (Applying todo)
+goes_on_applying todo = in_phase (Applying todo) (λ o mem views new g k x ink clean e t. same_view o mem views new g k x ink t)
+
+-- ---- the words stay, and the lane's view is this one
+module _ (o : Opening) (mem : Memory) (views new : Views) (g : Past) (k : ℕ) (x : World o mem views g) (ink : k < o.lanes) (clean : (views k).changes ≡ []) where
+  abbrev sights : ℕ → Sight
+  sights j = sight_of (views j)
+
+  abbrev cells : Cells
+  cells = cells_of o.shape mem
+
+  lane_fits : LaneFits o mem g k (views k)
+  lane_fits = x.each_lane k ink
+
+  -- claims and the log change, and of the ghosts what is decided and whose blocks are
+  world_now : (claims : List Claim) (log : Log) (decided : ℕ → Bool) (holder : Block → ℕ) → let v = record (views k) { claims = claims; log = log } in let g' = record g { decided = decided; holder = holder } in Turn views new k v
+      → Around k (sight_of (views k)).hold (λ j. (sight_of (views j)).hold) (cells_of o.shape mem) (cells_of o.shape mem) (settled_words o g) (settled_words o g') (ghost_of g) (ghost_of g')
+      → Bits o.shape o.lanes (origin o) (cells_of o.shape mem) (λ j. sight_of (new j)) (ghost_of g') → AreaFits o mem g' k v → NumberFits log.phase (views k).number
+      → ((w n : ℕ) → pictured (views k).fixed.shape claims w ≡ Some n → pictured (views k).fixed.shape (views k).claims w ≡ Some n) → World o mem new g'
+  world_now claims log decided holder t m bits area number known = let v = record (views k) { claims = claims; log = log } in let g' = record g { decided = decided; holder = holder } in let f = lane_fits in world_after o mem views g x k ink mem new g' (settled_words o g') v refl m
+      record { generation = λ j ne. refl; seal = λ j ne. refl; entry = λ j i q a b ne. refl; slot = λ j i q a b ne. refl; zone = λ z j ne. refl; entries = λ j ne. refl } t bits
+      record {
+        lane = f.lane;
+        shape = f.shape;
+        lanes = f.lanes;
+        log = area;
+        number = number;
+        zones = f.zones;
+        masks = f.masks;
+        room = f.room;
+        within = f.within;
+        alone = λ one. let a = f.alone one in record { words = λ w n e. a.words w n (known w n e); occupancy = a.occupancy };
+        entries = f.entries;
+      } x.of_lanes x.small x.header
+      (subst (λ n. mem CommitCounter + n < greatest_generation o.shape + 32) (sym (count_same views new k v t refl o.lanes)) x.counter_room)
+      (⊎_elim (λ (e : mem StopWord ≡ 0). inl e) (λ (e : (j : ℕ) × (j < o.lanes) × IsAtStop (views j)). inr (e.0, e.1, stops_stay views new k v t (λ z. z) e.0 e.2)) x.stop_word)
+
+  unsoiled : (p : Place) (b : ℕ) → (sight_of (views k)).soiled p b ≡ false
+  unsoiled p b = subst (λ c. is_soiled (views k).fixed.shape (sight_of (views k)).hold c p b ≡ false) (sym clean) (and_false (is_use (sight_of (views k)).hold p))
+
+  -- a call without records and entries makes nothing final
+  abbrev empty_fresh : Phase → Diff
+  empty_fresh ph = fresh (views k).fixed.shape (views k).claims (next_log ph (views k).log)
+
+  nothing : (ph : Phase) (p : Place) (b : ℕ) → given (empty_fresh ph p b) ≡ false
+  nothing ph p b = go (is_data p) (block_of (Rattle.pm_view.specs.Claims.geometry (views k).fixed.shape (views k).claims) p b) ((sight_of (views k)).picture p b)
+    where
+      go : (d : Bool) (B : Block) (y : Option Bool) → given (cond (d && (is_made (turn (latest []) B) || false)) y None) ≡ false
+      go d (Small c i) y = ap (λ z. given (cond z y None)) (and_false d)
+      go d (Big c) y = ap (λ z. given (cond z y None)) (and_false d)
+      go d Root y = ap (λ z. given (cond z y None)) (and_false d)
+
+  -- the lane's log, its phase written out
+  abbrev Logged : Log → Type 0
+  Logged l = LogFits o.shape k ((cells_of o.shape mem).generation k) ((cells_of o.shape mem).seal k) ((cells_of o.shape mem).entry k) ((cells_of o.shape mem).slot k) (settled_words o g) (owns g.geo (settled_words o g) (sight_of (views k)).hold) (sight_of (views k)).picture l (views k).changes
+
+  log_in : (ph : Phase) → (views k).log.phase ≡ ph → Logged (record (views k).log { phase = ph })
+  log_in ph e = subst (λ z. Logged (record (views k).log { phase = z })) e lane_fits.log
+
+  same_bit : (ph : Phase) → (views k).log.phase ≡ ph → is_decided ph ≡ true → ((p : Place) (b : ℕ) → left ph p b ≡ None) → (p : Place) (b : ℕ) → owns g.geo (settled_words o g) (sight_of (views k)).hold p b ≡ true → live (settled_words o g) g.geo g.runs p ≡ true → read (cells_of o.shape mem).pool p b ≡ settled_words o g p b
+  same_bit ph e dec none_ p b t al = ((at_phase o.shape o.lanes (origin o) (cells_of o.shape mem) (λ j. sight_of (views j)) (ghost_of g) x.bits k ink ph e).bits p b t).0 al (ap given (none_ p b)) (ap (λ d. (sight_of (views k)).logged p && not d) dec ∙ and_false ((sight_of (views k)).logged p))
+
+  -- THE SEAL IS CLEARED
+  pub cleared : (views k).log.phase ≡ Clearing → Turn views new k (goes_on_in Clearing (views k)) → World o mem new g
+  cleared e t = let l = log_in Clearing e in let v = goes_on_in Clearing (views k) in
+      world_now (views k).claims (next_log Idle (views k).log) g.decided g.holder t (around_same o.shape o.lanes (origin o) (cells_of o.shape mem) (λ j. sight_of (views j)) (ghost_of g) x.bits k ink)
+      (unchanged o.shape o.lanes (origin o) (cells_of o.shape mem) (λ j. sight_of (views j)) (ghost_of g) x.bits k ink (sight_of v) (λ j. sight_of (new j)) refl (λ n y. absurd (subst (λ z. flies_at z n) e y))
+      (over_idle o.shape (cells_of o.shape mem) (settled_words o g) (Flies (ghost_of g) k) (ghost_of g) k (sight_of (views k)) (x.bits.each_lane k) (empty_fresh Idle) (nothing Idle) unsoiled (same_bit Clearing e refl (λ p b. refl))) (turned views new k v t))
+      (ended o.shape k ((cells_of o.shape mem).generation k) ((cells_of o.shape mem).seal k) ((cells_of o.shape mem).entry k) ((cells_of o.shape mem).slot k) (settled_words o g) (settled_words o g) (owns g.geo (settled_words o g) (sight_of (views k)).hold) (owns g.geo (settled_words o g) (sight_of (views k)).hold) (sight_of (views k)).picture
+      (record (views k).log { phase = Clearing }) (views k).changes l clean l.bump l.sealed l.phase.1 Idle refl refl (refl, refl, refl, refl)) tt (λ w n q. q)
