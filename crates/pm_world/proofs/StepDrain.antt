@@ -11,7 +11,7 @@ use Rattle.pm_record.specs.Undo.{is_record, undo_in, undo_of}
 use Rattle.pm_record.specs.declared.undo.Undo.{Undo}
 use Rattle.pm_view.specs.Changes.{Undrained}
 use Rattle.pm_view.specs.Places.{Place, InRun, InHuge, Descr, RootWord, Block, Small, Big, Root, block_of, header, is_data, is_place}
-use Rattle.pm_view.specs.Entries.{Entry, latest, redos, turn}
+use Rattle.pm_view.specs.Entries.{Entry, latest, redos, turn, first_of_two}
 use Rattle.pm_view.specs.Log.{Phase, Idle, Open, Drawn, Sealing, Applying, Clearing, Retiring, Voiding, Recorded, Log, old_in, old_of, next_log, log_drained}
 use Rattle.pm_view.specs.Claims.{Claim, Decided, class, locked, found, here, header_in, found_after, pictured}
 use Rattle.pm_view.specs.View.{View}
@@ -116,6 +116,24 @@ module _ (sh : Shape) (lane generation seal : ℕ) (entry slot : ℕ → ℕ →
           at_end [] y = (0, omega arith, refl)
           at_end (e ∷ xs) y = let z = at_end xs y in (suc z.0, omega arith, z.2)
 
+-- ---- A RECORD whose slot is drained is one
+logged_recorded : (sh : Shape) (lane : ℕ) (changes : List Undrained) (j : ℕ) (rs : List Recorded) (p : Place) → is_logged_from sh lane changes j rs p ≡ true → given (old_of rs p) ≡ true
+logged_recorded sh lane changes j [] p e = absurd (both_ways false refl e)
+logged_recorded sh lane changes j (r ∷ rs) p e = ⊎_elim (λ (t : (given (old_in r p) && is_slot_drained sh lane changes j) ≡ true). first (old_in r p) (old_of rs p) (and_parts (given (old_in r p)) (is_slot_drained sh lane changes j) t).0)
+    (λ (t : is_logged_from sh lane changes (suc j) rs p ≡ true). second (old_in r p) (old_of rs p) (logged_recorded sh lane changes (suc j) rs p t)) (or_cases (given (old_in r p) && is_slot_drained sh lane changes j) (is_logged_from sh lane changes (suc j) rs p) e)
+  where
+    first : (a c : Option ℕ) → given a ≡ true → given (first_of_two a c) ≡ true
+    first None c t = absurd (both_ways false refl t)
+    first (Some y) c t = refl
+
+    second : (a c : Option ℕ) → given c ≡ true → given (first_of_two a c) ≡ true
+    second None c t = t
+    second (Some y) c t = refl
+
+old_some : (d : Option ℕ) → given d ≡ true → (y : ℕ) × (d ≡ Some y)
+old_some None e = absurd (both_ways false refl e)
+old_some (Some y) e = (y, refl)
+
 module _ (sh : Shape) (L : ℕ) (b : State) (cells : Cells) (sights : ℕ → Sight) (g : Ghost) (x : Bits sh L b cells sights g) (k : ℕ) (ink : k < L) where
   pub around_same : Around k (sights k).hold (λ j. (sights j).hold) cells cells (settled b g) (settled b g) g g
   around_same = record { writer = λ l j ne. refl; reader = λ l j ne. refl; pool = λ p b u w. refl; set = λ p b u. refl; descr = λ c u. refl; up = λ c n e. e; runs = λ c u. refl; holder = λ B j ne e. e; holder_back = λ B j ne e. e; class = λ c u. refl; first = λ c j ne. inl refl; flies = λ j n d ne w y. y }
@@ -214,3 +232,59 @@ module _ (o : Opening) (mem : Memory) (views new : Views) (g : Past) (k : ℕ) (
       (over_idle o.shape (cells_of o.shape mem) (settled_words o g) (Flies (ghost_of g) k) (ghost_of g) k (sight_of (views k)) (x.bits.each_lane k) (empty_fresh Idle) (nothing Idle) unsoiled (same_bit Clearing e refl (λ p b. refl))) (turned views new k v t))
       (ended o.shape k ((cells_of o.shape mem).generation k) ((cells_of o.shape mem).seal k) ((cells_of o.shape mem).entry k) ((cells_of o.shape mem).slot k) (settled_words o g) (settled_words o g) (owns g.geo (settled_words o g) (sight_of (views k)).hold) (owns g.geo (settled_words o g) (sight_of (views k)).hold) (sight_of (views k)).picture
       (record (views k).log { phase = Clearing }) (views k).changes l clean l.bump l.sealed l.phase.1 Idle refl refl (refl, refl, refl, refl)) tt (λ w n q. q)
+
+  -- AN ABORTED CALL'S RECORDS ARE VOIDED: each recorded word has its old value again, which is the settled one
+  restored_bit : (views k).log.phase ≡ Voiding → (p : Place) (b : ℕ) → owns g.geo (settled_words o g) (sight_of (views k)).hold p b ≡ true → live (settled_words o g) g.geo g.runs p ≡ true → read (cells_of o.shape mem).pool p b ≡ settled_words o g p b
+  restored_bit e p b t al = let l = log_in Voiding e in let z = (at_phase o.shape o.lanes (origin o) (cells_of o.shape mem) (λ j. sight_of (views j)) (ghost_of g) x.bits k ink Voiding e).bits p b t in
+      ⊎_elim (λ (q : (sight_of (views k)).logged p ≡ true). let r = old_some (old_of (views k).log.records p) (logged_recorded (views k).fixed.shape (views k).fixed.lane (views k).changes 0 (views k).log.records p q) in
+      z.3 (bit r.0 b) (l.phase.3 p r.0 b r.1) ∙ sym (l.olds refl p r.0 r.1 b).1)
+      (λ (q : (sight_of (views k)).logged p ≡ false). z.0 al refl (ap (λ y. y && true) q)) (cases_Bool ((sight_of (views k)).logged p))
+
+  pub voided : (views k).log.phase ≡ Voiding → Turn views new k (goes_on_in Voiding (views k)) → World o mem new g
+  voided e t = let l = log_in Voiding e in let v = goes_on_in Voiding (views k) in
+      world_now (views k).claims (next_log Open (views k).log) g.decided g.holder t (around_same o.shape o.lanes (origin o) (cells_of o.shape mem) (λ j. sight_of (views j)) (ghost_of g) x.bits k ink)
+      (unchanged o.shape o.lanes (origin o) (cells_of o.shape mem) (λ j. sight_of (views j)) (ghost_of g) x.bits k ink (sight_of v) (λ j. sight_of (new j)) refl (λ n y. absurd (subst (λ z. flies_at z n) e y))
+      (over_open o.shape (cells_of o.shape mem) (settled_words o g) (Flies (ghost_of g) k) (ghost_of g) k (sight_of (views k)) (x.bits.each_lane k) (empty_fresh Open) (nothing Open) unsoiled (restored_bit e)) (turned views new k v t))
+      (ended o.shape k ((cells_of o.shape mem).generation k) ((cells_of o.shape mem).seal k) ((cells_of o.shape mem).entry k) ((cells_of o.shape mem).slot k) (settled_words o g) (settled_words o g) (owns g.geo (settled_words o g) (sight_of (views k)).hold) (owns g.geo (settled_words o g) (sight_of (views k)).hold) (sight_of (views k)).picture
+      (record (views k).log { phase = Voiding }) (views k).changes l clean l.bump l.sealed l.phase.1 Open refl refl (omega arith, omega arith)) (subst (λ ph. NumberFits ph (views k).number) e lane_fits.number) (λ w n q. q)
+
+  -- A CALL IS DECIDED by its seal, or by the next generation, where it has no entries
+  data_only : (p : Place) (b : ℕ) → is_data p ≡ false → given ((sight_of (views k)).call.fresh p b) ≡ false
+  data_only p b e = let B = block_of (Rattle.pm_view.specs.Claims.geometry (views k).fixed.shape (views k).claims) p b in ap (λ z. given (cond (z && (is_made (turn (latest (redos (views k).log.entries)) B) || is_recorded (views k).log.records p)) ((sight_of (views k)).picture p b) None)) e
+
+  high : (c b : ℕ) → 64 ≤ b → read (cells_of o.shape mem).pool (Descr c) b ≡ false
+  high c b q = let w = Rattle.pm_layout.specs.Chunks.word_of_descriptor o.shape c in ap (λ z. is_place o.shape (Descr c) && (not (Rattle.pm_view.specs.Claims.is_run (mem (PoolWord w))) && z)) (high_bit (mem (PoolWord w)) b (x.small w) q) ∙ (ap (λ z. is_place o.shape (Descr c) && z) (and_false (not (Rattle.pm_view.specs.Claims.is_run (mem (PoolWord w))))) ∙ and_false (is_place o.shape (Descr c)))
+
+  sight_in : (ph : Phase) → (views k).log.phase ≡ ph → SightFits o.shape (cells_of o.shape mem) (settled_words o g) (Flies (ghost_of g) k) (ghost_of g) k (record (sight_of (views k)) { phase = ph })
+  sight_in ph e = at_phase o.shape o.lanes (origin o) (cells_of o.shape mem) (λ j. sight_of (views j)) (ghost_of g) x.bits k ink ph e
+
+  -- the blocks that the call allocates are found by their lane under the lock that it holds of them
+  here_now : (n : ℕ) → (views k).log.phase ≡ Sealing n → (B : Block) → here (views k).fixed.shape (Decided (redos (views k).log.entries) ∷ (views k).claims) B ≡ found_after (turn (latest (redos (views k).log.entries)) B) (here (views k).fixed.shape (views k).claims B)
+  here_now n e B = go (turn (latest (redos (views k).log.entries)) B) ((sight_in (Sealing n) e).turns B)
+    where
+      -- its lock is that of the line that the lane takes for its header
+      line : (B : Block) → (sight_of (views k)).hold.mine B ≡ true → (sight_of (views k)).hold.locked (header o.shape g.geo B) ≡ true → locked (views k).claims (header_in (views k).fixed.shape (views k).claims B) ≡ true
+      line (Small c i) m q = let h = (sight_in (Sealing n) e).hold.class c i (own_has (sight_of (views k)).hold (Small c i) (mine_own (sight_of (views k)).hold (Small c i) m)) in
+          ap (λ s. locked (views k).claims (Rattle.pm_layout.specs.Chunks.line_of_chunk s c + (1 + class (views k).claims c * i))) lane_fits.shape ∙ (ap (λ n. locked (views k).claims (Rattle.pm_layout.specs.Chunks.line_of_chunk o.shape c + (1 + n * i))) h ∙ q)
+      line (Big c) m q = ap (λ s. locked (views k).claims (Rattle.pm_layout.specs.Chunks.line_of_chunk s c)) lane_fits.shape ∙ q
+      line Root m q = q
+
+      go : (a : Option Bool) → TurnFlight ((sight_of (views k)).hold.locked (header o.shape g.geo B)) ((sight_of (views k)).hold.mine B) ((sight_of (views k)).hold.here B) a
+          → (found_after a (found (views k).fixed.shape (views k).claims B) && locked (views k).claims (header_in (views k).fixed.shape (views k).claims B)) ≡ found_after a (here (views k).fixed.shape (views k).claims B)
+      go None f = refl
+      go (Some true) f = line B f.0 f.1
+      go (Some false) f = refl
+
+  sealed_sight : (n : ℕ) → (views k).log.phase ≡ Sealing n → sight_of (goes_on_in (Sealing n) (views k)) ≡ decided_sight (sight_of (views k)) (views k).log.entries
+  sealed_sight n e = λ i. let y = sight_of (goes_on_in (Sealing n) (views k)) in record y { hold = record y.hold { here = λ B. here_now n e B i } }
+
+  pub sealed : (n : ℕ) → (views k).log.phase ≡ Sealing n → Turn views new k (goes_on_in (Sealing n) (views k)) → World o mem new (past_decided (Sealing n) (views k) g)
+  sealed n e t = let v = goes_on_in (Sealing n) (views k) in let g' = past_decided (Sealing n) (views k) g in let a = turned views new k v t in let f = sight_in (Sealing n) e in
+      let only : (m : ℕ) → flies_at (views k).log.phase m → n ≡ m = λ m q. subst (λ z. flies_at z m) e q in
+      world_now (Decided (redos (views k).log.entries) ∷ (views k).claims) (record (views k).log { phase = Applying (views k).log.entries }) (put1 g.decided n true) (λ B. holder_after (views k).fixed.lane (turn (latest (redos (views k).log.entries)) B) (g.holder B)) t
+      (around o.shape o.lanes (origin o) (cells_of o.shape mem) (λ j. sight_of (views j)) (ghost_of g) x.bits k ink (views k).fixed.lane lane_fits.lane n (views k).log.entries f only data_only high (λ p b. refl))
+      (decides o.shape o.lanes (origin o) (cells_of o.shape mem) (λ j. sight_of (views j)) (ghost_of g) x.bits k ink (views k).fixed.lane lane_fits.lane n (views k).log.entries f only data_only high (λ p b. refl) (λ j. sight_of (new j))
+      (record { here = a.here ∙ sealed_sight n e; else_ = a.else_ }))
+      (subst (λ u. LogFits o.shape k ((cells_of o.shape mem).generation k) ((cells_of o.shape mem).seal k) ((cells_of o.shape mem).entry k) ((cells_of o.shape mem).slot k) (settled_words o g') (owns g.geo (settled_words o g') (sight_of v).hold) (sight_of v).picture (record (views k).log { phase = Applying (views k).log.entries }) u) refl
+      (sealed_log o.shape k ((cells_of o.shape mem).generation k) ((cells_of o.shape mem).seal k) ((cells_of o.shape mem).entry k) ((cells_of o.shape mem).slot k) (settled_words o g) (settled_words o g') (owns g.geo (settled_words o g) (sight_of (views k)).hold) (owns g.geo (settled_words o g') (sight_of v).hold) (sight_of (views k)).picture
+      (views k).log (views k).changes lane_fits.log clean n e)) tt (λ w m q. q)
