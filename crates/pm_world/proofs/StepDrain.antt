@@ -1,7 +1,7 @@
 -- ONCE NOTHING IS UNDRAINED the log goes on: a call is decided, or aborted, or its seal is cleared.
 use Rattle.std.specs.Prelude.{List, [], ◌∷◌, ◌++◌, length, slice_get, slice_index, Contains}
-use Rattle.std.proofs.Common.{◌≡◌, ◌≢◌, ℕ, zero, suc, ◌+◌, ◌*◌, ◌/◌, ◌%◌, ◌^◌, ◌<◌, ◌≤◌, ◌⊎◌, inl, inr, ⊎_elim, Bool, true, false, cond, not, ◌&&◌, ◌||◌, eqb, ◌==◌, refl, sym, ap, ◌∙◌, subst, arith, Option, None, Some}
-use Rattle.std.proofs.lemmas.Bool.{cases_eq, cases_Bool, cases_lt, both_ways, and_parts, or_cases, false_from_ne_true}
+use Rattle.std.proofs.Common.{◌≡◌, ◌≢◌, ℕ, zero, suc, ◌+◌, ◌*◌, ◌/◌, ◌%◌, ◌^◌, ◌<◌, ◌≤◌, ◌⊎◌, inl, inr, ⊎_elim, Bool, true, false, cond, not, ◌&&◌, ◌||◌, eqb, ◌==◌, refl, sym, ap, ◌∙◌, subst, arith, eq-eqb, ne_eqb, Option, None, Some}
+use Rattle.std.proofs.lemmas.Bool.{cond-true, cond-false, cases_eq, cases_Bool, cases_lt, both_ways, and_parts, or_cases, false_from_ne_true}
 use Rattle.std.proofs.lemmas.Option.{slice_get-get_or}
 use Rattle.std.proofs.lemmas.Nat.Bits.{bit_at_above}
 use Rattle.pm_layout.specs.declared.shape.Shape.{Shape}
@@ -285,6 +285,102 @@ module _ (o : Opening) (mem : Memory) (views new : Views) (g : Past) (k : ℕ) (
       (around o.shape o.lanes (origin o) (cells_of o.shape mem) (λ j. sight_of (views j)) (ghost_of g) x.bits k ink (views k).fixed.lane lane_fits.lane n (views k).log.entries f only data_only high (λ p b. refl))
       (decides o.shape o.lanes (origin o) (cells_of o.shape mem) (λ j. sight_of (views j)) (ghost_of g) x.bits k ink (views k).fixed.lane lane_fits.lane n (views k).log.entries f only data_only high (λ p b. refl) (λ j. sight_of (new j))
       (record { here = a.here ∙ sealed_sight n e; else_ = a.else_ }))
-      (subst (λ u. LogFits o.shape k ((cells_of o.shape mem).generation k) ((cells_of o.shape mem).seal k) ((cells_of o.shape mem).entry k) ((cells_of o.shape mem).slot k) (settled_words o g') (owns g.geo (settled_words o g') (sight_of v).hold) (sight_of v).picture (record (views k).log { phase = Applying (views k).log.entries }) u) refl
       (sealed_log o.shape k ((cells_of o.shape mem).generation k) ((cells_of o.shape mem).seal k) ((cells_of o.shape mem).entry k) ((cells_of o.shape mem).slot k) (settled_words o g) (settled_words o g') (owns g.geo (settled_words o g) (sight_of (views k)).hold) (owns g.geo (settled_words o g') (sight_of v).hold) (sight_of (views k)).picture
-      (views k).log (views k).changes lane_fits.log clean n e)) tt (λ w m q. q)
+      (views k).log (views k).changes lane_fits.log clean n e) tt (λ w m q. q)
+
+  -- a call without entries, which the next generation decides: it is over at once
+  module _ (n : ℕ) (e : (views k).log.phase ≡ Retiring n) where
+    abbrev kept : Sight
+    kept = record (sight_of (views k)) { phase = Applying [] }
+
+    abbrev ghost : Ghost
+    ghost = ghost_of (past_decided (Retiring n) (views k) g)
+
+    retiring : SightFits o.shape (cells_of o.shape mem) (settled_words o g) (Flies (ghost_of g) k) (ghost_of g) k (record (sight_of (views k)) { phase = Retiring n })
+    retiring = sight_in (Retiring n) e
+
+    no_turn : (B : Block) → turn (latest (redos (views k).log.entries)) B ≡ None
+    no_turn B = retiring.turns B
+
+    in_flight_sight : SightFits o.shape (cells_of o.shape mem) (settled_words o g) (Flies (ghost_of g) k) (ghost_of g) k (record (sight_of (views k)) { phase = Sealing n })
+    in_flight_sight = let f = retiring in record {
+      hold = f.hold;
+      bits = f.bits;
+      picture = f.picture;
+      turns = λ B. subst (TurnFlight ((sight_of (views k)).hold.locked (header o.shape g.geo B)) ((sight_of (views k)).hold.mine B) ((sight_of (views k)).hold.here B)) (sym (no_turn B)) tt;
+      call = record { flight = f.call.flight; todo = f.call.todo; descr = f.call.descr };
+      reach = f.reach;
+      plain = f.plain;
+      logged = f.logged;
+      stored = f.stored;
+      fresh = f.fresh;
+      sizes = f.sizes;
+      born = f.born;
+      guarded = f.guarded;
+      soiled = f.soiled;
+    }
+
+    only_it : (m : ℕ) → flies_at (views k).log.phase m → n ≡ m
+    only_it m q = subst (λ z. flies_at z m) e q
+
+    none_left : (p : Place) (b : ℕ) → latest (redos []) p b ≡ latest (redos (views k).log.entries) p b
+    none_left p b = sym (ap (λ es. latest (redos es) p b) (log_in (Retiring n) e).phase.0)
+
+    same_ghost : decided_ghost (ghost_of g) (views k).fixed.lane (sight_of (views k)).call n ≡ ghost
+    same_ghost = λ i. record (ghost_of g) { decided = put1 g.decided n true; holder = λ B. holder_after (views k).fixed.lane (no_turn B i) (g.holder B) }
+
+    same_sight : decided_sight (sight_of (views k)) [] ≡ kept
+    same_sight = λ i. let y = sight_of (views k) in record y { hold = record y.hold { found = λ B. found_after (no_turn B i) (y.hold.found B); mine = λ B. Rattle.pm_view.specs.Claims.mine_after (no_turn B i) (y.hold.mine B); here = λ B. found_after (no_turn B i) (y.hold.here B) }; phase = Applying [] }
+
+    abbrev between : ℕ → Sight
+    between j = cond (j == k) kept (sight_of (views j))
+
+    between_here : between k ≡ kept
+    between_here = cond-true (k == k) kept (sight_of (views k)) (eq-eqb k k refl)
+
+    between_else : (j : ℕ) → j ≢ k → between j ≡ sight_of (views j)
+    between_else j ne = cond-false (j == k) kept (sight_of (views j)) (ne_eqb j k ne)
+
+    bits_between : Bits o.shape o.lanes (origin o) (cells_of o.shape mem) between ghost
+    bits_between = subst (λ d. Bits o.shape o.lanes (origin o) (cells_of o.shape mem) between d) same_ghost
+        (decides o.shape o.lanes (origin o) (cells_of o.shape mem) (λ j. sight_of (views j)) (ghost_of g) x.bits k ink (views k).fixed.lane lane_fits.lane n [] in_flight_sight only_it data_only high none_left between
+        (record { here = between_here ∙ sym same_sight; else_ = between_else }))
+
+    around_retired : Around k (sight_of (views k)).hold (λ j. (sight_of (views j)).hold) (cells_of o.shape mem) (cells_of o.shape mem) (settled_words o g) (settled_words o (past_decided (Retiring n) (views k) g)) (ghost_of g) ghost
+    around_retired = subst (λ d. Around k (sight_of (views k)).hold (λ j. (sight_of (views j)).hold) (cells_of o.shape mem) (cells_of o.shape mem) (settled_words o g) (settled_words o (past_decided (Retiring n) (views k) g)) (ghost_of g) d) same_ghost
+        (around o.shape o.lanes (origin o) (cells_of o.shape mem) (λ j. sight_of (views j)) (ghost_of g) x.bits k ink (views k).fixed.lane lane_fits.lane n [] in_flight_sight only_it data_only high none_left)
+
+    kept_fits : SightFits o.shape (cells_of o.shape mem) (settled (origin o) ghost) (Flies ghost k) ghost k kept
+    kept_fits = subst (λ y. SightFits o.shape (cells_of o.shape mem) (settled (origin o) ghost) (Flies ghost k) ghost k y) between_here (bits_between.each_lane k)
+
+    pub retired : Turn views new k (goes_on_in (Retiring n) (views k)) → World o mem new (past_decided (Retiring n) (views k) g)
+    retired t = let l = log_in (Retiring n) e in let v = goes_on_in (Retiring n) (views k) in let g' = past_decided (Retiring n) (views k) g in let a = turned views new k v t in
+        world_now (views k).claims (next_log Idle (views k).log) (put1 g.decided n true) g.holder t around_retired
+        (unchanged o.shape o.lanes (origin o) (cells_of o.shape mem) between ghost bits_between k ink (sight_of v) (λ j. sight_of (new j)) (ap (λ y. y.hold) (sym between_here)) (λ m y. absurd (subst (λ z. flies_at z.phase m) between_here y))
+        (over_idle o.shape (cells_of o.shape mem) (settled (origin o) ghost) (Flies ghost k) ghost k kept kept_fits (empty_fresh Idle) (nothing Idle) unsoiled
+        (λ p b q al. (kept_fits.bits p b q).0 al refl (and_false ((sight_of (views k)).logged p)))) (record { here = a.here; else_ = λ j ne. a.else_ j ne ∙ sym (between_else j ne) }))
+        (ended o.shape k ((cells_of o.shape mem).generation k) ((cells_of o.shape mem).seal k) ((cells_of o.shape mem).entry k) ((cells_of o.shape mem).slot k) (settled_words o g) (settled_words o g') (owns g.geo (settled_words o g) (sight_of (views k)).hold) (owns g.geo (settled_words o g') (sight_of (views k)).hold) (sight_of (views k)).picture
+        (record (views k).log { phase = Retiring n }) (views k).changes l clean l.bump l.sealed l.phase.1 Idle refl refl (refl, refl, refl, refl)) tt (λ w m q. q)
+
+pub goes_on_clearing : GoesOnAt Clearing
+goes_on_clearing = in_phase Clearing (λ o mem views new g k x ink clean e t. cleared o mem views new g k x ink clean e t)
+
+pub goes_on_voiding : GoesOnAt Voiding
+goes_on_voiding = in_phase Voiding (λ o mem views new g k x ink clean e t. voided o mem views new g k x ink clean e t)
+
+pub goes_on_sealing : (n : ℕ) → GoesOnAt (Sealing n)
+goes_on_sealing n = in_phase (Sealing n) (λ o mem views new g k x ink clean e t. sealed o mem views new g k x ink clean n e t)
+
+pub goes_on_retiring : (n : ℕ) → GoesOnAt (Retiring n)
+goes_on_retiring n = in_phase (Retiring n) (λ o mem views new g k x ink clean e t. retired o mem views new g k x ink clean n e t)
+
+-- IN EACH PHASE
+pub goes_on_in_each : (ph : Phase) → GoesOnAt ph
+goes_on_in_each Idle = goes_on_idle
+goes_on_in_each Open = goes_on_open
+goes_on_in_each (Drawn n) = goes_on_drawn n
+goes_on_in_each (Sealing n) = goes_on_sealing n
+goes_on_in_each (Applying todo) = goes_on_applying todo
+goes_on_in_each Clearing = goes_on_clearing
+goes_on_in_each (Retiring n) = goes_on_retiring n
+goes_on_in_each Voiding = goes_on_voiding
