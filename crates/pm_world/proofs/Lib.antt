@@ -15,4 +15,8 @@ pub mod Stores
 pub mod Decides
 pub mod StepDrain
 pub mod Stored
+pub mod AfterStore
+pub mod StoreArea
+pub mod PlacesAt
+pub mod Entering
 pub mod Crashes

@@ -183,7 +183,7 @@ module _ (o : Opening) (mem : Memory) (views new : Views) (g : Past) (k : ℕ) (
       → Bits o.shape o.lanes (origin o) (cells_of o.shape mem) (λ j. sight_of (new j)) (ghost_of g') → AreaFits o mem g' k v → NumberFits log.phase (views k).number
       → ((w n : ℕ) → pictured (views k).fixed.shape claims w ≡ Some n → pictured (views k).fixed.shape (views k).claims w ≡ Some n) → World o mem new g'
   world_now claims log decided holder t m bits area number known = let v = record (views k) { claims = claims; log = log } in let g' = record g { decided = decided; holder = holder } in let f = lane_fits in world_after o mem views g x k ink mem new g' (settled_words o g') v refl m
-      record { generation = λ j ne. refl; seal = λ j ne. refl; entry = λ j i q a b ne. refl; slot = λ j i q a b ne. refl; zone = λ z j ne. refl; entries = λ j ne. refl } t bits
+      record { generation = λ j ne. refl; seal = λ j ne. refl; entry = λ j i q ne. refl; slot = λ j i q ne. refl; zone = λ z j ne. refl; entries = λ j ne. refl } t bits
       record {
         lane = f.lane;
         shape = f.shape;

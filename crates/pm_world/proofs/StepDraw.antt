@@ -156,8 +156,8 @@ module _ (o : Opening) (mem new : Memory) (views views' : Views) (g : Past) (x :
   aside = record {
     generation = λ j ne. ap (λ c. c.generation j) cells_new;
     seal = λ j ne. ap (λ c. c.seal j) cells_new;
-    entry = λ j i h _ _ ne. ap (λ c. c.entry j i h) cells_new;
-    slot = λ j m i _ _ ne. ap (λ c. c.slot j m i) cells_new;
+    entry = λ j i h ne. ap (λ c. c.entry j i h) cells_new;
+    slot = λ j m i ne. ap (λ c. c.slot j m i) cells_new;
     zone = λ z j ne. ap (λ c. c.zone z == suc j) cells_new;
     entries = λ j ne. let lane : (put1 g.drew g.length (views k) g.length).fixed.lane ≡ k = ap (λ y. y.fixed.lane) (put1_here g.drew g.length (views k)) ∙ f.lane in
         cond-false ((put1 g.drew g.length (views k) g.length).fixed.lane == j) (record { number = suc g.length; call = (put1 g.drew g.length (views k) g.length).call } ∷ numbered_by j (put1 g.drew g.length (views k)) g.length) (numbered_by j (put1 g.drew g.length (views k)) g.length) (ne_eqb (put1 g.drew g.length (views k) g.length).fixed.lane j (λ q. ne (sym (sym lane ∙ q))))

@@ -23,7 +23,7 @@ module _ (o : Opening) (mem new : Memory) (views views' : Views) (g : Past) (x :
   pub plain_step : sight_of v ≡ sight_of (views k) → may_draw v ≡ may_draw (views k) → (IsAtStop (views k) → IsAtStop v) → LaneFits o mem g k v → World o new views' g
   plain_step sight draws stops f = subst (λ m. World o m views' g) (λ i l. sym (same l) i) (world_after o mem views g x k ink mem views' g (settled_words o g) v refl
       record { writer = λ l j ne. refl; reader = λ l j ne. refl; pool = λ p b u w. refl; set = λ p b u. refl; descr = λ c u. refl; up = λ c n e. e; runs = λ c u. refl; holder = λ B j ne e. e; holder_back = λ B j ne e. e; class = λ c u. refl; first = λ c j ne. inl refl; flies = λ j n d ne w y. y }
-      record { generation = λ j ne. refl; seal = λ j ne. refl; entry = λ j i h _ _ ne. refl; slot = λ j m i _ _ ne. refl; zone = λ z j ne. refl; entries = λ j ne. refl }
+      record { generation = λ j ne. refl; seal = λ j ne. refl; entry = λ j i h ne. refl; slot = λ j m i ne. refl; zone = λ z j ne. refl; entries = λ j ne. refl }
       t (unchanged o.shape o.lanes (origin o) (cells_of o.shape mem) (λ j. sight_of (views j)) (ghost_of g) x.bits k ink (sight_of v) (λ j. sight_of (views' j)) (ap (λ y. y.hold) sight) (λ n y. subst (λ z. Rattle.pm_world.specs.Lanes.flies_at z.phase n) (sym sight) y)
       (subst (λ y. SightFits o.shape (cells_of o.shape mem) (settled_words o g) (Flies (ghost_of g) k) (ghost_of g) k y) (sym sight) (x.bits.each_lane k)) (turned views views' k v t))
       f x.of_lanes x.small x.header (subst (λ n. mem CommitCounter + n < Rattle.pm_view.specs.Limits.greatest_generation o.shape + 32) (sym (count_same views views' k v t draws o.lanes)) x.counter_room)
