@@ -27,7 +27,7 @@ use Rattle.pm_world.specs.World.{Opening, Views, Past, origin, ghost_of, settled
 use Rattle.pm_world.specs.Course.{holder_after, past_made, past_decided, past_drained}
 use Rattle.pm_world.specs.Laws.{Turn, Keeps}
 use Rattle.pm_world.proofs.Counting.{count_same}
-use Rattle.pm_world.proofs.Decides.{decided_ghost, decided_sight, some_of, none_of, over_idle, over_open, around, decides}
+use Rattle.pm_world.proofs.Decides.{decided_ghost, decided_sight, some_of, none_of, over_idle, over_open, owned_now, around, decides}
 use Rattle.pm_world.proofs.Frame.{Around, mine_own, found_has, own_has}
 use Rattle.pm_world.proofs.Going.{Turned, at_phase, unchanged}
 use Rattle.pm_world.proofs.StepPlain.{plain_step}
@@ -71,7 +71,7 @@ module _ (sh : Shape) (lane generation seal : ℕ) (entry slot : ℕ → ℕ →
     pair_part = λ i q. absurd (omega arith);
     records = λ i e q. absurd (both_ways false refl (ap given q));
     once = λ j m r q p y z e. absurd (both_ways false refl (ap given e));
-    olds = λ _ p y e. absurd (both_ways false refl (ap given e));
+    olds = λ p y e. absurd (both_ways false refl (ap given e));
     slot_part = λ i q. absurd (omega arith);
     stale = λ j u _ q e. ⊎_elim (λ (a : j < length l.records). older j u e a) (λ (a : length l.records ≤ j). let z = f.stale j u (used j a) q e in omega arith) (cases_lt j (length l.records));
     area_changes = λ i d q. let z = ap length clean in absurd (omega arith);
@@ -86,8 +86,8 @@ module _ (sh : Shape) (lane generation seal : ℕ) (entry slot : ℕ → ℕ →
           let q = generation_of (slot_list (slot j)) u e in omega arith
 
   -- its entries are to be applied
-  pub sealed_log : (n : ℕ) → l.phase ≡ Sealing n → LogFits sh lane generation seal entry slot S' owned' picture (record l { phase = Applying l.entries }) changes
-  sealed_log n e = let bump : l.bumped ≡ false = subst (λ ph. BumpFits ph l.bumped) e f.bump in let phase = subst (λ ph. PhaseFits sh lane picture l changes ph) e f.phase in record {
+  pub sealed_log : (n : ℕ) → l.phase ≡ Sealing n → ((p : Place) (b : ℕ) → owned p b ≡ true → owned' p b ≡ true) → LogFits sh lane generation seal entry slot S' owned' picture (record l { phase = Applying l.entries }) changes
+  sealed_log n e to = let bump : l.bumped ≡ false = subst (λ ph. BumpFits ph l.bumped) e f.bump in let phase = subst (λ ph. PhaseFits sh lane picture l changes ph) e f.phase in record {
     first = f.first;
     last = f.last;
     below = f.below;
@@ -100,7 +100,7 @@ module _ (sh : Shape) (lane generation seal : ℕ) (entry slot : ℕ → ℕ →
     pair_part = f.pair_part;
     records = f.records;
     once = f.once;
-    olds = λ u. absurd (both_ways true u refl);
+    olds = λ p y q b. (to p b (f.olds p y q b).0, λ u. absurd (both_ways true u refl));
     slot_part = f.slot_part;
     stale = f.stale;
     area_changes = λ i d q. let z = ap length clean in absurd (omega arith);
@@ -238,7 +238,7 @@ module _ (o : Opening) (mem : Memory) (views new : Views) (g : Past) (k : ℕ) (
   restored_bit : (views k).log.phase ≡ Voiding → (p : Place) (b : ℕ) → owns g.geo (settled_words o g) (sight_of (views k)).hold p b ≡ true → live (settled_words o g) g.geo g.runs p ≡ true → read (cells_of o.shape mem).pool p b ≡ settled_words o g p b
   restored_bit e p b t al = let l = log_in Voiding e in let z = (at_phase o.shape o.lanes (origin o) (cells_of o.shape mem) (λ j. sight_of (views j)) (ghost_of g) x.bits k ink Voiding e).bits p b t in
       ⊎_elim (λ (q : (sight_of (views k)).logged p ≡ true). let r = old_some (old_of (views k).log.records p) (logged_recorded (views k).fixed.shape (views k).fixed.lane (views k).changes 0 (views k).log.records p q) in
-      z.3 (bit r.0 b) (l.phase.3 p r.0 b r.1) ∙ sym (l.olds refl p r.0 r.1 b).1)
+      z.3 (bit r.0 b) (l.phase.3 p r.0 b r.1) ∙ sym ((l.olds p r.0 r.1 b).1 refl))
       (λ (q : (sight_of (views k)).logged p ≡ false). z.0 al refl (ap (λ y. y && true) q)) (cases_Bool ((sight_of (views k)).logged p))
 
   pub voided : (views k).log.phase ≡ Voiding → Turn views new k (goes_on_in Voiding (views k)) → World o mem new g
@@ -287,7 +287,8 @@ module _ (o : Opening) (mem : Memory) (views new : Views) (g : Past) (k : ℕ) (
       (decides o.shape o.lanes (origin o) (cells_of o.shape mem) (λ j. sight_of (views j)) (ghost_of g) x.bits k ink (views k).fixed.lane lane_fits.lane n (views k).log.entries f only data_only high (λ p b. refl) (λ j. sight_of (new j))
       (record { here = a.here ∙ sealed_sight n e; else_ = a.else_ }))
       (sealed_log o.shape k ((cells_of o.shape mem).generation k) ((cells_of o.shape mem).seal k) ((cells_of o.shape mem).entry k) ((cells_of o.shape mem).slot k) (settled_words o g) (settled_words o g') (owns g.geo (settled_words o g) (sight_of (views k)).hold) (owns g.geo (settled_words o g') (sight_of v).hold) (sight_of (views k)).picture
-      (views k).log (views k).changes lane_fits.log clean n e) tt (λ w m q. q)
+      (views k).log (views k).changes lane_fits.log clean n e
+      (λ p b q. subst (λ y. owns g.geo (settled_words o g') y.hold p b ≡ true) (sym (sealed_sight n e)) (owned_now o.shape o.lanes (origin o) (cells_of o.shape mem) (λ j. sight_of (views j)) (ghost_of g) x.bits k ink (views k).fixed.lane lane_fits.lane n (views k).log.entries f only data_only high (λ p b. refl) p b q))) tt (λ w m q. q)
 
   -- a call without entries, which the next generation decides: it is over at once
   module _ (n : ℕ) (e : (views k).log.phase ≡ Retiring n) where
