@@ -2,7 +2,7 @@
 use Rattle.std.specs.Prelude.{List}
 use Rattle.std.specs.Option.{option_map}
 use Rattle.std.proofs.Common.{◌≡◌, ◌≢◌, ℕ, zero, suc, ◌+◌, ◌-◌, ◌*◌, ◌/◌, ◌%◌, ◌^◌, ◌<◌, ◌≤◌, ◌⊎◌, inl, inr, ⊎_elim, nat_le, nat_lt, Bool, true, false, cond, ◌==◌, ◌&&◌, ◌||◌, eqb, refl, sym, ap, ◌∙◌, subst, arith, eq-eqb, ne_eqb, Option, None, Some}
-use Rattle.std.proofs.lemmas.Bool.{cases_eq, cases_Bool, eqb-true, le-leb, leb-true, both_ways, and_parts, and_from, or_cases, or_left, or_right, cond-true, cond-false, false_from_ne_true}
+use Rattle.std.proofs.lemmas.Bool.{lt-ltb, ltb-true, cases_eq, cases_Bool, eqb-true, le-leb, leb-true, both_ways, and_parts, and_from, or_cases, or_left, or_right, cond-true, cond-false, false_from_ne_true}
 use Rattle.std.proofs.Math.Nat.{mod-eq-sub-mul-div, mul-div-le, mod-lt, mul-mod_right}
 use Rattle.pm_layout.specs.declared.shape.Shape.{Shape}
 use Rattle.pm_layout.specs.Chunks.{word_of_chunk, page_of_chunk, page_of_zone}
@@ -20,12 +20,6 @@ use Rattle.pm_world.proofs.Geometry.{size_part}
 use Rattle.pm_world.proofs.Frame.{own_has, fresh_given}
 use Rattle.pm_world.proofs.Replays.{over_none}
 use Rattle.pm_world.proofs.Values.{val_word}
-
-data_pictured : (p : Place) → is_data p ≡ true → is_pictured p ≡ true
-data_pictured (InRun c w) e = e
-data_pictured (InHuge c w) e = refl
-data_pictured (Descr c) e = e
-data_pictured RootWord e = refl
 
 option_cases : (a : Option Bool) → (a ≡ None) ⊎ ((a ≡ Some true) ⊎ (a ≡ Some false))
 option_cases None = inl refl
@@ -61,11 +55,11 @@ first_known sh cells S flies g k v f c o = let e = f.hold.first c o in
 module _ (sh : Shape) (cells : Cells) (S : State) (flies : ℕ → Diff → Type 0) (g : Ghost) (geo : GeoFits sh S g) (k : ℕ) (v : View) (f : SightFits sh cells S flies g k (sight_of v))
     (new : (B : Block) → turn (latest (redos v.log.entries)) B ≡ Some true → NewBlock v B) where
   -- what was stored in a block that the call allocates is in its difference
-  stored_at : (p : Place) (b : ℕ) → is_data p ≡ true → turn (latest (redos v.log.entries)) (block_of (geometry v.fixed.shape v.claims) p b) ≡ Some true → (x : ℕ) → value_in v (word_of v.fixed.shape p) ≡ Some x → (call_in v).fresh p b ≡ Some (bit x b)
-  stored_at p b d t x e = let made = is_made (turn (latest (redos v.log.entries)) (block_of (geometry v.fixed.shape v.claims) p b)) in let rec = is_recorded v.log.records p in
+  stored_at : (p : Place) (b : ℕ) → is_data p ≡ true → is_pictured p ≡ true → turn (latest (redos v.log.entries)) (block_of (geometry v.fixed.shape v.claims) p b) ≡ Some true → (x : ℕ) → value_in v (word_of v.fixed.shape p) ≡ Some x → (call_in v).fresh p b ≡ Some (bit x b)
+  stored_at p b d q t x e = let made = is_made (turn (latest (redos v.log.entries)) (block_of (geometry v.fixed.shape v.claims) p b)) in let rec = is_recorded v.log.records p in
       let seen = option_map (λ y. bit y b) (value_in v (word_of v.fixed.shape p)) in
       cond-true (is_data p && (made || rec)) (cond (is_pictured p) seen None) None (and_from (is_data p) (made || rec) d (or_left made rec (ap is_made t)))
-      ∙ (cond-true (is_pictured p) seen None (data_pictured p d) ∙ ap (option_map (λ y. bit y b)) e)
+      ∙ (cond-true (is_pictured p) seen None q ∙ ap (option_map (λ y. bit y b)) e)
 
   -- a block's size stays, unless the call allocates the block; then it is what was stored
   size_stays : (p : Place) (B : Block) → is_size g.geo p ≡ true → ((b : ℕ) → block_of g.geo p b ≡ B) → turn (latest (redos v.log.entries)) B ≡ None → after_diff (diff (call_in v)) S p ≡ S p
@@ -75,11 +69,11 @@ module _ (sh : Shape) (cells : Cells) (S : State) (flies : ℕ → Diff → Type
       same b = let y = f.sizes p b s in over_none (diff (call_in v) p b) (S p b) (both_none (latest (redos v.log.entries) p b) ((call_in v).fresh p b) y.0
           (false_from_ne_true (given ((call_in v).fresh p b)) (λ u. both_ways false refl (ap is_some (sym n ∙ (ap (turn (latest (redos v.log.entries))) (sym (at b)) ∙ y.1 u))))))
 
-  size_stored : (p : Place) (x : ℕ) → is_size g.geo p ≡ true → is_data p ≡ true → ((b : ℕ) → turn (latest (redos v.log.entries)) (block_of (geometry v.fixed.shape v.claims) p b) ≡ Some true) → value_in v (word_of v.fixed.shape p) ≡ Some x → after_diff (diff (call_in v)) S p ≡ bit x
-  size_stored p x s d t e = λ i b. same b i
+  size_stored : (p : Place) (x : ℕ) → is_size g.geo p ≡ true → is_data p ≡ true → is_pictured p ≡ true → ((b : ℕ) → turn (latest (redos v.log.entries)) (block_of (geometry v.fixed.shape v.claims) p b) ≡ Some true) → value_in v (word_of v.fixed.shape p) ≡ Some x → after_diff (diff (call_in v)) S p ≡ bit x
+  size_stored p x s d q t e = λ i b. same b i
     where
       same : (b : ℕ) → over (diff (call_in v) p b) (S p b) ≡ bit x b
-      same b = ap (λ a. over (first_of_two a ((call_in v).fresh p b)) (S p b)) (none_of (latest (redos v.log.entries) p b) (f.sizes p b s).0) ∙ ap (λ a. over a (S p b)) (stored_at p b d (t b) x e)
+      same b = ap (λ a. over (first_of_two a ((call_in v).fresh p b)) (S p b)) (none_of (latest (redos v.log.entries) p b) (f.sizes p b s).0) ∙ ap (λ a. over a (S p b)) (stored_at p b d q (t b) x e)
 
   born_run : (c w b : ℕ) → owns g.geo S (sight_of v).hold (InRun c w) b ≡ true → live S g.geo g.runs (InRun c w) ≡ false → live (after_diff (diff (call_in v)) S) g.geo g.runs (InRun c w) ≡ true → given (diff (call_in v) (InRun c w) b) ≡ true
   born_run c w b o dead alive = let cl = g.geo.class c in let i = (w / 8 - 1) / cl in let l = (w / 8 - 1) % cl in let S' = after_diff (diff (call_in v)) S in
@@ -107,12 +101,14 @@ module _ (sh : Shape) (cells : Cells) (S : State) (flies : ℕ → Diff → Type
           let tv : (a : ℕ) → turn (latest (redos v.log.entries)) (block_of (geometry v.fixed.shape v.claims) p a) ≡ Some true = λ a. ap (turn (latest (redos v.log.entries))) (ofv a) ∙ n in
           let base = word_of_chunk v.fixed.shape c in
           let sized : value_in v (word_of v.fixed.shape p) ≡ Some m.size = ap (value_in v) (let e : base + (8 * (1 + cl * i) + 1) ≡ base + 8 * (1 + cl * i) + 1 = omega arith in e ∙ ap (λ a. base + 8 * (1 + a * i) + 1) (sym known)) ∙ m.sized in
-          let stored = size_stored p m.size s (and_parts (nat_le 8 (8 * (1 + cl * i) + 1)) ((((8 * (1 + cl * i) + 1) / 8 - 1) % cl == 0) && ((8 * (1 + cl * i) + 1) % 8 == 1)) s).0 tv sized in
+          let size_data : is_data p ≡ true = (and_parts (nat_le 8 (8 * (1 + cl * i) + 1)) ((((8 * (1 + cl * i) + 1) / 8 - 1) % cl == 0) && ((8 * (1 + cl * i) + 1) % 8 == 1)) s).0 in
+          let small : w < 512 = ltb-true w 512 (and_parts (nat_le 8 w) (nat_lt w 512) range).1 in let whole = in_line (w / 8 - 1) cl in
+          let stored = size_stored p m.size s size_data (and_from (nat_le 8 (8 * (1 + cl * i) + 1)) (nat_lt (8 * (1 + cl * i) + 1) 512) size_data (lt-ltb (8 * (1 + cl * i) + 1) 512 (omega arith))) tv sized in
           let l' : l ≤ (m.size + 63) / 64 = leb-true l ((m.size + 63) / 64) (sym (ap (λ a. nat_le l ((a + 63) / 64)) (val_word m.size m.small)) ∙ (sym (ap (λ a. lit a l) stored) ∙ u.1)) in
           let line = in_line (w / 8 - 1) cl in
           let e : base + 8 * (1 + class v.claims c * i) + (8 * l + w % 8) ≡ base + w = ap (λ a. base + 8 * (1 + a * i) + (8 * l + w % 8)) known ∙ omega arith in
           let val = some_value (value_in v (base + w)) (λ a. m.filled l (w % 8) l' (omega arith) (ap (value_in v) e ∙ a)) in
-          fresh_given (latest (redos v.log.entries) (InRun c w) b) ((call_in v).fresh (InRun c w) b) (ap given (stored_at (InRun c w) b d (ap (λ a. turn (latest (redos v.log.entries)) (Small c a)) (ap (λ a. part a w b) known ∙ at cl) ∙ n) val.0 val.1)))
+          fresh_given (latest (redos v.log.entries) (InRun c w) b) ((call_in v).fresh (InRun c w) b) (ap given (stored_at (InRun c w) b d range (ap (λ a. turn (latest (redos v.log.entries)) (Small c a)) (ap (λ a. part a w b) known ∙ at cl) ∙ n) val.0 val.1)))
           (λ (n : latest (redos v.log.entries) (InRun c 0) i ≡ Some false). absurd (both_ways (S' (InRun c 0) i) (ap (λ a. over (first_of_two a None) (S (InRun c 0) i)) n) u.0))) (option_cases (latest (redos v.log.entries) (InRun c 0) i))
 
   born_huge : (c w b : ℕ) → owns g.geo S (sight_of v).hold (InHuge c w) b ≡ true → live S g.geo g.runs (InHuge c w) ≡ false → live (after_diff (diff (call_in v)) S) g.geo g.runs (InHuge c w) ≡ true → given (diff (call_in v) (InHuge c w) b) ≡ true
@@ -127,12 +123,12 @@ module _ (sh : Shape) (cells : Cells) (S : State) (flies : ℕ → Diff → Type
       (and_from (S (Descr h) 1) (lit (S p) l) (sym (ap (λ a. over (first_of_two a None) (S (Descr h) 1)) n) ∙ u.0) (sym (ap (λ a. lit a l) (size_stays p (Big h) s of n)) ∙ u.1)))))
       (⊎_elim (λ (n : latest (redos v.log.entries) (Descr h) 1 ≡ Some true). let m = new (Big h) n in
       let tv : (a : ℕ) → turn (latest (redos v.log.entries)) (block_of (geometry v.fixed.shape v.claims) p a) ≡ Some true = λ a. ap (turn (latest (redos v.log.entries))) (ofv a) ∙ n in
-      let stored = size_stored p m.size s refl tv m.sized in
+      let stored = size_stored p m.size s refl refl tv m.sized in
       let l' : l ≤ (m.size + 63) / 64 = leb-true l ((m.size + 63) / 64) (sym (ap (λ a. nat_le l ((a + 63) / 64)) (val_word m.size m.small)) ∙ (sym (ap (λ a. lit a l) stored) ∙ u.1)) in
       let span = and_parts (nat_le h c) (nat_lt c (h + (sight_of v).hold.span h)) (sym (f.hold.span h hb c) ∙ eq-eqb (g.geo.first c) h refl) in
-      let e = word_at h c w ((sight_of v).hold.span h) (leb-true h c span.0) (Rattle.std.proofs.lemmas.Bool.ltb-true c (h + (sight_of v).hold.span h) span.1) (f.hold.zone h hb) (Rattle.std.proofs.lemmas.Bool.ltb-true w 512 y.0) in
+      let e = word_at h c w ((sight_of v).hold.span h) (leb-true h c span.0) (ltb-true c (h + (sight_of v).hold.span h) span.1) (f.hold.zone h hb) (ltb-true w 512 y.0) in
       let val = some_value (value_in v (word_of_chunk v.fixed.shape c + w)) (λ a. m.filled l (w % 8) l' (omega arith) (ap (value_in v) e ∙ a)) in
-      fresh_given (latest (redos v.log.entries) (InHuge c w) b) ((call_in v).fresh (InHuge c w) b) (ap given (stored_at (InHuge c w) b refl (ap (λ a. turn (latest (redos v.log.entries)) (Big a)) (first_known sh cells S flies g k v f c hb) ∙ n) val.0 val.1)))
+      fresh_given (latest (redos v.log.entries) (InHuge c w) b) ((call_in v).fresh (InHuge c w) b) (ap given (stored_at (InHuge c w) b refl y.0 (ap (λ a. turn (latest (redos v.log.entries)) (Big a)) (first_known sh cells S flies g k v f c hb) ∙ n) val.0 val.1)))
       (λ (n : latest (redos v.log.entries) (Descr h) 1 ≡ Some false). absurd (both_ways (S' (Descr h) 1) (ap (λ a. over (first_of_two a None) (S (Descr h) 1)) n) u.0))) (option_cases (latest (redos v.log.entries) (Descr h) 1))
     where
       -- the chunks of a huge block lie one after another in one zone

@@ -12,6 +12,8 @@ pub mod Values
 pub mod Births
 pub mod StepDraw
 pub mod Stores
+pub mod Decides
+pub mod StepDrain
 pub mod Stored
 pub mod AfterStore
 pub mod StoreArea

@@ -80,7 +80,7 @@ module _ (o : Opening) (mem : Memory) (views : Views) (g : Past) (x : World o me
       pair_part = λ i q. let r = parts_short o.shape j (sight_of (views j)).picture (views j).log (views j).changes (views j).log.phase l.phase in let most = l.entries_most in a.entry j (length (views j).log.entries) i most_ (omega arith) (omega arith) ne ∙ l.pair_part i q;
       records = λ i r q. let t = l.records i r q in let n = slice_get_within (views j).log.records i r q in let most = l.records_most in (λ y z. a.slot j i y most_ (omega arith) z ne ∙ t.0 y z, t.1, t.2, t.3, t.4, t.5);
       once = l.once;
-      olds = λ u p y q b z. let t = l.olds u p y q b z in (owned p b t.0, m.set p b (away p b t.0) ∙ t.1);
+      olds = λ p y q b. let t = l.olds p y q b in (owned p b t.0, λ u. m.set p b (away p b t.0) ∙ t.1 u);
       slot_part = λ i q. let r = parts_short o.shape j (sight_of (views j)).picture (views j).log (views j).changes (views j).log.phase l.phase in let most = slot_taken (views j).log i q in let n = l.records_most in a.slot j (length (views j).log.records) i most_ (omega arith) (omega arith) ne ∙ l.slot_part i q;
       stale = λ i u q z t. l.stale i u q z (sym (ap undo_of (slots i z)) ∙ t);
       area_changes = l.area_changes;

@@ -1,5 +1,5 @@
 -- What a lane's view says of each line, block, chunk and place: point functions over its lists.
-use Rattle.std.specs.Prelude.{ℕ, Bool, true, false, cond, not, ◌==◌, ◌&&◌, ◌||◌, List, [], ◌∷◌, Option, None, Some}
+use Rattle.std.specs.Prelude.{ℕ, nat_lt, Bool, true, false, cond, not, ◌==◌, ◌&&◌, ◌||◌, List, [], ◌∷◌, Option, None, Some}
 use Rattle.std.specs.Option.{option_map}
 use Rattle.std.specs.Int.{bit_at}
 use Rattle.pm_layout.specs.declared.shape.Shape.{Shape}
@@ -30,10 +30,10 @@ pub record Hold : Type 0 where
 abbrev pub hold_of : Shape → List Claim → Hold
 hold_of sh t = record { locked = locked t; reads = reads t; found = found sh t; mine = mine sh t; here = here sh t; making = making sh t; class = class t; span = span sh t; first = first sh t }
 
--- a place that may be data or the root's offset: a lane's picture is of these
+-- a place that may be data or the root's offset: a lane's picture is of these; a chunk has 512 words
 abbrev pub is_pictured : Place → Bool
-is_pictured (InRun c w) = is_data (InRun c w)
-is_pictured (InHuge c w) = is_data (InHuge c w)
+is_pictured (InRun c w) = is_data (InRun c w) && nat_lt w 512
+is_pictured (InHuge c w) = nat_lt w 512
 is_pictured (Descr c) = false
 is_pictured RootWord = true
 
@@ -43,8 +43,8 @@ picture sh t p b = cond (is_pictured p) (option_map (λ x. bit_at x b == 1) (pic
 
 -- the place has the word's use: words of runs are such to a lane that knows the run; a descriptor that it stores itself is none of the pool's, but the run's
 abbrev pub is_use : Hold → Place → Bool
-is_use h (InRun c w) = not (h.class c == 0)
-is_use h (InHuge c w) = h.class c == 0
+is_use h (InRun c w) = nat_lt w 512 && not (h.class c == 0)
+is_use h (InHuge c w) = nat_lt w 512 && h.class c == 0
 is_use h (Descr c) = not (h.making c)
 is_use h RootWord = true
 
