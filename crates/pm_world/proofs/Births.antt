@@ -2,18 +2,18 @@
 use Rattle.std.specs.Prelude.{List}
 use Rattle.std.specs.Option.{option_map}
 use Rattle.std.proofs.Common.{◌≡◌, ◌≢◌, ℕ, zero, suc, ◌+◌, ◌-◌, ◌*◌, ◌/◌, ◌%◌, ◌^◌, ◌<◌, ◌≤◌, ◌⊎◌, inl, inr, ⊎_elim, nat_le, nat_lt, Bool, true, false, cond, ◌==◌, ◌&&◌, ◌||◌, eqb, refl, sym, ap, ◌∙◌, subst, arith, eq-eqb, ne_eqb, Option, None, Some}
-use Rattle.std.proofs.lemmas.Bool.{cases_eq, cases_Bool, eqb-true, le-leb, leb-true, both_ways, and_parts, and_from, or_cases, or_left, or_right, cond-true, cond-false, false_from_ne_true}
+use Rattle.std.proofs.lemmas.Bool.{lt-ltb, ltb-true, cases_eq, cases_Bool, eqb-true, le-leb, leb-true, both_ways, and_parts, and_from, or_cases, or_left, or_right, cond-true, cond-false, false_from_ne_true}
 use Rattle.std.proofs.Math.Nat.{mod-eq-sub-mul-div, mul-div-le, mod-lt, mul-mod_right}
 use Rattle.pm_layout.specs.declared.shape.Shape.{Shape}
 use Rattle.pm_layout.specs.Chunks.{word_of_chunk, page_of_chunk, page_of_zone}
 use Rattle.pm_view.specs.Places.{Place, InRun, InHuge, Descr, RootWord, Block, Small, Big, Root, part, block_of, is_data, in_span, word_of}
 use Rattle.pm_view.specs.Entries.{latest, redos, turn, first_of_two}
-use Rattle.pm_view.specs.Claims.{class, first, geometry}
+use Rattle.pm_view.specs.Claims.{class, first, span, geometry}
 use Rattle.pm_view.specs.View.{View}
 use Rattle.pm_view.specs.Views.{value_in}
 use Rattle.pm_world.specs.States.{State, Diff, diff, given, over, after_diff, lit, size_at, bright, shown, bright_huge, live, Cells}
 use Rattle.pm_world.specs.Sights.{is_pictured, is_made, is_recorded, call_in, sight_of}
-use Rattle.pm_world.specs.Lanes.{Ghost, own, owns, is_size, BornFits, SightFits, GeoFits}
+use Rattle.pm_world.specs.Lanes.{Ghost, own, has, owns, is_size, BornFits, SightFits, GeoFits}
 use Rattle.pm_world.specs.Lawful.{NewBlock}
 use Rattle.pm_world.specs.Memory.{bit}
 use Rattle.pm_world.proofs.Geometry.{size_part}
@@ -49,6 +49,10 @@ in_line n cl = let a = mod-eq-sub-mul-div n cl in let b = mul-div-le n cl in ome
 -- the size of a word's block is within the chunk too
 size_inside : (cl w : ℕ) → w < 512 → nat_lt (8 * (1 + cl * ((w / 8 - 1) / cl)) + 1) 512 ≡ true
 size_inside cl w l = let a = mul-div-le (w / 8 - 1) cl in Rattle.std.proofs.lemmas.Bool.lt-ltb (8 * (1 + cl * ((w / 8 - 1) / cl)) + 1) 512 (omega arith)
+
+-- the first chunk of a huge block that the lane has, as the lane knows it
+pub first_known : (sh : Shape) (cells : Cells) (S : State) (flies : ℕ → Diff → Type 0) (g : Ghost) (k : ℕ) (v : View) → SightFits sh cells S flies g k (sight_of v) → (c : ℕ) → has (sight_of v).hold (Big (g.geo.first c)) ≡ true → first v.fixed.shape v.claims c ≡ g.geo.first c
+first_known sh cells S flies g k v f c o = f.hold.first c o
 
 module _ (sh : Shape) (cells : Cells) (S : State) (flies : ℕ → Diff → Type 0) (g : Ghost) (geo : GeoFits sh S g) (k : ℕ) (v : View) (f : SightFits sh cells S flies g k (sight_of v))
     (new : (B : Block) → turn (latest (redos v.log.entries)) B ≡ Some true → NewBlock v B) where
@@ -115,7 +119,7 @@ module _ (sh : Shape) (cells : Cells) (S : State) (flies : ℕ → Diff → Type
       let s : is_size g.geo p ≡ true = and_from (g.geo.first h == h) true (eq-eqb (g.geo.first h) h (geo.twice c)) refl in
       let of : (n : ℕ) → block_of g.geo p n ≡ Big h = λ n. ap (λ a. Big a) (geo.twice c) in
       let hb' : (Rattle.pm_world.specs.Lanes.has (sight_of v).hold (Big (g.geo.first h))) ≡ true = subst (λ a. Rattle.pm_world.specs.Lanes.has (sight_of v).hold (Big a) ≡ true) (sym (geo.twice c)) hb in
-      let ofv : (n : ℕ) → block_of (geometry v.fixed.shape v.claims) p n ≡ Big h = λ n. ap (λ a. Big a) (f.hold.first h hb' ∙ geo.twice c) in
+      let ofv : (n : ℕ) → block_of (geometry v.fixed.shape v.claims) p n ≡ Big h = λ n. ap (λ a. Big a) (first_known sh cells S flies g k v f h hb' ∙ geo.twice c) in
       ⊎_elim (λ (n : latest (redos v.log.entries) (Descr h) 1 ≡ None). absurd (both_ways (live S g.geo g.runs (InHuge c w)) dead (and_from (nat_lt w 512) (bright_huge S h l) y.0
       (and_from (S (Descr h) 1) (lit (S p) l) (sym (ap (λ a. over (first_of_two a None) (S (Descr h) 1)) n) ∙ u.0) (sym (ap (λ a. lit a l) (size_stays p (Big h) s of n)) ∙ u.1)))))
       (⊎_elim (λ (n : latest (redos v.log.entries) (Descr h) 1 ≡ Some true). let m = new (Big h) n in
@@ -123,7 +127,7 @@ module _ (sh : Shape) (cells : Cells) (S : State) (flies : ℕ → Diff → Type
       let stored = size_stored p m.size s refl refl tv m.sized in
       let l' : l ≤ (m.size + 63) / 64 = leb-true l ((m.size + 63) / 64) (sym (ap (λ a. nat_le l ((a + 63) / 64)) (val_word m.size m.small)) ∙ (sym (ap (λ a. lit a l) stored) ∙ u.1)) in
       let span = and_parts (nat_le h c) (nat_lt c (h + (sight_of v).hold.span h)) (sym (f.hold.span h hb c) ∙ eq-eqb (g.geo.first c) h refl) in
-      let e = word_at h c w ((sight_of v).hold.span h) (leb-true h c span.0) (Rattle.std.proofs.lemmas.Bool.ltb-true c (h + (sight_of v).hold.span h) span.1) (f.hold.zone h hb) (Rattle.std.proofs.lemmas.Bool.ltb-true w 512 y.0) in
+      let e = word_at h c w ((sight_of v).hold.span h) (leb-true h c span.0) (ltb-true c (h + (sight_of v).hold.span h) span.1) (f.hold.zone h hb) (ltb-true w 512 y.0) in
       let val = some_value (value_in v (word_of_chunk v.fixed.shape c + w)) (λ a. m.filled l (w % 8) l' (omega arith) (ap (value_in v) e ∙ a)) in
       fresh_given (latest (redos v.log.entries) (InHuge c w) b) ((call_in v).fresh (InHuge c w) b) (ap given (stored_at (InHuge c w) b refl y.0 (ap (λ a. turn (latest (redos v.log.entries)) (Big a)) (f.hold.first c hb) ∙ n) val.0 val.1)))
       (λ (n : latest (redos v.log.entries) (Descr h) 1 ≡ Some false). absurd (both_ways (S' (Descr h) 1) (ap (λ a. over (first_of_two a None) (S (Descr h) 1)) n) u.0))) (option_cases (latest (redos v.log.entries) (Descr h) 1))

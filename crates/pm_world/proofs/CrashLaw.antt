@@ -124,15 +124,18 @@ module _ (o : Opening) (mem : Memory) (views : Views) (g : Past) (x : World o me
   taken_descriptor : (c b : ℕ) → is_place o.shape (Descr c) ≡ true → b < 64 → Taken o mem views g x image sv (word_of_descriptor o.shape c) → (im (Descr c) b ≡ m (Descr c) b) ⊎ Soils (Descr c) b
   taken_descriptor c b e small t = let inj = t.of_lane in let most = x.most_lanes in
       let ch = descriptor_change (views t.lane).log.phase (Rattle.std.specs.Prelude.length (views t.lane).log.entries) (views t.lane).log.generation (chunk_described o.shape (word_of_descriptor o.shape c)) t.seen
-          (subst (λ p. AreaChange (views t.lane).log.phase (Rattle.std.specs.Prelude.length (views t.lane).log.entries) (views t.lane).log.generation p t.seen) (descriptor_part o.shape t.lane c (omega arith) (ltb-true c (chunks_of o.shape) e)) t.is) in
+      (subst (λ p. AreaChange (views t.lane).log.phase (Rattle.std.specs.Prelude.length (views t.lane).log.entries) (views t.lane).log.generation p t.seen) (descriptor_part o.shape t.lane c (omega arith) (ltb-true c (chunks_of o.shape) e)) t.is) in
       ⊎_elim (λ (y : (sight_of (views t.lane)).hold.making c ≡ true). let h = (fit t.lane).hold.making c y in
       let run : run_told (mem (PoolWord (word_of_descriptor o.shape c))) ≡ g.geo.class c = inside_told (is_place o.shape (Descr c)) (run_told (mem (PoolWord (word_of_descriptor o.shape c)))) (g.geo.class c) h.1 h.2 in
       ⊎_elim (λ (old : IsOld 0 t.seen). inl (ap (λ s. s && huge_told (slice_index image (word_of_descriptor o.shape c)) b) e ∙ (ap (λ z. huge_told z b) (t.old 0 old) ∙ (huge_nothing b
       ∙ sym (ap (λ s. s && huge_told (mem (PoolWord (word_of_descriptor o.shape c))) b) e ∙ run_not_huge (mem (PoolWord (word_of_descriptor o.shape c))) (g.geo.class c) b run h.2)))))
       (λ (dec : is_decided (views t.lane).log.phase ≡ true). absurd (both_ways ((sight_of (views t.lane)).hold.making c) ((x.each_lane t.lane inj).made dec c) y)) ch.1)
-      (λ (y : (sight_of (views t.lane)).hold.making c ≡ false). inr (t.lane, inl (soils t.lane inj (Descr c) b (ap not y) (list_any_at (λ (d : Undrained). d.word == word_of_descriptor o.shape c && bit_at d.mask b == 1) (views t.lane).changes t.there.0 t.seen t.there.1
-      (ap (λ (d : Undrained). d.word == word_of_descriptor o.shape c && bit_at d.mask b == 1) t.there.2 ∙ and_from (t.seen.word == word_of_descriptor o.shape c) (bit_at t.seen.mask b == 1) (eq-eqb t.seen.word (word_of_descriptor o.shape c) t.of_word)
-      (eq-eqb (bit_at t.seen.mask b) 1 (ap (λ n. bit_at n b) ch.0 ∙ bit_at_ones 64 b small))))))) (cases_Bool ((sight_of (views t.lane)).hold.making c))
+      (λ (y : (sight_of (views t.lane)).hold.making c ≡ false). inr (
+        t.lane,
+        inl (soils t.lane inj (Descr c) b (ap not y) (list_any_at (λ (d : Undrained). d.word == word_of_descriptor o.shape c && bit_at d.mask b == 1) (views t.lane).changes t.there.0 t.seen t.there.1
+            (ap (λ (d : Undrained). d.word == word_of_descriptor o.shape c && bit_at d.mask b == 1) t.there.2 ∙ and_from (t.seen.word == word_of_descriptor o.shape c) (bit_at t.seen.mask b == 1) (eq-eqb t.seen.word (word_of_descriptor o.shape c) t.of_word)
+            (eq-eqb (bit_at t.seen.mask b) 1 (ap (λ n. bit_at n b) ch.0 ∙ bit_at_ones 64 b small))))),
+      )) (cases_Bool ((sight_of (views t.lane)).hold.making c))
 
   pool : (p : Place) (b : ℕ) → InPool o.shape p b → (im p b ≡ m p b) ⊎ Soils p b
   pool (InRun c w) b i = ⊎_elim (λ e. inl (ap (λ t. is_place o.shape (InRun c w) && t) e)) (λ (y : (k : ℕ) × (k < o.lanes) × (is_dirty_bit (views k).changes (word_of o.shape (InRun c w)) b ≡ true)). inr (y.0, in_chunk y.0 c w b y.1 y.2))

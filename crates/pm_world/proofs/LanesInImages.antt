@@ -195,14 +195,18 @@ module _ (o : Opening) (mem : Memory) (views : Views) (g : Past) (x : World o me
     used_now = used_whole (views k).log (no_part_of o.shape k (Rattle.pm_world.specs.Sights.sight_of (views k)).picture (views k).log (views k).changes (views k).log.phase s fits.phase)
 
     pub bare_next : generation image k ≡ suc (views k).log.generation → IsBare
-    bare_next e = record { none_valid = λ j u a valid. let p = valid_parts image k j u valid in let st : undo_of (slot_list ((cells_of o.shape mem).slot k j)) ≡ Some u = sym (ap undo_of (settled_slot j a)) ∙ p.0 in let n = p.1 in
-        ⊎_elim (λ (l : j < length (views k).log.records). let r = get_some (views k).log.records j l in let same = same_Some (undo_from o.shape (views k).log.generation r.0) u (sym (slot_held j r.0 r.1) ∙ st) in
-        let q : u.generation ≡ (views k).log.generation = ap (λ (z : Undo). z.generation) (sym same) in omega arith)
-        (λ (l : length (views k).log.records ≤ j). let d = used_now in let z = fits.stale j u (omega arith) a st in omega arith) (cases_lt j (length (views k).log.records)) }
+    bare_next e = record {
+      none_valid = λ j u a valid. let p = valid_parts image k j u valid in let st : undo_of (slot_list ((cells_of o.shape mem).slot k j)) ≡ Some u = sym (ap undo_of (settled_slot j a)) ∙ p.0 in let n = p.1 in
+          ⊎_elim (λ (l : j < length (views k).log.records). let r = get_some (views k).log.records j l in let same = same_Some (undo_from o.shape (views k).log.generation r.0) u (sym (slot_held j r.0 r.1) ∙ st) in
+          let q : u.generation ≡ (views k).log.generation = ap (λ (z : Undo). z.generation) (sym same) in omega arith)
+          (λ (l : length (views k).log.records ≤ j). let d = used_now in let z = fits.stale j u (omega arith) a st in omega arith) (cases_lt j (length (views k).log.records));
+    }
 
     pub bare_idle : (views k).log.records ≡ [] → generation image k ≡ (views k).log.generation → IsBare
-    bare_idle none_ e = record { none_valid = λ j u a valid. let p = valid_parts image k j u valid in let st : undo_of (slot_list ((cells_of o.shape mem).slot k j)) ≡ Some u = sym (ap undo_of (settled_slot j a)) ∙ p.0 in let n = p.1 in
-        let d = used_now in let m : length (views k).log.records ≡ 0 = ap length none_ in let z = fits.stale j u (omega arith) a st in omega arith }
+    bare_idle none_ e = record {
+      none_valid = λ j u a valid. let p = valid_parts image k j u valid in let st : undo_of (slot_list ((cells_of o.shape mem).slot k j)) ≡ Some u = sym (ap undo_of (settled_slot j a)) ∙ p.0 in let n = p.1 in
+          let d = used_now in let m : length (views k).log.records ≡ 0 = ap length none_ in let z = fits.stale j u (omega arith) a st in omega arith;
+    }
 
   -- a valid record of the log's generation is the log's, or one that could be written there now
   pub record Held (j : ℕ) (u : Undo) : Type 0 where

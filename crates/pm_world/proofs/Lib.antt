@@ -33,3 +33,12 @@ pub mod Runs
 pub mod WordPlaces
 pub mod OccWorlds
 pub mod StepOccupies
+pub mod Decides
+pub mod StepDrain
+pub mod Stored
+pub mod AfterStore
+pub mod StoreArea
+pub mod PlacesAt
+pub mod Entering
+pub mod EntryBits
+pub mod StoreEntry

@@ -179,8 +179,11 @@ module _ (sh : Shape) (L : ℕ) (o : State) (cells : Cells) (sights : ℕ → Si
 
   -- what the lane has after is what it had, or a block newly found under its lock for writing, which is nobody's
   pub own_new : (n : Hold) (B : Block) → own (held n) B ≡ true → (own (sights k).hold B ≡ true) ⊎ ((n.here B ≡ true) × (own (sights k).hold B ≡ false))
-  own_new n B t = ⊎_elim (λ (e : own (sights k).hold B ≡ true). inl e) (λ (e : own (sights k).hold B ≡ false). inr (let y = or_parts ((sights k).hold.mine B) ((sights k).hold.here B || making_of (sights k).hold.making B) e in let z = or_parts ((sights k).hold.here B) (making_of (sights k).hold.making B) y.1 in
-      ⊎_elim (λ (m : (sights k).hold.mine B ≡ true). absurd (both_ways ((sights k).hold.mine B) y.0 m)) (⊎_elim (λ (m : n.here B ≡ true). m) (λ (m : making_of (sights k).hold.making B ≡ true). absurd (both_ways (making_of (sights k).hold.making B) z.1 m))) (own_cases (held n) B t), e)) (cases_Bool (own (sights k).hold B))
+  own_new n B t = ⊎_elim (λ (e : own (sights k).hold B ≡ true). inl e) (λ (e : own (sights k).hold B ≡ false). inr (
+    let y = or_parts ((sights k).hold.mine B) ((sights k).hold.here B || making_of (sights k).hold.making B) e in let z = or_parts ((sights k).hold.here B) (making_of (sights k).hold.making B) y.1 in
+        ⊎_elim (λ (m : (sights k).hold.mine B ≡ true). absurd (both_ways ((sights k).hold.mine B) y.0 m)) (⊎_elim (λ (m : n.here B ≡ true). m) (λ (m : making_of (sights k).hold.making B ≡ true). absurd (both_ways (making_of (sights k).hold.making B) z.1 m))) (own_cases (held n) B t),
+    e,
+  )) (cases_Bool (own (sights k).hold B))
 
   pub gains_by : (n : Hold) → ((B : Block) → n.here B ≡ true → own (sights k).hold B ≡ false → (j : ℕ) → own (sights j).hold B ≡ false) → (n.locked 0 ≡ true → (j : ℕ) → j ≢ k → (sights j).hold.locked 0 ≡ false)
       → (p : Place) (b : ℕ) → owns g.geo (settled o g) (held n) p b ≡ true → (owns g.geo (settled o g) (sights k).hold p b ≡ true) ⊎ Unowned p b

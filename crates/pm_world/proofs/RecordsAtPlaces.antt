@@ -227,7 +227,11 @@ module _ (o : Opening) (mem : Memory) (views : Views) (g : Past) (x : World o me
           let seen : (b : ℕ) → (sight_of (views k)).picture p b ≡ Some (bit (slice_index q.old n) b) = λ b. cond-true (is_pictured p) _ _ (data_pictured p each.plain) ∙ ap (option_map (λ z. bit_at z b == 1)) pic in
           let lg = unrecorded (views k).fixed.shape (views k).fixed.lane (views k).changes (views k).log.records p each.new in
           record {
-            place = p; is_there = sym (ap (λ s. is_place s p) shape_is) ∙ each.place; chunk = data_chunk p each.plain; of_word = after_word o.shape q.place w ch low; own_ = λ b l. own_ b;
+            place = p;
+            is_there = sym (ap (λ s. is_place s p) shape_is) ∙ each.place;
+            chunk = data_chunk p each.plain;
+            of_word = after_word o.shape q.place w ch low;
+            own_ = λ b l. own_ b;
             old = λ b l lv. let bf = f.bits p b (own_ b) in ap (λ z. bit z b) old_is ∙ (sym (bf.3 (bit (slice_index q.old n) b) (seen b))
                 ∙ bf.0 lv (left_none (views k).log.phase p b und) (ap (λ t. t && not (is_decided (views k).log.phase)) lg));
           }
@@ -250,8 +254,10 @@ module _ (o : Opening) (mem : Memory) (views : Views) (g : Past) (x : World o me
         (no_slot image k (8 * word_of o.shape p) n z.slot (undo_from o.shape (views k).log.generation z.held) y.0 y.1) (covers_from o.shape (views k).log.generation z.held (word_of o.shape p) most r.0 r.1)))
         (λ (t : (u : Undo) × (find (λ u. covers u (8 * word_of o.shape p)) (records image k) ≡ Some u)). ap (λ d. given (option_map (λ u. bit (old_word u (8 * word_of o.shape p)) b) d)) t.1) (some_or (find (λ u. covers u (8 * word_of o.shape p)) (records image k)));
     olds = λ p b i e. let said = is p b ∙ log_is (word_of o.shape p) b in let z = speaks_of (word_of o.shape p) b (sym (ap given said) ∙ e) in let s = z.2 in
-        ⊎_elim (λ (q : s.place ≡ p). inl (subst (λ y. owns g.geo (settled_words o g) (sight_of (views k)).hold y b ≡ true) q (s.own_ b i.1),
-        λ lv. said ∙ (ap (option_map (λ u. bit (old_word u (8 * word_of o.shape p)) b)) z.1 ∙ ap (λ y. Some y) (s.old b i.1 (subst (λ y. live (settled_words o g) g.geo g.runs y ≡ true) (sym q) lv) ∙ ap (λ y. settled_words o g y b) q))))
+        ⊎_elim (λ (q : s.place ≡ p). inl (
+          subst (λ y. owns g.geo (settled_words o g) (sight_of (views k)).hold y b ≡ true) q (s.own_ b i.1),
+          λ lv. said ∙ (ap (option_map (λ u. bit (old_word u (8 * word_of o.shape p)) b)) z.1 ∙ ap (λ y. Some y) (s.old b i.1 (subst (λ y. live (settled_words o g) g.geo g.runs y ≡ true) (sym q) lv) ∙ ap (λ y. settled_words o g y b) q)),
+        ))
         (λ (q : s.place ≡ twin p). inr (sym (ap is_single q ∙ twin_single p) ∙ s.chunk, subst (λ y. owns g.geo (settled_words o g) (sight_of (views k)).hold y b ≡ true) q (s.own_ b i.1)))
         (of_place o.shape k ink p s.place i.0 s.is_there s.of_word);
   }

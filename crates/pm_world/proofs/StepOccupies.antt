@@ -56,9 +56,10 @@ if_some (Some x) P u = u x refl
 
 -- a look at an occupancy word is of its value
 pub occupied : (at : Occ) (found : ℕ) → Keeps (Occupied at found)
-occupied at found o mem new views views' g k x ink law moves t = let f = x.each_lane k ink in let v = after (views k) (Occupied at found) in
-    (plain_step o mem new views views' g x k ink moves.0 v t refl refl (λ e. e) record { lane = f.lane; shape = f.shape; lanes = f.lanes; log = f.log; number = f.number; zones = f.zones; masks = f.masks; room = f.room; within = f.within; alone = λ one. record { words = (f.alone one).words; occupancy = λ other y e. seen (f.alone one).occupancy other y e }; entries = f.entries },
-    λ one. if_some (occupancy_of (views k).occupancy at) (λ y. found ≡ y) (λ y e. moves.1 ∙ ((f.alone (sym f.lanes ∙ eqb-true (views k).fixed.lanes 1 one)).occupancy at y e).0))
+occupied at found o mem new views views' g k x ink law moves t = let f = x.each_lane k ink in let v = after (views k) (Occupied at found) in (
+  plain_step o mem new views views' g x k ink moves.0 v t refl refl (λ e. e) record { lane = f.lane; shape = f.shape; lanes = f.lanes; log = f.log; number = f.number; zones = f.zones; masks = f.masks; room = f.room; within = f.within; alone = λ one. record { words = (f.alone one).words; occupancy = λ other y e. seen (f.alone one).occupancy other y e }; entries = f.entries },
+  λ one. if_some (occupancy_of (views k).occupancy at) (λ y. found ≡ y) (λ y e. moves.1 ∙ ((f.alone (sym f.lanes ∙ eqb-true (views k).fixed.lanes 1 one)).occupancy at y e).0),
+)
   where
     seen : ((other : Occ) (y : ℕ) → occupancy_of (views k).occupancy other ≡ Some y → (mem (occ_at other) ≡ y) × (is_at_page other ≡ true)) → (other : Occ) (y : ℕ) → cond (is_same_occ at other) (Some found) (occupancy_of (views k).occupancy other) ≡ Some y → (mem (occ_at other) ≡ y) × (is_at_page other ≡ true)
     seen u other y e = ⊎_elim (λ (s : is_same_occ at other ≡ true). let q = same_occ at other s in (ap (λ a. mem (occ_at a)) (sym q) ∙ (sym moves.1 ∙ some_is found y (sym (cond-true (is_same_occ at other) (Some found) (occupancy_of (views k).occupancy other) s) ∙ e)), ap is_at_page (sym q) ∙ at_page (views k) at law.allowed))
@@ -66,10 +67,11 @@ occupied at found o mem new views views' g k x ink law moves t = let f = x.each_
 
 -- bits of which some are taken stay as they are
 pub occupy_lost : (at : Occ) (bits : ℕ) → Keeps (Occupy at bits false)
-occupy_lost at bits o mem new views views' g k x ink law moves t = let f = x.each_lane k ink in let v = after (views k) (Occupy at bits false) in
-    (plain_step o mem new views views' g x k ink moves.0 v t refl refl (λ e. e) (lane_told o mem g k (views k) (Occupy at bits false ∷ (views k).seen) (views k).call (views k).actions f),
-    λ one. if_some (occupancy_of (views k).occupancy at) (λ y. (false ≡ true) ↔ (bit_and y bits ≡ 0))
-        (λ y e. let w = ((f.alone (sym f.lanes ∙ eqb-true (views k).fixed.lanes 1 one)).occupancy at y e).0 in (λ q. absurd (both_ways false refl q), λ q. absurd (moves.1 (ap (λ z. bit_and z bits) w ∙ q)))))
+occupy_lost at bits o mem new views views' g k x ink law moves t = let f = x.each_lane k ink in let v = after (views k) (Occupy at bits false) in (
+  plain_step o mem new views views' g x k ink moves.0 v t refl refl (λ e. e) (lane_told o mem g k (views k) (Occupy at bits false ∷ (views k).seen) (views k).call (views k).actions f),
+  λ one. if_some (occupancy_of (views k).occupancy at) (λ y. (false ≡ true) ↔ (bit_and y bits ≡ 0))
+      (λ y e. let w = ((f.alone (sym f.lanes ∙ eqb-true (views k).fixed.lanes 1 one)).occupancy at y e).0 in (λ q. absurd (both_ways false refl q), λ q. absurd (moves.1 (ap (λ z. bit_and z bits) w ∙ q)))),
+)
 
 -- occupancy words that are one location are one
 one_occ : (at other : Occ) → is_at_page at ≡ true → is_at_page other ≡ true → occ_at at ≡ occ_at other → at ≡ other

@@ -82,11 +82,13 @@ module _ (o : Opening) (mem new : Memory) (views views' : Views) (g : Past) (x :
 
 -- ---- THE STOP WORD IS SET by a lane at its stop number
 pub set_stop : Keeps SetStop
-set_stop o mem new views views' g k x ink law moves t = let f = x.each_lane k ink in let same : (l : Location) → sort l ≢ 6 → new l ≡ mem l = λ l ne. moves.0 l (other_sort l StopWord ne) in
-    (aside_step o mem new views views' g x k ink (λ l a b. same l b) (views k) t refl refl (λ z j ne. ap (λ n. n == suc j) (same (ZoneLock z) (λ q. omega arith)))
-        (lane_again o mem new g k (views k) f (λ w. same (PoolWord w) (λ q. omega arith)) (views k).claims (views k).seen (views k).zones (views k).occupancy f.log.phase (λ p b _ w. w) (λ z. ap (λ n. n == suc k) (same (ZoneLock z) (λ q. omega arith)) ∙ f.zones z)
-        (λ one. record { words = λ w y e. same (PoolWord w) (λ q. omega arith) ∙ (f.alone one).words w y e; occupancy = λ at y e. (moves.0 (occ_at at) (occ_sort at StopWord (λ q. omega arith) (λ q. omega arith)) ∙ ((f.alone one).occupancy at y e).0, ((f.alone one).occupancy at y e).1) }))
-        (inr (k, ink, subst IsAtStop (sym t.here) law.allowed)), tt)
+set_stop o mem new views views' g k x ink law moves t = let f = x.each_lane k ink in let same : (l : Location) → sort l ≢ 6 → new l ≡ mem l = λ l ne. moves.0 l (other_sort l StopWord ne) in (
+  aside_step o mem new views views' g x k ink (λ l a b. same l b) (views k) t refl refl (λ z j ne. ap (λ n. n == suc j) (same (ZoneLock z) (λ q. omega arith)))
+      (lane_again o mem new g k (views k) f (λ w. same (PoolWord w) (λ q. omega arith)) (views k).claims (views k).seen (views k).zones (views k).occupancy f.log.phase (λ p b _ w. w) (λ z. ap (λ n. n == suc k) (same (ZoneLock z) (λ q. omega arith)) ∙ f.zones z)
+      (λ one. record { words = λ w y e. same (PoolWord w) (λ q. omega arith) ∙ (f.alone one).words w y e; occupancy = λ at y e. (moves.0 (occ_at at) (occ_sort at StopWord (λ q. omega arith) (λ q. omega arith)) ∙ ((f.alone one).occupancy at y e).0, ((f.alone one).occupancy at y e).1) }))
+      (inr (k, ink, subst IsAtStop (sym t.here) law.allowed)),
+  tt,
+)
 
 -- ---- ZONES' LOCKS
 module _ (o : Opening) (mem new : Memory) (views views' : Views) (g : Past) (x : World o mem views g) (k : ℕ) (ink : k < o.lanes) (zone y : ℕ) (moves : Rattle.pm_world.specs.Memory.Becomes (ZoneLock zone) y mem new) (seen' : List Step) (zones' : List ℕ)
@@ -124,20 +126,25 @@ without_else zone m ne (z ∷ zones) = go (z == zone) refl (without_else zone m 
     go false e r = ap (λ q. (z == m) || q) r
 
 pub zone_tried : (zone : ℕ) (won : Bool) → Keeps (ZoneTry zone won)
-zone_tried zone true o mem new views views' g k x ink law moves t = let f = x.each_lane k ink in
-    (zone_step o mem new views views' g x k ink zone (k + 1) moves.0 (ZoneTry zone true ∷ (views k).seen) (zone ∷ (views k).zones) t refl
-        (λ j ne. ne_eqb (k + 1) (suc j) (λ q. ne (omega arith)) ∙ (sym (ne_eqb 0 (suc j) (λ q. absurd (omega arith))) ∙ sym (ap (λ n. n == suc j) moves.1)))
-        (eq-eqb (k + 1) (suc k) (omega arith) ∙ sym (ap (λ q. q || list_any (λ other. other == zone) (views k).zones) (eq-eqb zone zone refl)))
-        (λ z ne. ap (λ q. q || list_any (λ other. other == z) (views k).zones) (ne_eqb zone z (λ q. ne (sym q)))), λ _. refl)
-zone_tried zone false o mem new views views' g k x ink law moves t = let f = x.each_lane k ink in
-    (plain_step o mem new views views' g x k ink moves.0 (record (views k) { seen = ZoneTry zone false ∷ (views k).seen }) t refl refl (λ e. e) (Rattle.pm_world.proofs.StepPlain.lane_told o mem g k (views k) (ZoneTry zone false ∷ (views k).seen) (views k).call (views k).actions f),
-    λ one. absurd (taken (sym f.lanes ∙ eqb-true (views k).fixed.lanes 1 one)))
+zone_tried zone true o mem new views views' g k x ink law moves t = let f = x.each_lane k ink in (
+  zone_step o mem new views views' g x k ink zone (k + 1) moves.0 (ZoneTry zone true ∷ (views k).seen) (zone ∷ (views k).zones) t refl
+      (λ j ne. ne_eqb (k + 1) (suc j) (λ q. ne (omega arith)) ∙ (sym (ne_eqb 0 (suc j) (λ q. absurd (omega arith))) ∙ sym (ap (λ n. n == suc j) moves.1)))
+      (eq-eqb (k + 1) (suc k) (omega arith) ∙ sym (ap (λ q. q || list_any (λ other. other == zone) (views k).zones) (eq-eqb zone zone refl)))
+      (λ z ne. ap (λ q. q || list_any (λ other. other == z) (views k).zones) (ne_eqb zone z (λ q. ne (sym q)))),
+  λ _. refl,
+)
+zone_tried zone false o mem new views views' g k x ink law moves t = let f = x.each_lane k ink in (
+  plain_step o mem new views views' g x k ink moves.0 (record (views k) { seen = ZoneTry zone false ∷ (views k).seen }) t refl refl (λ e. e) (Rattle.pm_world.proofs.StepPlain.lane_told o mem g k (views k) (ZoneTry zone false ∷ (views k).seen) (views k).call (views k).actions f),
+  λ one. absurd (taken (sym f.lanes ∙ eqb-true (views k).fixed.lanes 1 one)),
+)
   where
     taken : o.lanes ≡ 1 → ⊥
     taken one = let f = x.each_lane k ink in let l = x.zone_locks zone in let ne = moves.1 in both_ways (mem (ZoneLock zone) == suc k) (f.zones zone ∙ law.allowed.free) (eq-eqb (mem (ZoneLock zone)) (suc k) (omega arith))
 
 pub zone_given : (zone : ℕ) → Keeps (ZoneGive zone)
-zone_given zone o mem new views views' g k x ink law moves t = let f = x.each_lane k ink in
-    (zone_step o mem new views views' g x k ink zone 0 moves (views k).seen (filter (λ other. not (other == zone)) (views k).zones) t refl
-        (λ j ne. ne_eqb 0 (suc j) (λ q. absurd (omega arith)) ∙ sym (ap (λ n. n == suc j) (eqb-true (mem (ZoneLock zone)) (suc k) (f.zones zone ∙ law.allowed.held)) ∙ ne_eqb (suc k) (suc j) (λ q. ne (omega arith))))
-        (ne_eqb 0 (suc k) (λ q. absurd (omega arith)) ∙ sym (without_here zone (views k).zones)) (λ z ne. without_else zone z ne (views k).zones), tt)
+zone_given zone o mem new views views' g k x ink law moves t = let f = x.each_lane k ink in (
+  zone_step o mem new views views' g x k ink zone 0 moves (views k).seen (filter (λ other. not (other == zone)) (views k).zones) t refl
+      (λ j ne. ne_eqb 0 (suc j) (λ q. absurd (omega arith)) ∙ sym (ap (λ n. n == suc j) (eqb-true (mem (ZoneLock zone)) (suc k) (f.zones zone ∙ law.allowed.held)) ∙ ne_eqb (suc k) (suc j) (λ q. ne (omega arith))))
+      (ne_eqb 0 (suc k) (λ q. absurd (omega arith)) ∙ sym (without_here zone (views k).zones)) (λ z ne. without_else zone z ne (views k).zones),
+  tt,
+)

@@ -149,7 +149,12 @@ module _ (o : Opening) (mem : Memory) (views : Views) (g : Past) (x : World o me
 
     pub whole_left : (w : ℕ) → w < words_of o.shape → (slice_index image w ≡ mem (PoolWord w)) ⊎ Taken w
     whole_left w inside = ⊎_elim (λ (e : slice_index image w ≡ mem (PoolWord w)). inl e) (λ (t : Lost w). inr (record {
-      seen = t.seen; lane = t.lane; of_lane = t.of_lane; of_word = t.of_word; old = t.old; there = t.there;
+      seen = t.seen;
+      lane = t.lane;
+      of_lane = t.of_lane;
+      of_word = t.of_word;
+      old = t.old;
+      there = t.there;
       is = let m = x.most_lanes in let inl_ = t.of_lane in let l = log_fits t.lane (omega arith) in
           subst (λ z. AreaChange (views t.lane).log.phase (length (views t.lane).log.entries) (views t.lane).log.generation (part_of o.shape t.lane z) t.seen) t.of_word
           (All-contains (λ (c : Undrained). AreaChange (views t.lane).log.phase (length (views t.lane).log.entries) (views t.lane).log.generation (part_of o.shape t.lane c.word) c) (views t.lane).changes t.seen l.area_changes t.there);
@@ -165,9 +170,13 @@ module _ (o : Opening) (mem : Memory) (views : Views) (g : Past) (x : World o me
 
     pub area_left : (k i : ℕ) → k < o.shape.lanes → i < 1024 → (slice_index image (word_of_generation o.shape k + i) ≡ mem (PoolWord (word_of_generation o.shape k + i))) ⊎ AreaTaken k (word_of_generation o.shape k + i)
     area_left k i ink l = ⊎_elim (λ e. inl e) (λ (t : Taken (word_of_generation o.shape k + i)). inr (⊎_elim
-        (λ (q : t.lane ≡ k). record { seen = t.seen; of_word = t.of_word; old = t.old;
+        (λ (q : t.lane ≡ k). record {
+          seen = t.seen;
+          of_word = t.of_word;
+          old = t.old;
           is = subst (λ j. AreaChange (views j).log.phase (length (views j).log.entries) (views j).log.generation (part_of o.shape j (word_of_generation o.shape k + i)) t.seen) q t.is;
-          there = subst (λ j. Contains (views j).changes t.seen) q t.there })
+          there = subst (λ j. Contains (views j).changes t.seen) q t.there;
+        })
         (λ (ne : t.lane ≢ k). absurd (no_other (views t.lane).log.phase (length (views t.lane).log.entries) (views t.lane).log.generation t.seen
         (subst (λ p. AreaChange (views t.lane).log.phase (length (views t.lane).log.entries) (views t.lane).log.generation p t.seen) (other_part o.shape t.lane k i (λ q. ne (sym q)) ink l) t.is))) (cases_eq t.lane k)))
         (whole_left (word_of_generation o.shape k + i) (omega arith))

@@ -94,7 +94,7 @@ AreaChange phase count generation part c = Unit {0}
 
 -- every recorded word has its old value again
 abbrev pub AreRestored : Diff → List Recorded → Type 0
-AreRestored picture records = (p : Place) (x b : ℕ) → b < 64 → old_of records p ≡ Some x → picture p b ≡ Some (bit_at x b == 1)
+AreRestored picture records = (p : Place) (x b : ℕ) → old_of records p ≡ Some x → picture p b ≡ Some (bit_at x b == 1)
 
 -- by how far the call has come
 abbrev pub PhaseFits : Shape → ℕ → Diff → Log → List Undrained → Phase → Type 0
@@ -107,9 +107,9 @@ PhaseFits sh lane picture l changes Clearing = AreWhole sh lane l × (l.slot ≡
 PhaseFits sh lane picture l changes (Retiring n) = (l.entries ≡ []) × (l.slot ≡ []) × (l.pair ≡ [])
 PhaseFits sh lane picture l changes Voiding = (l.entries ≡ []) × (l.slot ≡ []) × (l.pair ≡ []) × AreRestored picture l.records
 
--- a recorded word: the lane owns it, and its old value is the settled one
-abbrev pub OldFits : State → (Place → ℕ → Bool) → Place → ℕ → Type 0
-OldFits S owned p x = (b : ℕ) → b < 64 → (owned p b ≡ true) × (S p b ≡ (bit_at x b == 1))
+-- a recorded word: the lane owns it, and until the call is decided its old value is the settled one
+abbrev pub OldFits : Bool → State → (Place → ℕ → Bool) → Place → ℕ → Type 0
+OldFits done S owned p x = (b : ℕ) → (owned p b ≡ true) × (done ≡ false → S p b ≡ (bit_at x b == 1))
 
 -- an entry of a place gives some bit of it, and that of a descriptor sets it, to none of a run
 abbrev pub EntryOf : Place → Op → ℕ → Type 0
@@ -134,7 +134,7 @@ pub record LogFits (sh : Shape) (lane generation seal : ℕ) (entry slot : ℕ �
   pub records : (j : ℕ) (r : Recorded) → IsRecordAt l j r → ((i : ℕ) → i < slot_words sh → slot j i ≡ slice_index (spelled sh l.generation r) i) × (1 ≤ length r.old) × (length r.old ≤ old_words sh)
       × (is_place sh r.place ≡ true) × (is_data r.place ≡ true) × ((i : ℕ) → i < length r.old → is_place sh (place_after r.place i) ≡ true)
   pub once : (j m : ℕ) (r q : Recorded) (p : Place) (x y : ℕ) → IsRecordAt l j r → IsRecordAt l m q → old_in r p ≡ Some x → old_in q p ≡ Some y → j ≡ m
-  pub olds : is_decided l.phase ≡ false → (p : Place) (x : ℕ) → old_of l.records p ≡ Some x → OldFits S owned p x
+  pub olds : (p : Place) (x : ℕ) → old_of l.records p ≡ Some x → OldFits (is_decided l.phase) S owned p x
   pub slot_part : (i : ℕ) → i < length l.slot → slot (length l.records) i ≡ slice_index l.slot i
   pub stale : (j : ℕ) (u : Undo) → used_slots l ≤ j → j < undo_slots sh → undo_of (slot_list (slot j)) ≡ Some u → u.generation < l.generation
   pub area_changes : All (λ (c : Undrained). AreaChange l.phase (length l.entries) l.generation (part_of sh lane c.word) c) changes
