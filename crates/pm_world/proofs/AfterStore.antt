@@ -8,7 +8,7 @@ use Rattle.pm_layout.specs.Areas.{word_of_generation, word_of_seal, word_of_entr
 use Rattle.pm_layout.specs.Chunks.{words_of, word_of_root}
 use Rattle.pm_view.specs.Bits.{all_bits}
 use Rattle.pm_view.specs.Changes.{Undrained}
-use Rattle.pm_view.specs.Claims.{class, pictured}
+use Rattle.pm_view.specs.Claims.{class, making, pictured}
 use Rattle.pm_view.specs.Counts.{max_changes, MayCount, IsAtStop}
 use Rattle.pm_view.specs.Limits.{greatest_generation}
 use Rattle.pm_view.specs.Log.{Phase, Log, log_stored}
@@ -18,7 +18,7 @@ use Rattle.pm_view.specs.Views.{shape_of, part_in, value_in, marked_by, changed}
 use Rattle.pm_world.specs.Course.{past_stored}
 use Rattle.pm_world.specs.States.{State, Cells}
 use Rattle.pm_world.specs.Sights.{sight_of}
-use Rattle.pm_world.specs.Lanes.{Flies, flies_at, SightFits, Bits}
+use Rattle.pm_world.specs.Lanes.{Flies, flies_at, is_decided, SightFits, Bits}
 use Rattle.pm_world.specs.Lawful.{StoreFits, MayStore}
 use Rattle.pm_world.specs.Laws.{Turn}
 use Rattle.pm_world.specs.Memory.{Memory, PoolWord, ZoneLock, CommitCounter, StopWord, occ_at, Becomes, cells_of}
@@ -49,7 +49,7 @@ module _ (o : Opening) (mem new : Memory) (views views' : Views) (g : Past) (x :
   alone_stored log a = record {
     words = λ u y e. ⊎_elim (λ (q : w ≡ u). ap (λ i. new (PoolWord i)) (sym q) ∙ (b.1 ∙ some_same n y (sym (cond-true (w == u) (Some n) (pictured (views k).fixed.shape (views k).claims u) (eq-eqb w u q)) ∙ e)))
         (λ (ne : w ≢ u). other_word u (λ q. ne (sym q)) ∙ a.words u y (sym (cond-false (w == u) (Some n) (pictured (views k).fixed.shape (views k).claims u) (ne_eqb w u ne)) ∙ e)) (cases_eq w u);
-    occupancy = λ at y e. b.0 (occ_at at) (occ_sort at (PoolWord w) (λ q. omega arith) (λ q. omega arith)) ∙ a.occupancy at y e;
+    occupancy = λ at y e. (b.0 (occ_at at) (occ_sort at (PoolWord w) (λ q. omega arith) (λ q. omega arith)) ∙ (a.occupancy at y e).0, (a.occupancy at y e).1);
   }
     where
       value : Option ℕ → ℕ
@@ -62,8 +62,8 @@ module _ (o : Opening) (mem new : Memory) (views views' : Views) (g : Past) (x :
   pub store_world : (log : Log) → 512 ≤ w → ((j i : ℕ) → j < o.shape.lanes → j ≢ k → i < 1024 → w ≢ word_of_generation o.shape j + i)
       → OwnWords (settled_words o g) (ghost_of g) (sight_of (views k)).hold (cells_of o.shape mem) (cells_of o.shape new) → ((i : ℕ) → flies_at (views k).log.phase i → flies_at log.phase i)
       → SightFits o.shape (cells_of o.shape new) (settled_words o g) (Flies (ghost_of g) k) (ghost_of g) k (sight_of (after_store (views k) w n log)) → AreaFits o new g k (after_store (views k) w n log) → NumberFits log.phase (views k).number
-      → Turn views views' k (after_store (views k) w n log) → World o new views' g
-  store_world log page apart own flies sight area number t = world_with o mem views g x k ink new views' g (settled_words o g) (after_store (views k) w n log) refl
+      → (is_decided log.phase ≡ true → (c : ℕ) → making (views k).fixed.shape (views k).claims c ≡ false) → Turn views views' k (after_store (views k) w n log) → World o new views' g
+  store_world log page apart own flies sight area number made t = world_with o mem views g x k ink new views' g (settled_words o g) (after_store (views k) w n log) refl
       (around_own (settled_words o g) (ghost_of g) k (sight_of (views k)).hold (λ j. (sight_of (views j)).hold) (cells_of o.shape mem) (cells_of o.shape new) own)
       record {
         generation = λ j l ne. other_word (word_of_generation o.shape j) (λ q. apart j 0 l ne (omega arith) (omega arith));
@@ -88,6 +88,7 @@ module _ (o : Opening) (mem new : Memory) (views views' : Views) (g : Past) (x :
         shape = f.shape;
         lanes = f.lanes;
         log = area;
+        made = made;
         number = number;
         zones = λ z. ap (λ y. y == suc k) (b.0 (ZoneLock z) (other_sort (ZoneLock z) (PoolWord w) (λ q. omega arith))) ∙ f.zones z;
         masks = all_cons (λ (c : Undrained). (c.mask < 2 ^ 64) × (c.word < words_of o.shape)) record { word = w; mask = all_bits; old = Rattle.std.specs.Option.option_map (λ old. Rattle.std.specs.Prelude.bit_and old all_bits) (value_in (views k) w); flushed = false } (views k).changes (omega arith, subst (λ s. w < words_of s) f.shape m.inside) f.masks;

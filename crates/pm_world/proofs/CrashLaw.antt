@@ -113,8 +113,9 @@ module _ (o : Opening) (mem : Memory) (views : Views) (g : Past) (x : World o me
   soils : (k : ℕ) → k < o.lanes → (p : Place) (b : ℕ) → is_use (sight_of (views k)).hold p ≡ true → is_dirty_bit (views k).changes (word_of o.shape p) b ≡ true → (sight_of (views k)).soiled p b ≡ true
   soils k ink p b u d = and_from (is_use (sight_of (views k)).hold p) (is_dirty_bit (views k).changes (word_of (views k).fixed.shape p) b) u (ap (λ s. is_dirty_bit (views k).changes (word_of s p) b) (x.each_lane k ink).shape ∙ d)
 
-  in_chunk : (k c w b : ℕ) → k < o.lanes → is_dirty_bit (views k).changes (word_of o.shape (InRun c w)) b ≡ true → ((sight_of (views k)).soiled (InRun c w) b ≡ true) ⊎ ((sight_of (views k)).soiled (InHuge c w) b ≡ true)
-  in_chunk k c w b ink d = ⊎_elim (λ (t : ((sight_of (views k)).hold.class c == 0) ≡ true). inr (soils k ink (InHuge c w) b t d)) (λ (t : ((sight_of (views k)).hold.class c == 0) ≡ false). inl (soils k ink (InRun c w) b (ap not t) d)) (cases_Bool ((sight_of (views k)).hold.class c == 0))
+  in_chunk : (k c w b : ℕ) → k < o.lanes → nat_lt w 512 ≡ true → is_dirty_bit (views k).changes (word_of o.shape (InRun c w)) b ≡ true → ((sight_of (views k)).soiled (InRun c w) b ≡ true) ⊎ ((sight_of (views k)).soiled (InHuge c w) b ≡ true)
+  in_chunk k c w b ink s d = ⊎_elim (λ (t : ((sight_of (views k)).hold.class c == 0) ≡ true). inr (soils k ink (InHuge c w) b (and_from (nat_lt w 512) ((sight_of (views k)).hold.class c == 0) s t) d))
+      (λ (t : ((sight_of (views k)).hold.class c == 0) ≡ false). inl (soils k ink (InRun c w) b (and_from (nat_lt w 512) (not ((sight_of (views k)).hold.class c == 0)) s (ap not t)) d)) (cases_Bool ((sight_of (views k)).hold.class c == 0))
 
   other_way : {A B : Type 0} → A ⊎ B → B ⊎ A
   other_way (inl a) = inr a
@@ -138,9 +139,9 @@ module _ (o : Opening) (mem : Memory) (views : Views) (g : Past) (x : World o me
       )) (cases_Bool ((sight_of (views t.lane)).hold.making c))
 
   pool : (p : Place) (b : ℕ) → InPool o.shape p b → (im p b ≡ m p b) ⊎ Soils p b
-  pool (InRun c w) b i = ⊎_elim (λ e. inl (ap (λ t. is_place o.shape (InRun c w) && t) e)) (λ (y : (k : ℕ) × (k < o.lanes) × (is_dirty_bit (views k).changes (word_of o.shape (InRun c w)) b ≡ true)). inr (y.0, in_chunk y.0 c w b y.1 y.2))
+  pool (InRun c w) b i = ⊎_elim (λ e. inl (ap (λ t. is_place o.shape (InRun c w) && t) e)) (λ (y : (k : ℕ) × (k < o.lanes) × (is_dirty_bit (views k).changes (word_of o.shape (InRun c w)) b ≡ true)). inr (y.0, in_chunk y.0 c w b y.1 (and_parts (nat_lt c (chunks_of o.shape)) (nat_lt w 512) i.0).1 y.2))
       (bit_left o mem views g x image sv (word_of o.shape (InRun c w)) b (place_inside o.shape (InRun c w) i.0) i.1)
-  pool (InHuge c w) b i = ⊎_elim (λ e. inl (ap (λ t. is_place o.shape (InHuge c w) && t) e)) (λ (y : (k : ℕ) × (k < o.lanes) × (is_dirty_bit (views k).changes (word_of o.shape (InHuge c w)) b ≡ true)). inr (y.0, other_way (in_chunk y.0 c w b y.1 y.2)))
+  pool (InHuge c w) b i = ⊎_elim (λ e. inl (ap (λ t. is_place o.shape (InHuge c w) && t) e)) (λ (y : (k : ℕ) × (k < o.lanes) × (is_dirty_bit (views k).changes (word_of o.shape (InHuge c w)) b ≡ true)). inr (y.0, other_way (in_chunk y.0 c w b y.1 (and_parts (nat_lt c (chunks_of o.shape)) (nat_lt w 512) i.0).1 y.2)))
       (bit_left o mem views g x image sv (word_of o.shape (InHuge c w)) b (place_inside o.shape (InHuge c w) i.0) i.1)
   pool (Descr c) b i = ⊎_elim (λ e. inl (ap (λ n. is_place o.shape (Descr c) && huge_told n b) e)) (λ t. taken_descriptor c b i.0 i.1 t) (whole_left o mem views g x image sv (word_of_descriptor o.shape c) (place_inside o.shape (Descr c) i.0))
   pool RootWord b i = ⊎_elim (λ e. inl e) (λ (y : (k : ℕ) × (k < o.lanes) × (is_dirty_bit (views k).changes (word_of o.shape RootWord) b ≡ true)). inr (y.0, inl (soils y.0 y.1 RootWord b refl y.2)))

@@ -206,7 +206,7 @@ module _ (sh : Shape) (L : ℕ) (o : State) (cells : Cells) (sights : ℕ → Si
     span = λ y t. f.hold.span y (has_back (Big y) t);
     first = λ c t. f.hold.first c (has_back (Big (g.geo.first c)) t);
     zone = λ y t. f.hold.zone y (has_back (Big y) t);
-    making = λ c t. let y = f.hold.making c t in (ap (λ a. mine_after a (h.mine (Big c))) (unmade c t) ∙ y.0, y.1, y.2, y.3);
+    making = λ c t. let y = f.hold.making c t in (ap (λ a. mine_after a (h.mine (Big c))) (unmade c t) ∙ y.0, y.1, y.2, y.3, y.4);
     free = λ c t. no_run sh cells S (Flies g k) g x.geo k (record (sights k) { phase = Sealing n }) f c (sym (own_now (Big (g.geo.first c))) ∙ mine_own x'.hold (Big (g.geo.first c)) t);
     seen = f.hold.seen;
   }

@@ -6,7 +6,7 @@ use Rattle.std.proofs.Common.{◌≡◌, ◌≢◌, ℕ, zero, suc, ◌+◌, ◌
 use Rattle.std.proofs.lemmas.Bool.{cases_Bool, eqb-true, both_ways, and_parts, and_from, or_cases, or_left, or_right, cond-true, cond-false, false_from_ne_true}
 use Rattle.pm_layout.specs.declared.shape.Shape.{Shape}
 use Rattle.pm_view.specs.Changes.{Undrained}
-use Rattle.pm_view.specs.Claims.{Claim, class, first, span, geometry}
+use Rattle.pm_view.specs.Claims.{Claim, class, last_first, first, span, geometry}
 use Rattle.pm_view.specs.Entries.{Entry, Redo, delta, latest, redos, with_redo, turn, first_of_two}
 use Rattle.pm_view.specs.Log.{Phase, Open, Recorded, Log, old_in, old_of}
 use Rattle.pm_view.specs.Places.{Place, InRun, InHuge, Descr, RootWord, Block, Small, Big, Root, part, block_of, header, is_data, in_span}
@@ -111,7 +111,7 @@ module _ (sh : Shape) (cells : Cells) (S : State) (flies : ℕ → Diff → Type
   first_valid c o = ⊎_elim (λ (q : own (sight_of v).hold (Big c) ≡ true). big_valid sh cells S flies g geo k (record (sight_of v) { phase = Open }) f c q) (λ (q : (sight_of v).hold.found (Big c) ≡ true). eqb-true (g.geo.first c) c (f.hold.found (Big c) q).1) (or_cases (own (sight_of v).hold (Big c)) ((sight_of v).hold.found (Big c)) o)
 
   pub huge_known : (c : ℕ) → has (sight_of v).hold (Big (first v.fixed.shape v.claims c)) ≡ true → first v.fixed.shape v.claims c ≡ g.geo.first c
-  huge_known c o = let a = first v.fixed.shape v.claims c in let t = in_span a (span v.fixed.shape v.claims a) c in
+  huge_known c o = let a = last_first v.fixed.shape v.claims c in let t = in_span a (span v.fixed.shape v.claims a) c in
       ⊎_elim (λ (e : t ≡ true). let r = cond-true t a c e in r ∙ sym (eqb-true (g.geo.first c) a (f.hold.span a (subst (λ y. has (sight_of v).hold (Big y) ≡ true) r o) c ∙ e)))
       (λ (e : t ≡ false). let r = cond-false t a c e in r ∙ sym (first_valid c (subst (λ y. has (sight_of v).hold (Big y) ≡ true) r o))) (cases_Bool t)
 

@@ -80,8 +80,8 @@ module _ (o : Opening) (mem : Memory) (views : Views) (g : Past) (x : World o me
     -- an aborted call has put back what is under its records
     put_back : (views k).log.phase ≡ Voiding → IsPutBack o.shape (read (cells_of o.shape mem).pool) (settled_words o g) (sight_of (views k))
     put_back e p b i lg = let z = logged_record (views k).fixed.shape (views k).fixed.lane (views k).changes (views k).log.records p 0 lg in let y = given_value (old_of (views k).log.records p) (old_given p (views k).log.records z.slot z.held z.at z.has_) in
-        let olds = (log_fits o mem views g x k ink).olds (ap is_decided e) p y.0 y.1 b i.1 in let f = x.bits.each_lane k in
-        (f.bits p b olds.0).3 (bit_at y.0 b == 1) ((phase_fits Voiding e).3 p y.0 b i.1 y.1) ∙ sym olds.1
+        let olds = (log_fits o mem views g x k ink).olds p y.0 y.1 b in let f = x.bits.each_lane k in
+        (f.bits p b olds.0).3 (bit_at y.0 b == 1) ((phase_fits Voiding e).3 p y.0 b y.1) ∙ sym (olds.1 (ap is_decided e))
 
     idle_restores : (views k).log.phase ≡ Idle → Silent o mem views g x image sv torn k ink → Restores o.shape (settled_words o g) (ghost_of g) (sight_of (views k)) (spoken k)
     idle_restores e s = record {

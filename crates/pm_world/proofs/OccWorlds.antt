@@ -98,14 +98,15 @@ module _ (o : Opening) (mem new : Memory) (views views' : Views) (g : Past) (x :
           records_most = l.records_most;
           pairs = λ i e q. let z = l.pairs i e q in (word (word_of_entry o.shape k i + 0) ∙ z.0, word (word_of_entry o.shape k i + 1) ∙ z.1, z.2, z.3);
           pair_part = λ i q. word (word_of_entry o.shape k (length (views k).log.entries) + i) ∙ l.pair_part i q;
-          records = λ i r q. let z = l.records i r q in (λ m n. slot i m ∙ z.0 m n, z.1, z.2, z.3, z.4);
+          records = λ i r q. let z = l.records i r q in (λ m n. slot i m ∙ z.0 m n, z.1, z.2, z.3, z.4, z.5);
           once = l.once;
-          olds = λ u p m q c n. let z = l.olds u p m q c n in (w.olds p c (ap Rattle.pm_world.specs.States.given q) z.0, z.1);
+          olds = λ p m q c. let z = l.olds p m q c in (w.olds p c (ap Rattle.pm_world.specs.States.given q) z.0, z.1);
           slot_part = λ i q. slot (length (views k).log.records) i ∙ l.slot_part i q;
           stale = λ i u q z r. l.stale i u q z (sym (ap undo_of (ap slot_list (λ m n. slot i n m))) ∙ r);
           area_changes = l.area_changes;
           phase = early_phase o.shape k (sight_of (views k)).picture (sight_of v').picture (views k).log (views k).changes (views k).log.phase w.early l.phase;
         };
+        made = λ t. absurd (both_ways (Rattle.pm_world.specs.Lanes.is_decided (views k).log.phase) (early_undecided (views k).log.phase w.early).0 t);
         number = f.number;
         zones = λ z. ap (λ m. m == suc k) (lock z) ∙ f.zones z;
         masks = f.masks;

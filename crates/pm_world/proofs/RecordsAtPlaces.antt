@@ -7,6 +7,7 @@ use Rattle.std.specs.Option.{option_map}
 use Rattle.std.proofs.lemmas.Bool.{cases_eq, cases_Bool, both_ways, eqb-true, and_parts, and_from, or_cases, cond-true, cond-false, false_from_ne_true, le-leb, lt-ltb, leb-true, ltb-true}
 use Rattle.std.proofs.lemmas.Option.{none-some, same_Some}
 use Rattle.pm_layout.specs.declared.shape.Shape.{Shape}
+use Rattle.pm_layout.specs.Chunks.{chunks_of}
 use Rattle.pm_record.specs.declared.undo.Undo.{Undo}
 use Rattle.pm_image.specs.Logs.{covers, old_word, records, entries}
 use Rattle.pm_image.specs.Steps.{valid_record}
@@ -152,11 +153,11 @@ left_none Clearing p b e = refl
 left_none (Retiring n) p b e = refl
 left_none Voiding p b e = refl
 
-data_pictured : (p : Place) → is_data p ≡ true → is_pictured p ≡ true
-data_pictured (InRun c w) e = e
-data_pictured (InHuge c w) e = refl
-data_pictured (Descr c) e = e
-data_pictured RootWord e = refl
+data_pictured : (sh : Shape) (p : Place) → is_data p ≡ true → is_place sh p ≡ true → is_pictured p ≡ true
+data_pictured sh (InRun c w) e i = and_from (nat_le 8 w) (nat_lt w 512) e (and_parts (nat_lt c (chunks_of sh)) (nat_lt w 512) i).1
+data_pictured sh (InHuge c w) e i = (and_parts (nat_lt c (chunks_of sh)) (nat_lt w 512) i).1
+data_pictured sh (Descr c) e i = absurd (both_ways false refl e)
+data_pictured sh RootWord e i = refl
 
 known_pictured : (t : Bool) (y : Option ℕ) (x : ℕ) → cond t y None ≡ Some x → y ≡ Some x
 known_pictured true y x e = e
@@ -216,15 +217,15 @@ module _ (o : Opening) (mem : Memory) (views : Views) (g : Past) (x : World o me
       recorded q at r old_is = let fits = log_fits o mem views g x k ink in let n : ℕ = w - word_of o.shape q.place in let low = r.0 in let high = r.1 in let inside : n < length q.old = omega arith in
           let rec = fits.records j q at in let ch = data_chunk q.place rec.4 in let p = place_after q.place n in
           let has_ : old_of (views k).log.records p ≡ Some (slice_index q.old n) = old_found p (views k).log.records (λ i m s t y z e d. fits.once i m s t p y z e d) j q (slice_index q.old n) at (after_old q.place q.old n ch inside) in
-          let olds = fits.olds und p (slice_index q.old n) has_ in
-          record { place = p; is_there = rec.5 n inside; chunk = data_chunk p (after_data q.place n rec.4); of_word = after_word o.shape q.place w ch low; own_ = λ b l. (olds b l).0; old = λ b l _. ap (λ z. bit z b) old_is ∙ sym (olds b l).1 }
+          let olds = fits.olds p (slice_index q.old n) has_ in
+          record { place = p; is_there = rec.5 n inside; chunk = data_chunk p (after_data q.place n rec.4); of_word = after_word o.shape q.place w ch low; own_ = λ b l. (olds b).0; old = λ b l _. ap (λ z. bit z b) old_is ∙ sym ((olds b).1 und) }
 
       making : (q : Recorded) → CanRecord (views k) q → (word_of o.shape q.place ≤ w) × (w < word_of o.shape q.place + length q.old) → old_word u (8 * w) ≡ slice_index q.old (w - word_of o.shape q.place) → Speaks w u
       making q can r old_is = let n : ℕ = w - word_of o.shape q.place in let low = r.0 in let high = r.1 in let inside : n < length q.old = omega arith in let each = can.each n inside in let p = place_after q.place n in
           let ch = after_chunk q.place n each.plain in let own_ : (b : ℕ) → owns g.geo (settled_words o g) (sight_of (views k)).hold p b ≡ true = λ b. changes_own p b each.plain each.own in
           let pic : pictured (views k).fixed.shape (views k).claims (word_of (views k).fixed.shape p) ≡ Some (slice_index q.old n) = known_pictured (runs_one (views k) || is_held (views k).fixed.shape (views k).claims (word_of (views k).fixed.shape p))
           (pictured (views k).fixed.shape (views k).claims (word_of (views k).fixed.shape p)) (slice_index q.old n) each.present in
-          let seen : (b : ℕ) → (sight_of (views k)).picture p b ≡ Some (bit (slice_index q.old n) b) = λ b. cond-true (is_pictured p) _ _ (data_pictured p each.plain) ∙ ap (option_map (λ z. bit_at z b == 1)) pic in
+          let seen : (b : ℕ) → (sight_of (views k)).picture p b ≡ Some (bit (slice_index q.old n) b) = λ b. cond-true (is_pictured p) _ _ (data_pictured (views k).fixed.shape p each.plain each.place) ∙ ap (option_map (λ z. bit_at z b == 1)) pic in
           let lg = unrecorded (views k).fixed.shape (views k).fixed.lane (views k).changes (views k).log.records p each.new in
           record {
             place = p;

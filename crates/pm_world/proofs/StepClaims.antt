@@ -11,16 +11,17 @@ use Rattle.pm_view.specs.Changes.{Undrained}
 use Rattle.pm_view.specs.Counts.{IsAtStop}
 use Rattle.pm_view.specs.Places.{Place}
 use Rattle.pm_view.specs.Log.{Phase, Idle, Open, Drawn, Sealing, Applying, Clearing, Retiring, Voiding, Log, is_early, old_of}
-use Rattle.pm_view.specs.Claims.{Claim, pictured}
+use Rattle.pm_view.specs.Claims.{Claim, making, pictured}
 use Rattle.pm_view.specs.Steps.{Step}
 use Rattle.pm_view.specs.View.{View, Seen}
 use Rattle.pm_world.specs.States.{State, Diff, Cells, given}
 use Rattle.pm_world.specs.Sights.{is_recorded, picture, sight_of}
-use Rattle.pm_world.specs.Lanes.{owns, Bits}
+use Rattle.pm_world.specs.Lanes.{owns, is_decided, Bits}
 use Rattle.pm_world.specs.Logs.{slot_list, PhaseFits, LogFits}
 use Rattle.pm_world.specs.Memory.{Memory, PoolWord, LockWord, RunWord, ZoneWord, ZoneLock, CommitCounter, StopWord, occ_at, IsSameBut, cells_by, cells_of}
 use Rattle.pm_world.specs.World.{Opening, Views, Past, origin, ghost_of, settled_words, AloneFits, LaneFits, may_draw, may_draw_count, World}
 use Rattle.pm_world.specs.Laws.{Turn}
+use Rattle.pm_world.proofs.OccWorlds.{early_undecided}
 use Rattle.pm_world.proofs.Cells.{other_sort, occ_sort}
 use Rattle.pm_world.proofs.Counting.{count_same}
 use Rattle.pm_world.proofs.Frame.{Around}
@@ -40,9 +41,10 @@ phase_early sh lane pc pc' l changes Voiding e f = absurd (both_ways false refl 
 pub lane_again : (o : Opening) (mem new : Memory) (g : Past) (k : ℕ) (v : View) → LaneFits o mem g k v → ((w : ℕ) → new (PoolWord w) ≡ mem (PoolWord w)) → (claims' : List Claim) (seen' : List Step) (zones' : List ℕ) (occupancy' : List Seen)
     → PhaseFits o.shape k (picture v.fixed.shape claims') v.log v.changes v.log.phase
     → ((p : Place) (b : ℕ) → is_recorded v.log.records p ≡ true → owns g.geo (settled_words o g) (sight_of v).hold p b ≡ true → owns g.geo (settled_words o g) (sight_of (record v { claims = claims' })).hold p b ≡ true)
+    → (is_decided v.log.phase ≡ true → (c : ℕ) → making v.fixed.shape claims' c ≡ false)
     → ((z : ℕ) → (new (ZoneLock z) == suc k) ≡ list_any (λ other. other == z) zones') → (o.lanes ≡ 1 → AloneFits new (record v { claims = claims'; seen = seen'; zones = zones'; occupancy = occupancy' }))
     → LaneFits o new g k (record v { claims = claims'; seen = seen'; zones = zones'; occupancy = occupancy' })
-lane_again o mem new g k v f pools claims' seen' zones' occupancy' phase owned zones alone = let q = f.log in record {
+lane_again o mem new g k v f pools claims' seen' zones' occupancy' phase owned made zones alone = let q = f.log in record {
   lane = f.lane;
   shape = f.shape;
   lanes = f.lanes;
@@ -57,14 +59,15 @@ lane_again o mem new g k v f pools claims' seen' zones' occupancy' phase owned z
     records_most = q.records_most;
     pairs = λ i y e. let z = q.pairs i y e in (pools (word_of_entry o.shape k i + 0) ∙ z.0, pools (word_of_entry o.shape k i + 1) ∙ z.1, z.2, z.3);
     pair_part = λ i e. pools (word_of_entry o.shape k (length v.log.entries) + i) ∙ q.pair_part i e;
-    records = λ j r e. let z = q.records j r e in (λ i a. pools (8 * line_of_slot o.shape k j + i) ∙ z.0 i a, z.1, z.2, z.3, z.4);
+    records = λ j r e. let z = q.records j r e in (λ i a. pools (8 * line_of_slot o.shape k j + i) ∙ z.0 i a, z.1, z.2, z.3, z.4, z.5);
     once = q.once;
-    olds = λ u p y e b a. let z = q.olds u p y e b a in (owned p b (ap given e) z.0, z.1);
+    olds = λ p y e b. let z = q.olds p y e b in (owned p b (ap given e) z.0, z.1);
     slot_part = λ i e. pools (8 * line_of_slot o.shape k (length v.log.records) + i) ∙ q.slot_part i e;
     stale = λ j u e a z. q.stale j u e a (sym (ap (λ s. undo_of (slot_list s)) (λ i n. pools (8 * line_of_slot o.shape k j + n) i)) ∙ z);
     area_changes = q.area_changes;
     phase = phase;
   };
+  made = made;
   number = f.number;
   zones = zones;
   masks = f.masks;
@@ -97,7 +100,7 @@ module _ (o : Opening) (mem new : Memory) (views views' : Views) (g : Past) (x :
       → ((p : Place) (b : ℕ) → is_recorded (views k).log.records p ≡ true → owns g.geo (settled_words o g) (sight_of (views k)).hold p b ≡ true → owns g.geo (settled_words o g) (sight_of claimed_view).hold p b ≡ true)
       → (o.lanes ≡ 1 → (w y : ℕ) → pictured (views k).fixed.shape claims' w ≡ Some y → mem (PoolWord w) ≡ y) → LaneFits o new g k claimed_view
   lane_after early owned known = let f = x.each_lane k ink in lane_again o mem new g k (views k) f pool_word claims' seen' (views k).zones (views k).occupancy
-      (phase_early o.shape k (sight_of (views k)).picture (sight_of claimed_view).picture (views k).log (views k).changes (views k).log.phase early f.log.phase) owned (λ z. ap (λ n. n == suc k) (zone_lock z) ∙ f.zones z)
+      (phase_early o.shape k (sight_of (views k)).picture (sight_of claimed_view).picture (views k).log (views k).changes (views k).log.phase early f.log.phase) owned (λ t. absurd (both_ways (is_decided (views k).log.phase) (early_undecided (views k).log.phase early).0 t)) (λ z. ap (λ n. n == suc k) (zone_lock z) ∙ f.zones z)
       (λ one. record { words = λ w y e. pool_word w ∙ known one w y e; occupancy = λ at y e. let z = (f.alone one).occupancy at y e in (same (occ_at at) (occ_sort at (LockWord l) (λ q. omega arith) (λ q. omega arith)) ∙ z.0, z.1) })
 
   pub claims_step : is_early (views k).log.phase ≡ true

@@ -13,7 +13,7 @@ use Rattle.pm_view.specs.Changes.{Undrained, drained}
 use Rattle.pm_view.specs.Places.{Place, InRun, InHuge, Descr, RootWord, Block, Small, Big, Root, block_of, header, is_data, is_place}
 use Rattle.pm_view.specs.Entries.{Entry, latest, redos, turn, first_of_two}
 use Rattle.pm_view.specs.Log.{Phase, Idle, Open, Drawn, Sealing, Applying, Clearing, Retiring, Voiding, Recorded, Log, old_in, old_of, next_log, log_drained}
-use Rattle.pm_view.specs.Claims.{Claim, Decided, Drained, class, locked, found, here, header_in, found_after, pictured}
+use Rattle.pm_view.specs.Claims.{Claim, Decided, Drained, class, making, locked, found, here, header_in, found_after, pictured}
 use Rattle.pm_view.specs.View.{View}
 use Rattle.pm_view.specs.Steps.Step.{Drain}
 use Rattle.pm_view.specs.Views.{decided_by, drained_to}
@@ -144,10 +144,10 @@ abbrev goes_on_in : Phase → View → View
 goes_on_in ph v = record v { claims = decided_by ph v.log.entries v.claims; log = log_drained ph v.log }
 
 abbrev GoesOnIn : Phase → Type 0
-GoesOnIn ph = (o : Opening) (mem : Memory) (views new : Views) (g : Past) (k : ℕ) → World o mem views g → k < o.lanes → (views k).changes ≡ [] → (views k).log.phase ≡ ph → Turn views new k (goes_on_in ph (views k)) → World o mem new (past_decided ph (views k) g)
+GoesOnIn ph = (o : Opening) (mem : Memory) (views new : Views) (g : Past) (k : ℕ) → World o mem views g → k < o.lanes → (views k).changes ≡ [] → ((c : ℕ) → making (views k).fixed.shape (views k).claims c ≡ false) → (views k).log.phase ≡ ph → Turn views new k (goes_on_in ph (views k)) → World o mem new (past_decided ph (views k) g)
 
 in_phase : (ph : Phase) → GoesOnIn ph → GoesOnAt ph
-in_phase ph f o mem views new g k x ink clean e t = subst (λ z. World o mem new (past_decided z (views k) g)) (sym e) (f o mem views new g k x ink clean e (subst (λ z. Turn views new k (goes_on_in z (views k))) e t))
+in_phase ph f o mem views new g k x ink clean unmade e t = subst (λ z. World o mem new (past_decided z (views k) g)) (sym e) (f o mem views new g k x ink clean unmade e (subst (λ z. Turn views new k (goes_on_in z (views k))) e t))
 
 -- where nothing is to be decided the view stays
 module _ (o : Opening) (mem : Memory) (views new : Views) (g : Past) (k : ℕ) (x : World o mem views g) (ink : k < o.lanes) where
@@ -155,16 +155,16 @@ module _ (o : Opening) (mem : Memory) (views new : Views) (g : Past) (k : ℕ) (
   same_view t = plain_step o mem mem views new g x k ink (λ l. refl) (views k) t refl refl (λ e. e) (x.each_lane k ink)
 
 pub goes_on_idle : GoesOnAt Idle
-goes_on_idle = in_phase Idle (λ o mem views new g k x ink clean e t. same_view o mem views new g k x ink t)
+goes_on_idle = in_phase Idle (λ o mem views new g k x ink clean unmade e t. same_view o mem views new g k x ink t)
 
 pub goes_on_open : GoesOnAt Open
-goes_on_open = in_phase Open (λ o mem views new g k x ink clean e t. same_view o mem views new g k x ink t)
+goes_on_open = in_phase Open (λ o mem views new g k x ink clean unmade e t. same_view o mem views new g k x ink t)
 
 pub goes_on_drawn : (n : ℕ) → GoesOnAt (Drawn n)
-goes_on_drawn n = in_phase (Drawn n) (λ o mem views new g k x ink clean e t. same_view o mem views new g k x ink t)
+goes_on_drawn n = in_phase (Drawn n) (λ o mem views new g k x ink clean unmade e t. same_view o mem views new g k x ink t)
 
 pub goes_on_applying : (todo : List Entry) → GoesOnAt (Applying todo)
-goes_on_applying todo = in_phase (Applying todo) (λ o mem views new g k x ink clean e t. same_view o mem views new g k x ink t)
+goes_on_applying todo = in_phase (Applying todo) (λ o mem views new g k x ink clean unmade e t. same_view o mem views new g k x ink t)
 
 -- ---- the words stay, and the lane's view is this one
 module _ (o : Opening) (mem : Memory) (views new : Views) (g : Past) (k : ℕ) (x : World o mem views g) (ink : k < o.lanes) (clean : (views k).changes ≡ []) where
@@ -181,14 +181,16 @@ module _ (o : Opening) (mem : Memory) (views new : Views) (g : Past) (k : ℕ) (
   world_now : (claims : List Claim) (log : Log) (decided : ℕ → Bool) (holder : Block → ℕ) → let v = record (views k) { claims = claims; log = log } in let g' = record g { decided = decided; holder = holder } in Turn views new k v
       → Around k (sight_of (views k)).hold (λ j. (sight_of (views j)).hold) (cells_of o.shape mem) (cells_of o.shape mem) (settled_words o g) (settled_words o g') (ghost_of g) (ghost_of g')
       → Bits o.shape o.lanes (origin o) (cells_of o.shape mem) (λ j. sight_of (new j)) (ghost_of g') → AreaFits o mem g' k v → NumberFits log.phase (views k).number
-      → ((w n : ℕ) → pictured (views k).fixed.shape claims w ≡ Some n → pictured (views k).fixed.shape (views k).claims w ≡ Some n) → World o mem new g'
-  world_now claims log decided holder t m bits area number known = let v = record (views k) { claims = claims; log = log } in let g' = record g { decided = decided; holder = holder } in let f = lane_fits in world_after o mem views g x k ink mem new g' (settled_words o g') v refl m
+      → ((w n : ℕ) → pictured (views k).fixed.shape claims w ≡ Some n → pictured (views k).fixed.shape (views k).claims w ≡ Some n)
+      → (is_decided log.phase ≡ true → (c : ℕ) → making (views k).fixed.shape claims c ≡ false) → World o mem new g'
+  world_now claims log decided holder t m bits area number known made = let v = record (views k) { claims = claims; log = log } in let g' = record g { decided = decided; holder = holder } in let f = lane_fits in world_after o mem views g x k ink mem new g' (settled_words o g') v refl m
       record { generation = λ j ne. refl; seal = λ j ne. refl; entry = λ j i q ne. refl; slot = λ j i q ne. refl; zone = λ z j ne. refl; entries = λ j ne. refl } t bits
       record {
         lane = f.lane;
         shape = f.shape;
         lanes = f.lanes;
         log = area;
+        made = made;
         number = number;
         zones = f.zones;
         masks = f.masks;
@@ -232,7 +234,7 @@ module _ (o : Opening) (mem : Memory) (views new : Views) (g : Past) (k : ℕ) (
       (unchanged o.shape o.lanes (origin o) (cells_of o.shape mem) (λ j. sight_of (views j)) (ghost_of g) x.bits k ink (sight_of v) (λ j. sight_of (new j)) refl (λ n y. absurd (subst (λ z. flies_at z n) e y))
       (over_idle o.shape (cells_of o.shape mem) (settled_words o g) (Flies (ghost_of g) k) (ghost_of g) k (sight_of (views k)) (x.bits.each_lane k) (empty_fresh Idle) (nothing Idle) unsoiled (same_bit Clearing e refl (λ p b. refl))) (turned views new k v t))
       (ended o.shape k ((cells_of o.shape mem).generation k) ((cells_of o.shape mem).seal k) ((cells_of o.shape mem).entry k) ((cells_of o.shape mem).slot k) (settled_words o g) (settled_words o g) (owns g.geo (settled_words o g) (sight_of (views k)).hold) (owns g.geo (settled_words o g) (sight_of (views k)).hold) (sight_of (views k)).picture
-      (record (views k).log { phase = Clearing }) (views k).changes l clean l.bump l.sealed l.phase.1 Idle refl refl (refl, refl, refl, refl)) tt (λ w n q. q)
+      (record (views k).log { phase = Clearing }) (views k).changes l clean l.bump l.sealed l.phase.1 Idle refl refl (refl, refl, refl, refl)) tt (λ w n q. q) (λ t. absurd (both_ways false refl t))
 
   -- AN ABORTED CALL'S RECORDS ARE VOIDED: each recorded word has its old value again, which is the settled one
   restored_bit : (views k).log.phase ≡ Voiding → (p : Place) (b : ℕ) → owns g.geo (settled_words o g) (sight_of (views k)).hold p b ≡ true → live (settled_words o g) g.geo g.runs p ≡ true → read (cells_of o.shape mem).pool p b ≡ settled_words o g p b
@@ -247,7 +249,7 @@ module _ (o : Opening) (mem : Memory) (views new : Views) (g : Past) (k : ℕ) (
       (unchanged o.shape o.lanes (origin o) (cells_of o.shape mem) (λ j. sight_of (views j)) (ghost_of g) x.bits k ink (sight_of v) (λ j. sight_of (new j)) refl (λ n y. absurd (subst (λ z. flies_at z n) e y))
       (over_open o.shape (cells_of o.shape mem) (settled_words o g) (Flies (ghost_of g) k) (ghost_of g) k (sight_of (views k)) (x.bits.each_lane k) (empty_fresh Open) (nothing Open) unsoiled (restored_bit e)) (turned views new k v t))
       (ended o.shape k ((cells_of o.shape mem).generation k) ((cells_of o.shape mem).seal k) ((cells_of o.shape mem).entry k) ((cells_of o.shape mem).slot k) (settled_words o g) (settled_words o g) (owns g.geo (settled_words o g) (sight_of (views k)).hold) (owns g.geo (settled_words o g) (sight_of (views k)).hold) (sight_of (views k)).picture
-      (record (views k).log { phase = Voiding }) (views k).changes l clean l.bump l.sealed l.phase.1 Open refl refl (omega arith, omega arith)) (subst (λ ph. NumberFits ph (views k).number) e lane_fits.number) (λ w n q. q)
+      (record (views k).log { phase = Voiding }) (views k).changes l clean l.bump l.sealed l.phase.1 Open refl refl (omega arith, omega arith)) (subst (λ ph. NumberFits ph (views k).number) e lane_fits.number) (λ w n q. q) (λ t. absurd (both_ways false refl t))
 
   -- A CALL IS DECIDED by its seal, or by the next generation, where it has no entries
   data_only : (p : Place) (b : ℕ) → is_data p ≡ false → given ((sight_of (views k)).call.fresh p b) ≡ false
@@ -279,8 +281,8 @@ module _ (o : Opening) (mem : Memory) (views new : Views) (g : Past) (k : ℕ) (
   sealed_sight : (n : ℕ) → (views k).log.phase ≡ Sealing n → sight_of (goes_on_in (Sealing n) (views k)) ≡ decided_sight (sight_of (views k)) (views k).log.entries
   sealed_sight n e = λ i. let y = sight_of (goes_on_in (Sealing n) (views k)) in record y { hold = record y.hold { here = λ B. here_now n e B i } }
 
-  pub sealed : (n : ℕ) → (views k).log.phase ≡ Sealing n → Turn views new k (goes_on_in (Sealing n) (views k)) → World o mem new (past_decided (Sealing n) (views k) g)
-  sealed n e t = let v = goes_on_in (Sealing n) (views k) in let g' = past_decided (Sealing n) (views k) g in let a = turned views new k v t in let f = sight_in (Sealing n) e in
+  pub sealed : (n : ℕ) → ((c : ℕ) → making (views k).fixed.shape (views k).claims c ≡ false) → (views k).log.phase ≡ Sealing n → Turn views new k (goes_on_in (Sealing n) (views k)) → World o mem new (past_decided (Sealing n) (views k) g)
+  sealed n unmade e t = let v = goes_on_in (Sealing n) (views k) in let g' = past_decided (Sealing n) (views k) g in let a = turned views new k v t in let f = sight_in (Sealing n) e in
       let only : (m : ℕ) → flies_at (views k).log.phase m → n ≡ m = λ m q. subst (λ z. flies_at z m) e q in
       world_now (Decided (redos (views k).log.entries) ∷ (views k).claims) (record (views k).log { phase = Applying (views k).log.entries }) (put1 g.decided n true) (λ B. holder_after (views k).fixed.lane (turn (latest (redos (views k).log.entries)) B) (g.holder B)) t
       (around o.shape o.lanes (origin o) (cells_of o.shape mem) (λ j. sight_of (views j)) (ghost_of g) x.bits k ink (views k).fixed.lane lane_fits.lane n (views k).log.entries f only data_only high (λ p b. refl))
@@ -288,7 +290,7 @@ module _ (o : Opening) (mem : Memory) (views new : Views) (g : Past) (k : ℕ) (
       (record { here = a.here ∙ sealed_sight n e; else_ = a.else_ }))
       (sealed_log o.shape k ((cells_of o.shape mem).generation k) ((cells_of o.shape mem).seal k) ((cells_of o.shape mem).entry k) ((cells_of o.shape mem).slot k) (settled_words o g) (settled_words o g') (owns g.geo (settled_words o g) (sight_of (views k)).hold) (owns g.geo (settled_words o g') (sight_of v).hold) (sight_of (views k)).picture
       (views k).log (views k).changes lane_fits.log clean n e
-      (λ p b q. subst (λ y. owns g.geo (settled_words o g') y.hold p b ≡ true) (sym (sealed_sight n e)) (owned_now o.shape o.lanes (origin o) (cells_of o.shape mem) (λ j. sight_of (views j)) (ghost_of g) x.bits k ink (views k).fixed.lane lane_fits.lane n (views k).log.entries f only data_only high (λ p b. refl) p b q))) tt (λ w m q. q)
+      (λ p b q. subst (λ y. owns g.geo (settled_words o g') y.hold p b ≡ true) (sym (sealed_sight n e)) (owned_now o.shape o.lanes (origin o) (cells_of o.shape mem) (λ j. sight_of (views j)) (ghost_of g) x.bits k ink (views k).fixed.lane lane_fits.lane n (views k).log.entries f only data_only high (λ p b. refl) p b q))) tt (λ w m q. q) (λ t. unmade)
 
   -- a call without entries, which the next generation decides: it is over at once
   module _ (n : ℕ) (e : (views k).log.phase ≡ Retiring n) where
@@ -362,19 +364,19 @@ module _ (o : Opening) (mem : Memory) (views new : Views) (g : Past) (k : ℕ) (
         (over_idle o.shape (cells_of o.shape mem) (settled (origin o) ghost) (Flies ghost k) ghost k kept kept_fits (empty_fresh Idle) (nothing Idle) unsoiled
         (λ p b q al. (kept_fits.bits p b q).0 al refl (and_false ((sight_of (views k)).logged p)))) (record { here = a.here; else_ = λ j ne. a.else_ j ne ∙ sym (between_else j ne) }))
         (ended o.shape k ((cells_of o.shape mem).generation k) ((cells_of o.shape mem).seal k) ((cells_of o.shape mem).entry k) ((cells_of o.shape mem).slot k) (settled_words o g) (settled_words o g') (owns g.geo (settled_words o g) (sight_of (views k)).hold) (owns g.geo (settled_words o g') (sight_of (views k)).hold) (sight_of (views k)).picture
-        (record (views k).log { phase = Retiring n }) (views k).changes l clean l.bump l.sealed l.phase.1 Idle refl refl (refl, refl, refl, refl)) tt (λ w m q. q)
+        (record (views k).log { phase = Retiring n }) (views k).changes l clean l.bump l.sealed l.phase.1 Idle refl refl (refl, refl, refl, refl)) tt (λ w m q. q) (λ t. absurd (both_ways false refl t))
 
 pub goes_on_clearing : GoesOnAt Clearing
-goes_on_clearing = in_phase Clearing (λ o mem views new g k x ink clean e t. cleared o mem views new g k x ink clean e t)
+goes_on_clearing = in_phase Clearing (λ o mem views new g k x ink clean unmade e t. cleared o mem views new g k x ink clean e t)
 
 pub goes_on_voiding : GoesOnAt Voiding
-goes_on_voiding = in_phase Voiding (λ o mem views new g k x ink clean e t. voided o mem views new g k x ink clean e t)
+goes_on_voiding = in_phase Voiding (λ o mem views new g k x ink clean unmade e t. voided o mem views new g k x ink clean e t)
 
 pub goes_on_sealing : (n : ℕ) → GoesOnAt (Sealing n)
-goes_on_sealing n = in_phase (Sealing n) (λ o mem views new g k x ink clean e t. sealed o mem views new g k x ink clean n e t)
+goes_on_sealing n = in_phase (Sealing n) (λ o mem views new g k x ink clean unmade e t. sealed o mem views new g k x ink clean n unmade e t)
 
 pub goes_on_retiring : (n : ℕ) → GoesOnAt (Retiring n)
-goes_on_retiring n = in_phase (Retiring n) (λ o mem views new g k x ink clean e t. retired o mem views new g k x ink clean n e t)
+goes_on_retiring n = in_phase (Retiring n) (λ o mem views new g k x ink clean unmade e t. retired o mem views new g k x ink clean n e t)
 
 -- IN EACH PHASE
 pub goes_on_in_each : (ph : Phase) → GoesOnAt ph
@@ -415,7 +417,7 @@ module _ (drop : Drops) (o : Opening) (mem : Memory) (views new : Views) (g : Pa
   drained_all e t = let here : dropped k ≡ drop_to (views k) [] = dropped_here ∙ ap (drop_to (views k)) e in
       let w : World o mem dropped (past_made g (views k) []) = subst (λ l. World o mem dropped (past_made g (views k) l)) e (drop o mem views dropped g k x ink (record { here = dropped_here; else_ = dropped_else })) in
       subst (World o mem new) (decided_drop (views k).log.phase (views k) (past_made g (views k) [])) (subst (λ v. World o mem new (past_decided v.log.phase v (past_made g (views k) []))) here
-      (goes_on_in_each (dropped k).log.phase o mem dropped new (past_made g (views k) []) k w ink (ap (λ v. v.changes) here) refl (record { here = t.here ∙ sym (ap goes_on_to here); else_ = λ j ne. t.else_ j ne ∙ sym (dropped_else j ne) })))
+      (goes_on_in_each (dropped k).log.phase o mem dropped new (past_made g (views k) []) k w ink (ap (λ v. v.changes) here) (subst (λ v. (c : ℕ) → making v.fixed.shape v.claims c ≡ false) (sym here) (λ c. refl)) refl (record { here = t.here ∙ sym (ap goes_on_to here); else_ = λ j ne. t.else_ j ne ∙ sym (dropped_else j ne) })))
 
   drained_world : (left : List Undrained) → drained (views k).changes ≡ left → Turn views new k (drained_to (views k) left) → World o mem new (past_drained g (views k) left)
   drained_world [] e t = drained_all e t

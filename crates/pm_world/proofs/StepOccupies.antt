@@ -57,7 +57,7 @@ if_some (Some x) P u = u x refl
 -- a look at an occupancy word is of its value
 pub occupied : (at : Occ) (found : ℕ) → Keeps (Occupied at found)
 occupied at found o mem new views views' g k x ink law moves t = let f = x.each_lane k ink in let v = after (views k) (Occupied at found) in (
-  plain_step o mem new views views' g x k ink moves.0 v t refl refl (λ e. e) record { lane = f.lane; shape = f.shape; lanes = f.lanes; log = f.log; number = f.number; zones = f.zones; masks = f.masks; room = f.room; within = f.within; alone = λ one. record { words = (f.alone one).words; occupancy = λ other y e. seen (f.alone one).occupancy other y e }; entries = f.entries },
+  plain_step o mem new views views' g x k ink moves.0 v t refl refl (λ e. e) record { lane = f.lane; shape = f.shape; lanes = f.lanes; log = f.log; made = f.made; number = f.number; zones = f.zones; masks = f.masks; room = f.room; within = f.within; alone = λ one. record { words = (f.alone one).words; occupancy = λ other y e. seen (f.alone one).occupancy other y e }; entries = f.entries },
   λ one. if_some (occupancy_of (views k).occupancy at) (λ y. found ≡ y) (λ y e. moves.1 ∙ ((f.alone (sym f.lanes ∙ eqb-true (views k).fixed.lanes 1 one)).occupancy at y e).0),
 )
   where

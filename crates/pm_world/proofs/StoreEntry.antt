@@ -196,7 +196,7 @@ module _ (w n : ℕ) (o : Opening) (mem new : Memory) (views views' : Views) (g 
   world_with_log es' pair' sight fits t = let log = record (views k).log { entries = es'; pair = pair' } in area_world o mem new views views' g x k ink w n (8 + 2 * length (views k).log.entries + length (views k).log.pair) at in_area m due b log (λ j y. y)
       (sight_from o mem new views views' g x k ink w n (8 + 2 * length (views k).log.entries + length (views k).log.pair) at in_area m due b log Open open_
       (λ p. logged_else (views k).fixed.shape (views k).fixed.lane (undrained_by (views k) w) (views k).changes 0 (views k).log.records p (λ j _. no_slot_line j)) (sight_of (views k)).logged (λ p. refl) sight)
-      (subst (λ z. LoggedNow (record (views k).log { phase = z; entries = es'; pair = pair' })) (sym open_) fits) (x.each_lane k ink).number t
+      (subst (λ z. LoggedNow (record (views k).log { phase = z; entries = es'; pair = pair' })) (sym open_) fits) (x.each_lane k ink).number (x.each_lane k ink).made t
 
   -- the first word of the pair
   first_word : (views k).log.pair ≡ [] → Turn views views' k (after_store (views k) w n (record (views k).log { pair = n ∷ [] })) → World o new views' g

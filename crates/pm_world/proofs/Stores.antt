@@ -1,8 +1,8 @@
 -- What each kind of store owes, by how far its lane's call has come and what the word is to the lane; and what each part of a drain does.
-use Rattle.std.specs.Prelude.{[], ◌∷◌}
-use Rattle.std.proofs.Common.{◌≡◌, ℕ, ◌+◌, ◌<◌}
+use Rattle.std.specs.Prelude.{false, [], ◌∷◌}
+use Rattle.std.proofs.Common.{false, ◌≡◌, ℕ, ◌+◌, ◌<◌}
 use Rattle.pm_view.specs.Changes.{Undrained, drained}
-use Rattle.pm_view.specs.Claims.{Drained}
+use Rattle.pm_view.specs.Claims.{making, Drained}
 use Rattle.pm_view.specs.Log.{Phase, log_drained}
 use Rattle.pm_view.specs.Parts.{Part}
 use Rattle.pm_view.specs.Steps.Step.{Store}
@@ -27,10 +27,11 @@ drops v = record v { claims = Drained (drained v.changes) ∷ v.claims; changes 
 abbrev pub Drops : Type 0
 Drops = (o : Opening) (mem : Memory) (views new : Views) (g : Past) (k : ℕ) → World o mem views g → k < o.lanes → Turn views new k (drops (views k)) → World o mem new (past_made g (views k) (drained (views k).changes))
 
--- and, with nothing undrained any more, the log goes on
+-- and, with nothing undrained any more and no run in the making, the log goes on
 abbrev pub goes_on_to : View → View
 goes_on_to v = record v { claims = decided_by v.log.phase v.log.entries v.claims; log = log_drained v.log.phase v.log }
 
 abbrev pub GoesOnAt : Phase → Type 0
-GoesOnAt ph = (o : Opening) (mem : Memory) (views new : Views) (g : Past) (k : ℕ) → World o mem views g → k < o.lanes → (views k).changes ≡ [] → (views k).log.phase ≡ ph → Turn views new k (goes_on_to (views k))
+GoesOnAt ph = (o : Opening) (mem : Memory) (views new : Views) (g : Past) (k : ℕ) → World o mem views g → k < o.lanes → (views k).changes ≡ [] → ((c : ℕ) → making (views k).fixed.shape (views k).claims c ≡ false)
+    → (views k).log.phase ≡ ph → Turn views new k (goes_on_to (views k))
     → World o mem new (past_decided (views k).log.phase (views k) g)
