@@ -21,4 +21,5 @@ pub mod PlacesAt
 pub mod Entering
 pub mod EntryBits
 pub mod StoreEntry
+pub mod StoreEnd
 pub mod Crashes
