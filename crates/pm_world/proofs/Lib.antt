@@ -22,4 +22,5 @@ pub mod Entering
 pub mod EntryBits
 pub mod StoreEntry
 pub mod StoreEnd
+pub mod RecordBits
 pub mod Crashes
