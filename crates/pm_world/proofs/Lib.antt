@@ -42,3 +42,6 @@ pub mod PlacesAt
 pub mod Entering
 pub mod EntryBits
 pub mod StoreEntry
+pub mod StoreEnd
+pub mod RecordBits
+pub mod Crashes
