@@ -44,4 +44,3 @@ pub mod EntryBits
 pub mod StoreEntry
 pub mod StoreEnd
 pub mod RecordBits
-pub mod Crashes

@@ -5,7 +5,7 @@ use Rattle.std.proofs.Common.{◌≡◌, ◌≢◌, ℕ, zero, suc, ◌+◌, ◌
 use Rattle.std.proofs.lemmas.Bool.{eqb-true, leb-true, ltb-true, le-leb, lt-ltb, both_ways, and_parts, and_from, or_right, cond-true, cond-false, false_from_ne_true}
 use Rattle.std.proofs.Math.Nat.{mod-eq-sub-mul-div, mul-div-le, mul-mod_right}
 use Rattle.pm_layout.specs.declared.shape.Shape.{Shape}
-use Rattle.pm_view.specs.Claims.{class, first_in, pictured, geometry}
+use Rattle.pm_view.specs.Claims.{class, first, pictured, geometry}
 use Rattle.pm_view.specs.Entries.{latest, turn}
 use Rattle.pm_view.specs.Founds.{knows}
 use Rattle.pm_view.specs.Log.{Open}
@@ -121,9 +121,9 @@ module _ (sh : Shape) (cells : Cells) (S : State) (flies : ℕ → Diff → Type
         (and_from (S (InRun c 0) ((u / 8 - 1) / g.geo.class c)) (lit (S p) l) there_ (le-leb l ((val (S p) 0 64 + 63) / 64) (subst (λ y. l ≤ (y + 63) / 64) (sym s) (subst (λ y. y ≤ (size + 63) / 64) off within))))))
 
   -- ---- of a huge block
-  module _ (c u : ℕ) (high : nat_lt u 512 ≡ true) (found : (sight_of v).hold.here (Big (first_in v.fixed.shape v.claims c)) ≡ true) where
-    first_is : first_in v.fixed.shape v.claims c ≡ g.geo.first c
-    first_is = huge_known sh cells S flies g geo k v f c (own_has (sight_of v).hold (Big (first_in v.fixed.shape v.claims c)) (here_own (sight_of v).hold (Big (first_in v.fixed.shape v.claims c)) found))
+  module _ (c u : ℕ) (high : nat_lt u 512 ≡ true) (found : (sight_of v).hold.here (Big (first v.fixed.shape v.claims c)) ≡ true) where
+    first_is : first v.fixed.shape v.claims c ≡ g.geo.first c
+    first_is = huge_known sh cells S flies g geo k v f c (own_has (sight_of v).hold (Big (first v.fixed.shape v.claims c)) (here_own (sight_of v).hold (Big (first v.fixed.shape v.claims c)) found))
 
     big_here : (sight_of v).hold.here (Big (g.geo.first c)) ≡ true
     big_here = subst (λ n. (sight_of v).hold.here (Big n) ≡ true) first_is found

@@ -49,7 +49,7 @@ offset_in v RootWord = 0
 -- the word that has the size of the object that a data word is in
 abbrev pub size_in : View → Place → ℕ
 size_in v (InRun c w) = word_of_chunk v.fixed.shape c + (8 * (1 + class v.claims c * ((w / 8 - 1) / class v.claims c)) + 1)
-size_in v (InHuge c w) = word_of_chunk v.fixed.shape (first_in v.fixed.shape v.claims c) + 1
+size_in v (InHuge c w) = word_of_chunk v.fixed.shape (first v.fixed.shape v.claims c) + 1
 size_in v (Descr c) = 0
 size_in v RootWord = 0
 
