@@ -157,15 +157,17 @@ pub record MayMark (v : View) (c x : ℕ) : Type 0 where
   pub unentered : v.log.entries ≡ []
 
 -- ---- STORES THAT DECIDE: of the seal, once the number is drawn and all is drained, with all entries, the last of which ends the generation; of the next
--- generation for a call without entries
+-- generation for a call without entries. The lane knows what the word was, so that a crash image may have that
 pub record Seals (v : View) (x : ℕ) : Type 0 where
   pub all : x ≡ length v.log.entries
+  pub known : value_in v (word_of_seal v.fixed.shape v.fixed.lane) ≡ Some 0
   pub whole : AreWhole v.fixed.shape v.fixed.lane v.log
   pub below : v.log.generation < greatest_generation v.fixed.shape
   pub drained : v.changes ≡ []
 
 pub record EndsGeneration (v : View) (x : ℕ) : Type 0 where
   pub next : x ≡ v.log.generation + 1
+  pub known : value_in v (word_of_generation v.fixed.shape v.fixed.lane) ≡ Some v.log.generation
   pub below : v.log.generation < greatest_generation v.fixed.shape
   pub drained : v.changes ≡ []
   pub unentered : v.log.entries ≡ []
@@ -183,6 +185,7 @@ IsNext (e ∷ todo) w op value = (e.word ≡ w) × (e.op ≡ op) × (e.value ≡
 
 pub record Clears (v : View) (x : ℕ) (todo : List Entry) : Type 0 where
   pub zero_ : x ≡ 0
+  pub known : value_in v (word_of_seal v.fixed.shape v.fixed.lane) ≡ Some (length v.log.entries)
   pub all : todo ≡ []
   pub drained : v.changes ≡ []
 
@@ -196,7 +199,7 @@ StoreFits v w x Open (DescriptorPart c) = MayMark v c x
 StoreFits v w x Open GenerationPart = Voids v x
 StoreFits v w x (Drawn n) GenerationPart = EndsGeneration v x
 StoreFits v w x (Drawn n) SealPart = Seals v x
-StoreFits v w x (Applying todo) GenerationPart = IsNext todo w op.Set x
+StoreFits v w x (Applying todo) GenerationPart = IsNext todo w op.Set x × (value_in v w ≡ Some v.log.generation)
 StoreFits v w x (Applying todo) RootPart = IsNext todo w op.Set x
 StoreFits v w x (Applying todo) (DescriptorPart c) = IsNext todo w op.Set x
 StoreFits v w x (Applying todo) (ChunkPart c i) = IsNext todo w op.Set x
