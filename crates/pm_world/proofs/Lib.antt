@@ -17,6 +17,7 @@ pub mod StepDrain
 pub mod Stored
 pub mod AfterStore
 pub mod StoreArea
+pub mod StepChange
 pub mod PlacesAt
 pub mod Entering
 pub mod Crashes
