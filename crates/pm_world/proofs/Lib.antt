@@ -18,6 +18,7 @@ pub mod Stored
 pub mod AfterStore
 pub mod StoreArea
 pub mod StepChange
+pub mod Applies
 pub mod PlacesAt
 pub mod Entering
 pub mod Crashes
