@@ -50,7 +50,7 @@ pub first_none : (a d : Option Bool) → given a ≡ false → first_of_two a d 
 first_none None d e = refl
 first_none (Some y) d e = absurd (both_ways true e refl)
 
-first_left : (a d : Option Bool) (y : Bool) → a ≡ Some y → first_of_two a d ≡ Some y
+pub first_left : (a d : Option Bool) (y : Bool) → a ≡ Some y → first_of_two a d ≡ Some y
 first_left None d y e = absurd (both_ways false refl (ap given e))
 first_left (Some z) d y e = e
 

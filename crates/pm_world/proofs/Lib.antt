@@ -38,6 +38,8 @@ pub mod StepDrain
 pub mod Stored
 pub mod AfterStore
 pub mod StoreArea
+pub mod StepChange
+pub mod Applies
 pub mod PlacesAt
 pub mod Entering
 pub mod EntryBits

@@ -38,7 +38,7 @@ use Rattle.pm_world.proofs.Worlds.{Aside, turned, world_after, stops_stay}
 high_bit : (x b : ℕ) → x < 2 ^ 64 → 64 ≤ b → bit x b ≡ false
 high_bit x b l q = ap (λ d. d == 1) (bit_at_above x 64 b l q)
 
-and_false : (t : Bool) → (t && false) ≡ false
+pub and_false : (t : Bool) → (t && false) ≡ false
 and_false true = refl
 and_false false = refl
 
