@@ -100,7 +100,7 @@ module _ (sh : Shape) (cells cells' : Cells) (S : State) (flies : ℕ → Diff �
       span = f.hold.span;
       first = f.hold.first;
       zone = f.hold.zone;
-      making = λ c t. let y = f.hold.making c t in (y.0, w.descr c ∙ y.1, y.2, y.3);
+      making = λ c t. let y = f.hold.making c t in (y.0, w.descr c ∙ y.1, y.2, y.3, y.4);
       free = f.hold.free;
       seen = λ c n t. w.descr c ∙ f.hold.seen c n t;
     }

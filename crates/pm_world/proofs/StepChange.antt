@@ -177,7 +177,7 @@ module _ (o : Opening) (mem new : Memory) (views views' : Views) (g : Past) (x :
 
     -- THE SEAL IS TO BE CLEARED
     pub clears : (views k).log.phase ≡ Applying [] → part_of o.shape k w ≡ SealPart → Clears (views k) n [] → Turn views views' k (after_store (views k) w n (record (views k).log { phase = Clearing })) → World o new views' g
-    clears e part c t = area_world o mem new views views' g x k ink w n 1 at (omega arith) m due b (record (views k).log { phase = Clearing }) (λ j q. absurd (subst (λ z. flies_at z j) e q)) (clears_sight e c.drained) (clears_log e part c) tt t
+    clears e part c t = area_world o mem new views views' g x k ink w n 1 at (omega arith) m due b (record (views k).log { phase = Clearing }) (λ j q. absurd (subst (λ z. flies_at z j) e q)) (clears_sight e c.drained) (clears_log e part c) tt (λ _. (x.each_lane k ink).made (ap Rattle.pm_world.specs.Lanes.is_decided e)) t
 
   -- the next generation is stored
   module _ (at : w ≡ word_of_generation o.shape k + 0) (e : Entry) (t : List Entry) (ph : (views k).log.phase ≡ Applying (e ∷ t)) (part : part_of o.shape k w ≡ GenerationPart) (word : e.word ≡ w) (value : e.value ≡ n) (known : value_in (views k) w ≡ Some (views k).log.generation) where
@@ -261,7 +261,7 @@ module _ (o : Opening) (mem new : Memory) (views views' : Views) (g : Past) (x :
 
     -- THE ENTRY THAT ENDS THE GENERATION IS APPLIED
     pub ends_generation : Turn views views' k (after_store (views k) w n (record (views k).log { phase = Applying t; bumped = true })) → World o new views' g
-    ends_generation y = area_world o mem new views views' g x k ink w n 0 at (omega arith) m due b (record (views k).log { phase = Applying t; bumped = true }) (λ j q. absurd (subst (λ z. flies_at z j) ph q)) ended_sight ended_log tt y
+    ends_generation y = area_world o mem new views views' g x k ink w n 0 at (omega arith) m due b (record (views k).log { phase = Applying t; bumped = true }) (λ j q. absurd (subst (λ z. flies_at z j) ph q)) ended_sight ended_log tt (λ _. (x.each_lane k ink).made (ap Rattle.pm_world.specs.Lanes.is_decided ph)) y
 
 -- ---- a store, its phase and its part written out
 abbrev Stored : Views → Views → ℕ → ℕ → ℕ → Phase → Part → Type 0
