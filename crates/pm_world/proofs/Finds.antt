@@ -84,7 +84,7 @@ module _ (sh : Shape) (L : ℕ) (o : State) (cells : Cells) (sights : ℕ → Si
           (λ (ne : j ≢ k). both_ways ((sights j).hold.locked l) (others_unlocked sh L o cells sights g x k ink l lk j ne) lj) (cases_eq j k)
 
   -- the chunk that memory tells to be a run is one, where a bit of its bitmap is set
-  is_run_there : (c i n : ℕ) → cells.descr c ≡ suc n → read cells.pool (InRun c 0) i ≡ true → g.runs c ≡ true
+  pub is_run_there : (c i n : ℕ) → cells.descr c ≡ suc n → read cells.pool (InRun c 0) i ≡ true → g.runs c ≡ true
   is_run_there c i n d m = ⊎_elim (λ (e : g.runs c ≡ true). e) (λ (e : g.runs c ≡ false). absurd (⊎_elim
       (λ (y : (j : ℕ) × ((sights j).hold.making c ≡ true)). both_ways (read cells.pool (InRun c 0) i) (((fit y.0).bits (InRun c 0) i (making_own (sights y.0).hold c i y.1)).1 y.1) m)
       (λ (y : (j : ℕ) → (sights j).hold.making c ≡ false). let z : cells.descr c ≡ 0 = x.descr c y ∙ ap (λ t. cond t (g.geo.class c) 0) e in (omega arith)) (maker_of c))) (cases_Bool (g.runs c))

@@ -13,6 +13,7 @@ pub mod Counting
 pub mod StepPlain
 pub mod StepClaims
 pub mod StepLocks
+pub mod Looks
 pub mod StepZones
 pub mod Values
 pub mod Births
