@@ -1,7 +1,7 @@
 -- Lock words by their bits: a lane that takes a lock, raises it or gives it back changes its own bits alone.
-use Rattle.std.proofs.Common.{◌≡◌, ◌≢◌, ℕ, ◌+◌, ◌-◌, ◌*◌, ◌/◌, ◌^◌, ◌<◌, ◌≤◌, ◌⊎◌, inl, inr, ⊎_elim, nat_lt, max, min, Bool, true, false, ◌&&◌, eqb, ◌==◌, bit_and, bit_or, Some, refl, sym, ap, ◌∙◌, arith, eq-eqb, lt-ltb, le-ltb, pow_mono, pow_pos, pow-add}
+use Rattle.std.proofs.Common.{◌≡◌, ◌≢◌, ℕ, ◌+◌, ◌*◌, ◌/◌, ◌^◌, ◌<◌, ◌≤◌, ◌⊎◌, ⊎_elim, nat_lt, max, Bool, true, false, ◌&&◌, eqb, ◌==◌, bit_and, bit_or, Some, refl, sym, ap, ◌∙◌, arith, eq-eqb, lt-ltb, le-ltb, pow_mono, pow_pos, pow-add}
 use Rattle.std.specs.Int.{bit_at, bit_not, w64}
-use Rattle.std.proofs.lemmas.Bool.{cases_eq, cases_lt, cases_Bool, eqb-true, both_ways}
+use Rattle.std.proofs.lemmas.Bool.{cases_eq, cases_lt, eqb-true, both_ways}
 use Rattle.std.proofs.lemmas.Nat.{or_lt}
 use Rattle.std.proofs.lemmas.Nat.Bits.{bit_at_and, bit_at_or, bit_at_not, bit_at_above, bit_at-lt, bit_at-zero, bit_at-pow_same, bit_at-pow_other}
 use Rattle.std.proofs.lemmas.Option.{cond_some}
@@ -57,49 +57,57 @@ clear_at n b z = let top = bit_at-lt n b in ⊎_elim (λ (q : bit_at n b ≡ 1).
 pub write_moves : (k word new : ℕ) → with_writer k word ≡ Some new → WordMoves k word new true false × NoneElse k word × NoReader k word
 write_moves k word new e = let t = cond_some (eqb word 0) (writer_bit k) new e in let zero_ : word ≡ 0 = eqb-true word 0 t.0 in let is : new ≡ 2 ^ (32 + k) = sym t.1 in
     let old : (b : ℕ) → bit word b ≡ false = λ b. ap (λ n. bit n b) zero_ ∙ zero_bit b in
-    let else_ : (b : ℕ) → b ≢ 32 + k → bit new b ≡ false = λ b ne. ap (λ n. bit n b) is ∙ power_bit (32 + k) b ne in
-    (record {
-      writer_here = ap (λ n. bit n (32 + k)) is ∙ own_bit (32 + k);
-      reader_here = none_below k (bit new k) (λ l. else_ k (λ q. absurd (omega arith)));
-      writer_else = λ j ne _. else_ (32 + j) (λ q. ne (omega arith)) ∙ sym (old (32 + j));
-      reader_else = λ j ne. below_32 j (bit word j) (bit new j) (λ l. else_ j (λ q. absurd (omega arith)) ∙ sym (old j));
-    }, record { writer = λ j ne. old (32 + j) }, record { reader = λ j ne. none_below j (bit word j) (λ l. old j) })
+    let else_ : (b : ℕ) → b ≢ 32 + k → bit new b ≡ false = λ b ne. ap (λ n. bit n b) is ∙ power_bit (32 + k) b ne in (
+      record {
+        writer_here = ap (λ n. bit n (32 + k)) is ∙ own_bit (32 + k);
+        reader_here = none_below k (bit new k) (λ l. else_ k (λ q. absurd (omega arith)));
+        writer_else = λ j ne _. else_ (32 + j) (λ q. ne (omega arith)) ∙ sym (old (32 + j));
+        reader_else = λ j ne. below_32 j (bit word j) (bit new j) (λ l. else_ j (λ q. absurd (omega arith)) ∙ sym (old j));
+      },
+      record { writer = λ j ne. old (32 + j) },
+      record { reader = λ j ne. none_below j (bit word j) (λ l. old j) },
+    )
 
 pub read_moves : (k word new : ℕ) → k < 32 → with_reader k word ≡ Some new → WordMoves k word new false true × NoneElse k word
 read_moves k word new low e = let t = cond_some (eqb (word / 2 ^ 32) 0) (bit_or word (reader_bit k)) new e in let none_ : word / 2 ^ 32 ≡ 0 = eqb-true (word / 2 ^ 32) 0 t.0 in
     let small : word < 2 ^ 32 = omega arith in let is : new ≡ bit_or word (2 ^ k) = sym t.1 in
     let high : (j : ℕ) → bit word (32 + j) ≡ false = λ j. clear_bit word (32 + j) (bit_at_above word 32 (32 + j) small (omega arith)) in
     let else_ : (b : ℕ) → b ≢ k → bit new b ≡ bit word b = λ b ne. ap (λ n. bit n b) is ∙ same_bit (bit_or word (2 ^ k)) word b (let a = bit_at_or word (2 ^ k) b in let z = bit_at-pow_other k b ne in omega (arith, a, z)) in
-    let here : bit new k ≡ true = ap (λ n. bit n k) is ∙ set_bit (bit_or word (2 ^ k)) k (let a = bit_at_or word (2 ^ k) k in let o = bit_at-pow_same k in let top = bit_at-lt word k in omega (arith, a, o, top)) in
-    (record {
-      writer_here = else_ (32 + k) (λ q. absurd (omega arith)) ∙ high k;
-      reader_here = ap (λ t. t && bit new k) (lt-ltb k 32 low) ∙ here;
-      writer_else = λ j ne _. else_ (32 + j) (λ q. absurd (omega arith));
-      reader_else = λ j ne. ap (λ t. nat_lt j 32 && t) (else_ j ne);
-    }, record { writer = λ j ne. high j })
+    let here : bit new k ≡ true = ap (λ n. bit n k) is ∙ set_bit (bit_or word (2 ^ k)) k (let a = bit_at_or word (2 ^ k) k in let o = bit_at-pow_same k in let top = bit_at-lt word k in omega (arith, a, o, top)) in (
+      record {
+        writer_here = else_ (32 + k) (λ q. absurd (omega arith)) ∙ high k;
+        reader_here = ap (λ t. t && bit new k) (lt-ltb k 32 low) ∙ here;
+        writer_else = λ j ne _. else_ (32 + j) (λ q. absurd (omega arith));
+        reader_else = λ j ne. ap (λ t. nat_lt j 32 && t) (else_ j ne);
+      },
+      record { writer = λ j ne. high j },
+    )
 
 pub raise_moves : (k word new : ℕ) → k < 32 → with_raised k word ≡ Some new → WordMoves k word new true false × NoneElse k word × NoReader k word
 raise_moves k word new low e = let t = cond_some (eqb word (reader_bit k)) (writer_bit k) new e in let was : word ≡ 2 ^ k = eqb-true word (2 ^ k) t.0 in let is : new ≡ 2 ^ (32 + k) = sym t.1 in
     let old : (b : ℕ) → b ≢ k → bit word b ≡ false = λ b ne. ap (λ n. bit n b) was ∙ power_bit k b ne in
-    let else_ : (b : ℕ) → b ≢ 32 + k → bit new b ≡ false = λ b ne. ap (λ n. bit n b) is ∙ power_bit (32 + k) b ne in
-    (record {
-      writer_here = ap (λ n. bit n (32 + k)) is ∙ own_bit (32 + k);
-      reader_here = none_below k (bit new k) (λ l. else_ k (λ q. absurd (omega arith)));
-      writer_else = λ j ne _. else_ (32 + j) (λ q. ne (omega arith)) ∙ sym (old (32 + j) (λ q. absurd (omega arith)));
-      reader_else = λ j ne. below_32 j (bit word j) (bit new j) (λ l. else_ j (λ q. absurd (omega arith)) ∙ sym (old j ne));
-    }, record { writer = λ j ne. old (32 + j) (λ q. absurd (omega arith)) }, record { reader = λ j ne. none_below j (bit word j) (λ l. old j ne) })
+    let else_ : (b : ℕ) → b ≢ 32 + k → bit new b ≡ false = λ b ne. ap (λ n. bit n b) is ∙ power_bit (32 + k) b ne in (
+      record {
+        writer_here = ap (λ n. bit n (32 + k)) is ∙ own_bit (32 + k);
+        reader_here = none_below k (bit new k) (λ l. else_ k (λ q. absurd (omega arith)));
+        writer_else = λ j ne _. else_ (32 + j) (λ q. ne (omega arith)) ∙ sym (old (32 + j) (λ q. absurd (omega arith)));
+        reader_else = λ j ne. below_32 j (bit word j) (bit new j) (λ l. else_ j (λ q. absurd (omega arith)) ∙ sym (old j ne));
+      },
+      record { writer = λ j ne. old (32 + j) (λ q. absurd (omega arith)) },
+      record { reader = λ j ne. none_below j (bit word j) (λ l. old j ne) },
+    )
 
 power_below : (k n : ℕ) → k < n → 2 ^ k < 2 ^ n
 power_below k n low = let more : k + 1 ≤ n = omega arith in let step : 2 ^ (k + 1) ≤ 2 ^ n = pow_mono {i = k + 1} {j = n} more in let some = pow_pos k in let twice : 2 ^ (k + 1) ≡ 2 ^ k * 2 = pow-add 2 k 1 in omega (arith, step, some, twice)
 
 pub give_moves : (k word : ℕ) → k < 32 → WordMoves k word (without_lane k word) false false
 give_moves k word low = record {
-    writer_here = clear_bit new (32 + k) (here (32 + k) (omega arith) (let o = bit_at-pow_same (32 + k) in let top = bit_at-lt (2 ^ k) (32 + k) in let b = both (32 + k) in omega (arith, o, b, top)));
-    reader_here = none_below k (bit new k) (λ _. clear_bit new k (here k (omega arith) (let o = bit_at-pow_same k in let top = bit_at-lt (2 ^ (32 + k)) k in let b = both k in omega (arith, o, b, top))));
-    writer_else = λ j ne u. ⊎_elim (λ (l : j < 32). same_bit new word (32 + j) (there (32 + j) (omega arith) (λ q. absurd (omega arith)) (λ q. ne (omega arith))))
-        (λ (z : bit word (32 + j) ≡ false). stays_clear (32 + j) z) u;
-    reader_else = λ j ne. below_32 j (bit word j) (bit new j) (λ l. same_bit new word j (there j (omega arith) ne (λ q. absurd (omega arith))));
-  }
+  writer_here = clear_bit new (32 + k) (here (32 + k) (omega arith) (let o = bit_at-pow_same (32 + k) in let top = bit_at-lt (2 ^ k) (32 + k) in let b = both (32 + k) in omega (arith, o, b, top)));
+  reader_here = none_below k (bit new k) (λ _. clear_bit new k (here k (omega arith) (let o = bit_at-pow_same k in let top = bit_at-lt (2 ^ (32 + k)) k in let b = both k in omega (arith, o, b, top))));
+  writer_else = λ j ne u. ⊎_elim (λ (l : j < 32). same_bit new word (32 + j) (there (32 + j) (omega arith) (λ q. absurd (omega arith)) (λ q. ne (omega arith))))
+      (λ (z : bit word (32 + j) ≡ false). stays_clear (32 + j) z) u;
+  reader_else = λ j ne. below_32 j (bit word j) (bit new j) (λ l. same_bit new word j (there j (omega arith) ne (λ q. absurd (omega arith))));
+}
   where
     mask : ℕ
     mask = bit_or (2 ^ k) (2 ^ (32 + k))

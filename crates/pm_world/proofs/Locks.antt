@@ -1,17 +1,17 @@
 -- Locks over bits: taken, raised and given back. What a lane holds changes, the words and the history stay.
 use Rattle.std.specs.Prelude.{List, [], ◌∷◌}
-use Rattle.std.proofs.Common.{◌≡◌, ◌≢◌, ℕ, suc, ◌<◌, ◌≤◌, ◌⊎◌, inl, inr, ⊎_elim, Bool, true, false, cond, not, ◌&&◌, ◌||◌, eqb, ◌==◌, refl, sym, ap, ◌∙◌, subst, arith, eq-eqb, ne_eqb, Option, None, Some}
+use Rattle.std.proofs.Common.{◌≡◌, ◌≢◌, ℕ, ◌<◌, ◌⊎◌, inl, inr, ⊎_elim, Bool, true, false, not, ◌&&◌, ◌||◌, eqb, ◌==◌, refl, sym, ap, ◌∙◌, subst, eq-eqb, ne_eqb, Option, None, Some}
 use Rattle.std.proofs.lemmas.Bool.{cases_eq, cases_Bool, eqb-true, both_ways, and_parts, and_from, or_cases, or_left, or_right, or_parts, false_from_ne_true}
 use Rattle.pm_layout.specs.declared.shape.Shape.{Shape}
 use Rattle.pm_view.specs.Places.{Place, InRun, InHuge, Descr, RootWord, Block, Small, Big, Root, block_of, header}
 use Rattle.pm_view.specs.Entries.{latest, turn}
 use Rattle.pm_view.specs.Log.{Phase, Idle, Open, Drawn, Sealing, Applying, Clearing, Retiring, Voiding, is_early}
 use Rattle.pm_view.specs.Claims.{making_of}
-use Rattle.pm_world.specs.States.{State, Diff, diff, given, live, val, root_line, guards, read, Cells}
+use Rattle.pm_world.specs.States.{State, Diff, diff, given, live, val, root_line, read, Cells}
 use Rattle.pm_world.specs.Sights.{Hold, Sight}
-use Rattle.pm_world.specs.Lanes.{Ghost, own, owns, sees, rights, all_held, has, valid, blank, is_decided, in_flight, left, settled, TurnFits, DescrFits, HoldFits, SightFits, Flies, flies_at, Alone, Bits}
-use Rattle.pm_world.proofs.Frame.{Around, own_cases, here_own, making_own, own_has, found_has, found_valid, found_apart, root_rights, lock_apart}
-use Rattle.pm_world.proofs.Going.{Turned, Rest, goes_on, own_fits, same_made, still_flying}
+use Rattle.pm_world.specs.Lanes.{Ghost, own, owns, sees, all_held, has, blank, is_decided, in_flight, left, settled, TurnFits, DescrFits, HoldFits, SightFits, Flies, Alone, Bits}
+use Rattle.pm_world.proofs.Frame.{own_cases, here_own, making_own, found_apart, root_rights, lock_apart}
+use Rattle.pm_world.proofs.Going.{Turned, goes_on, own_fits, same_made, still_flying}
 
 -- ---- phases before the number
 
@@ -179,8 +179,11 @@ module _ (sh : Shape) (L : ℕ) (o : State) (cells : Cells) (sights : ℕ → Si
 
   -- what the lane has after is what it had, or a block newly found under its lock for writing, which is nobody's
   pub own_new : (n : Hold) (B : Block) → own (held n) B ≡ true → (own (sights k).hold B ≡ true) ⊎ ((n.here B ≡ true) × (own (sights k).hold B ≡ false))
-  own_new n B t = ⊎_elim (λ (e : own (sights k).hold B ≡ true). inl e) (λ (e : own (sights k).hold B ≡ false). inr (let y = or_parts ((sights k).hold.mine B) ((sights k).hold.here B || making_of (sights k).hold.making B) e in let z = or_parts ((sights k).hold.here B) (making_of (sights k).hold.making B) y.1 in
-      ⊎_elim (λ (m : (sights k).hold.mine B ≡ true). absurd (both_ways ((sights k).hold.mine B) y.0 m)) (⊎_elim (λ (m : n.here B ≡ true). m) (λ (m : making_of (sights k).hold.making B ≡ true). absurd (both_ways (making_of (sights k).hold.making B) z.1 m))) (own_cases (held n) B t), e)) (cases_Bool (own (sights k).hold B))
+  own_new n B t = ⊎_elim (λ (e : own (sights k).hold B ≡ true). inl e) (λ (e : own (sights k).hold B ≡ false). inr (
+    let y = or_parts ((sights k).hold.mine B) ((sights k).hold.here B || making_of (sights k).hold.making B) e in let z = or_parts ((sights k).hold.here B) (making_of (sights k).hold.making B) y.1 in
+        ⊎_elim (λ (m : (sights k).hold.mine B ≡ true). absurd (both_ways ((sights k).hold.mine B) y.0 m)) (⊎_elim (λ (m : n.here B ≡ true). m) (λ (m : making_of (sights k).hold.making B ≡ true). absurd (both_ways (making_of (sights k).hold.making B) z.1 m))) (own_cases (held n) B t),
+    e,
+  )) (cases_Bool (own (sights k).hold B))
 
   pub gains_by : (n : Hold) → ((B : Block) → n.here B ≡ true → own (sights k).hold B ≡ false → (j : ℕ) → own (sights j).hold B ≡ false) → (n.locked 0 ≡ true → (j : ℕ) → j ≢ k → (sights j).hold.locked 0 ≡ false)
       → (p : Place) (b : ℕ) → owns g.geo (settled o g) (held n) p b ≡ true → (owns g.geo (settled o g) (sights k).hold p b ≡ true) ⊎ Unowned p b

@@ -1,24 +1,22 @@
 -- LOOKS: what a load of a bitmap shows of a run's blocks, to a lane that holds their locks.
-use Rattle.std.specs.Prelude.{List, [], ◌∷◌}
+use Rattle.std.specs.Prelude.{List, ◌∷◌}
 use Rattle.std.specs.Option.{option_map}
 use Rattle.std.specs.Int.{bit_at}
-use Rattle.std.proofs.Common.{◌≡◌, ◌≢◌, ℕ, zero, suc, ◌+◌, ◌-◌, ◌*◌, ◌/◌, ◌<◌, ◌≤◌, nat_le, nat_lt, ◌⊎◌, inl, inr, ⊎_elim, Bool, true, false, cond, not, ◌&&◌, ◌||◌, eqb, ◌==◌, refl, sym, ap, ◌∙◌, subst, arith, eq-eqb, ne_eqb, Option, None, Some}
-use Rattle.std.proofs.lemmas.Bool.{cases_eq, cases_lt, cases_Bool, eqb-true, lt-ltb, ltb-true, leb-true, both_ways, and_parts, and_from, or_cases, or_left, cond-false, false_from_ne_true}
+use Rattle.std.proofs.Common.{◌≡◌, ℕ, zero, suc, ◌+◌, ◌-◌, ◌*◌, ◌/◌, ◌<◌, ◌≤◌, nat_le, nat_lt, ◌⊎◌, inl, inr, ⊎_elim, Bool, true, false, cond, not, ◌&&◌, ◌||◌, eqb, ◌==◌, refl, sym, ap, ◌∙◌, subst, arith, ne_eqb, Option, None, Some}
+use Rattle.std.proofs.lemmas.Bool.{cases_lt, eqb-true, lt-ltb, ltb-true, leb-true, both_ways, and_parts, and_from, or_cases, cond-false, false_from_ne_true}
 use Rattle.pm_layout.specs.declared.shape.Shape.{Shape}
 use Rattle.pm_layout.specs.Chunks.{chunks_of, line_of_chunk, word_of_chunk}
-use Rattle.pm_view.specs.Changes.{Undrained}
 use Rattle.pm_view.specs.Parts.{Part, chunk_place, place_in}
-use Rattle.pm_view.specs.Places.{Place, InRun, InHuge, Descr, RootWord, Block, Small, Big, Root, part, block_of, header, is_data, is_place, word_of, in_span}
+use Rattle.pm_view.specs.Places.{Place, InRun, InHuge, Descr, RootWord, Block, Small, Big, Root, part, block_of, header, is_data, is_place, word_of}
 use Rattle.pm_view.specs.Entries.{latest, redos, turn}
-use Rattle.pm_view.specs.Log.{Log, is_early}
+use Rattle.pm_view.specs.Log.{is_early}
 use Rattle.pm_view.specs.Claims.{Claim, SawBitmap, locked, reads, holds, class, first, header_in, found, here, geometry, pictured, block_in, block_at, passes, is_new, shown_by_bitmap}
-use Rattle.pm_view.specs.View.{View}
-use Rattle.pm_world.specs.States.{State, Diff, diff, given, read, there, Cells}
-use Rattle.pm_world.specs.Sights.{Hold, Sight, is_pictured, is_recorded, is_made, picture, fresh, sight_by, sight_of}
-use Rattle.pm_world.specs.Lanes.{Ghost, own, owns, SightFits, Flies, Bits}
+use Rattle.pm_world.specs.States.{given, read, there}
+use Rattle.pm_world.specs.Sights.{Sight, is_pictured, is_recorded, is_made, picture, fresh, sight_by, sight_of}
+use Rattle.pm_world.specs.Lanes.{own, owns, SightFits, Flies, Bits}
 use Rattle.pm_world.specs.Memory.{Memory, PoolWord, bit, cells_of}
 use Rattle.pm_world.specs.World.{Opening, Views, Past, origin, ghost_of, settled_words, World}
-use Rattle.pm_world.proofs.Finds.{Finds, finding, finds, is_run_there, run_class, Shows, shown_there, own_found}
+use Rattle.pm_world.proofs.Finds.{finds, is_run_there, run_class, Shows, shown_there, own_found}
 use Rattle.pm_world.proofs.Frame.{fresh_given, no_run}
 use Rattle.pm_world.proofs.Going.{Turned}
 use Rattle.pm_world.proofs.StepLocks.{forgets, fresh_same, and_at, header_found}
@@ -178,8 +176,8 @@ module _ (o : Opening) (mem : Memory) (views : Views) (g : Past) (x : World o me
           knows = λ d i e. (shown_block d i e).2;
           span_new = λ f e u. absurd (both_ways false refl e);
           span_old = λ f e. refl;
-          first_in = λ f d e q. absurd (both_ways false refl e);
-          first_out = λ d e. refl;
+          first_in = λ d q. absurd (both_ways false refl q);
+          first_old = λ d q h. fit.hold.first d h;
           less = saw_less;
           dark = saw_dark;
           fresh = λ p b y e. saw_same p b (ap given e) ∙ fit.fresh p b y e;

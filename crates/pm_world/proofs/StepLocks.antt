@@ -2,9 +2,9 @@
 use Rattle.std.specs.Prelude.{List, [], ◌∷◌, IsTrue, All, length, slice_get, slice_index}
 use Rattle.std.specs.Option.{option_map}
 use Rattle.std.specs.Int.{bit_at}
-use Rattle.std.proofs.Common.{◌≡◌, ◌≢◌, ℕ, suc, ◌+◌, ◌-◌, ◌*◌, ◌/◌, ◌%◌, ◌^◌, ◌<◌, ◌≤◌, nat_lt, ◌⊎◌, inl, inr, ⊎_elim, Bool, true, false, cond, not, ◌&&◌, ◌||◌, eqb, ◌==◌, refl, sym, ap, ◌∙◌, subst, arith, eq-eqb, ne_eqb, lt-ltb, Option, None, Some}
-use Rattle.std.proofs.lemmas.Bool.{cases_eq, cases_lt, cases_Bool, eqb-true, both_ways, and_parts, and_from, or_cases, or_left, or_right, or_parts, false_from_ne_true}
-use Rattle.std.proofs.lemmas.Nat.Bits.{bit_at-lt, bit_at-zero, bit_at-pow_same, bit_at-pow_other, same_from_bits}
+use Rattle.std.proofs.Common.{◌≡◌, ◌≢◌, ℕ, suc, ◌+◌, ◌-◌, ◌*◌, ◌^◌, ◌<◌, ◌≤◌, nat_lt, ◌⊎◌, inl, inr, ⊎_elim, Bool, true, false, cond, not, ◌&&◌, ◌||◌, ◌==◌, refl, sym, ap, ◌∙◌, subst, arith, eq-eqb, ne_eqb, lt-ltb, Option, None, Some}
+use Rattle.std.proofs.lemmas.Bool.{cases_eq, cases_lt, cases_Bool, eqb-true, both_ways, and_parts, and_from, or_right, or_parts, false_from_ne_true}
+use Rattle.std.proofs.lemmas.Nat.Bits.{bit_at-zero, bit_at-pow_same, bit_at-pow_other, same_from_bits}
 use Rattle.pm_layout.specs.declared.shape.Shape.{Shape}
 use Rattle.pm_layout.specs.Chunks.{line_of_chunk, word_of_root}
 use Rattle.pm_view.specs.Changes.{Undrained}
@@ -15,24 +15,22 @@ use Rattle.pm_view.specs.Log.{Phase, Idle, Open, Drawn, Sealing, Applying, Clear
 use Rattle.pm_view.specs.Claims.{Claim, Took, Raised, Gave, making_of, locked, reads, holds, class, header_in, found, here, geometry, pictured}
 use Rattle.pm_view.specs.Steps.{Step}
 use Rattle.pm_view.specs.Steps.Step.{TakeWrite, TakeRead, Raise, Give}
-use Rattle.pm_view.specs.View.{View, runs_one}
+use Rattle.pm_view.specs.View.{runs_one}
 use Rattle.pm_view.specs.Views.{after}
-use Rattle.pm_world.specs.States.{State, Diff, diff, given, val, root_line, read, Cells}
-use Rattle.pm_world.specs.Sights.{Hold, Sight, is_pictured, is_recorded, is_logged, is_made, picture, fresh, call_of, call_in, sight_by, sight_of}
-use Rattle.pm_world.specs.Lanes.{Ghost, own, owns, has, TurnFits, SightFits, Flies, Alone, Bits}
+use Rattle.pm_world.specs.States.{diff, given}
+use Rattle.pm_world.specs.Sights.{Hold, is_pictured, is_recorded, is_logged, is_made, picture, fresh, call_of, call_in, sight_by, sight_of}
+use Rattle.pm_world.specs.Lanes.{own, owns, has, TurnFits, SightFits, Flies}
 use Rattle.pm_world.specs.Lawful.{GiveFits, MayGive}
 use Rattle.pm_world.specs.Logs.{PhaseFits}
-use Rattle.pm_world.specs.Memory.{Memory, PoolWord, LockWord, IsSame, IsSameBut, Becomes, bit, cells_of}
-use Rattle.pm_world.specs.World.{Opening, Views, Past, origin, ghost_of, settled_words, LaneFits, may_draw, World}
+use Rattle.pm_world.specs.Memory.{Memory, LockWord, IsSame, IsSameBut, Becomes, bit, cells_of}
+use Rattle.pm_world.specs.World.{Opening, Views, Past, origin, ghost_of, settled_words, may_draw, World}
 use Rattle.pm_world.specs.Laws.{Turn, Keeps}
 use Rattle.pm_world.proofs.Cells.{other_number}
-use Rattle.pm_world.proofs.Frame.{fresh_given, found_has}
-use Rattle.pm_world.proofs.Going.{Turned}
+use Rattle.pm_world.proofs.Frame.{found_has}
 use Rattle.pm_world.proofs.LockBits.{WordMoves, NoneElse, NoReader, clear_at, write_moves, read_moves, raise_moves, give_moves}
-use Rattle.pm_world.proofs.Locks.{Relocked, taking, takes, raising, raises, giving, gives, held, root_locked, owned_more, took_else, more3, early_undecided}
-use Rattle.pm_world.proofs.StepClaims.{claimed_view, relocked_cells, claims_step}
+use Rattle.pm_world.proofs.Locks.{Relocked, taking, takes, raising, raises, giving, gives, held, owned_more, took_else, more3, early_undecided}
+use Rattle.pm_world.proofs.StepClaims.{claims_step}
 use Rattle.pm_world.proofs.StepPlain.{plain_step, lane_told}
-use Rattle.pm_world.proofs.Worlds.{turned}
 
 -- ---- of a picture that forgets some words, what the call made stays
 pub fresh_same : (C : Bool) (pc pc' : Option Bool) → ((y : Bool) → pc' ≡ Some y → pc ≡ Some y) → (given (cond C pc None) ≡ true → pc' ≡ pc) → cond C pc' None ≡ cond C pc None
@@ -140,13 +138,13 @@ module _ (o : Opening) (mem : Memory) (views : Views) (g : Past) (x : World o me
       let r = relocked_by new l w (not w) same c in
       let sight = took_sight sh (views k).fixed.lane (views k).claims (views k).log (views k).changes l w found_held free in
       claims_step o mem new views views' g x k ink l same (Took l w ∷ (views k).claims) (s ∷ (views k).seen) t early
-          (λ p b _ e. subst (λ z. owns g.geo (settled_words o g) z.hold p b ≡ true) (sym sight) (owned_more o.shape o.lanes (origin o) (cells_of o.shape mem) (λ j. sight_of (views j)) (ghost_of g) x.bits k ink n (λ B y. y) (λ m y. or_right (w && (l == m)) (locked (views k).claims m) y) p b e))
-          (λ one v y e. ((x.each_lane k ink).alone one).words v y (forgot ((l == 0) && (v == word_of_root sh)) (pictured sh (views k).claims v) y e))
-          (λ m j ne. r.writer_else m j (inr ne)) (λ m j ne. r.reader_else m j (inr ne)) draws
-          (takes o.shape o.lanes (origin o) (cells_of o.shape mem) (λ j. sight_of (views j)) (ghost_of g) x.bits k ink early l (cells_of o.shape new).writer (cells_of o.shape new).reader w free r (λ i ne. none_.writer i ne) (λ i ne e. (readers e).reader i ne)
-          (picture sh (Took l w ∷ (views k).claims)) (took_less sh (views k).fixed.lane (views k).claims (views k).log (views k).changes l w) (took_dark sh (views k).fixed.lane (views k).claims (views k).log (views k).changes l w)
-          (λ p b y e. took_same sh (views k).fixed.lane (views k).claims (views k).log (views k).changes l w p b (ap given e) ∙ own_sight.fresh p b y e)
-          (λ j. sight_of (views' j)) record { here = ap sight_of t.here ∙ sight; else_ = λ j ne. ap sight_of (t.else_ j ne) })
+      (λ p b _ e. subst (λ z. owns g.geo (settled_words o g) z.hold p b ≡ true) (sym sight) (owned_more o.shape o.lanes (origin o) (cells_of o.shape mem) (λ j. sight_of (views j)) (ghost_of g) x.bits k ink n (λ B y. y) (λ m y. or_right (w && (l == m)) (locked (views k).claims m) y) p b e))
+      (λ one v y e. ((x.each_lane k ink).alone one).words v y (forgot ((l == 0) && (v == word_of_root sh)) (pictured sh (views k).claims v) y e))
+      (λ m j ne. r.writer_else m j (inr ne)) (λ m j ne. r.reader_else m j (inr ne)) draws
+      (takes o.shape o.lanes (origin o) (cells_of o.shape mem) (λ j. sight_of (views j)) (ghost_of g) x.bits k ink early l (cells_of o.shape new).writer (cells_of o.shape new).reader w free r (λ i ne. none_.writer i ne) (λ i ne e. (readers e).reader i ne)
+      (picture sh (Took l w ∷ (views k).claims)) (took_less sh (views k).fixed.lane (views k).claims (views k).log (views k).changes l w) (took_dark sh (views k).fixed.lane (views k).claims (views k).log (views k).changes l w)
+      (λ p b y e. took_same sh (views k).fixed.lane (views k).claims (views k).log (views k).changes l w p b (ap given e) ∙ own_sight.fresh p b y e)
+      (λ j. sight_of (views' j)) record { here = ap sight_of t.here ∙ sight; else_ = λ j ne. ap sight_of (t.else_ j ne) })
 
   -- a lock is refused
   refused : (new : Memory) (views' : Views) (s : Step) → IsSame mem new → Turn views views' k (record (views k) { seen = s ∷ (views k).seen }) → may_draw (record (views k) { seen = s ∷ (views k).seen }) ≡ may_draw (views k) → World o new views' g
@@ -182,14 +180,18 @@ never_none a b n e s = both_ways (given b) (ap given (sym e ∙ n)) s
 pub takes_write : (line : ℕ) (won : Bool) → Keeps (TakeWrite line won)
 takes_write line true o mem new views views' g k x ink law moves t = let m = write_moves k (mem (LockWord line)) (new (LockWord line)) moves.1 in
     (wins o mem views g x k ink new views' line true (TakeWrite line true) law.allowed.early law.allowed.free moves.0 m.0 m.1 (λ _. m.2) t refl, λ _. refl)
-takes_write line false o mem new views views' g k x ink law moves t = (refused o mem views g x k ink new views' (TakeWrite line false) moves.0 t refl,
-    λ one. absurd (never_none (with_writer k (mem (LockWord line))) (with_writer k 0) moves.1 (ap (with_writer k) (lone_free o mem views g x k ink (one_runs o mem views g x k ink one) line law.allowed.free)) refl))
+takes_write line false o mem new views views' g k x ink law moves t = (
+  refused o mem views g x k ink new views' (TakeWrite line false) moves.0 t refl,
+  λ one. absurd (never_none (with_writer k (mem (LockWord line))) (with_writer k 0) moves.1 (ap (with_writer k) (lone_free o mem views g x k ink (one_runs o mem views g x k ink one) line law.allowed.free)) refl),
+)
 
 pub takes_read : (line : ℕ) (won : Bool) → Keeps (TakeRead line won)
 takes_read line true o mem new views views' g k x ink law moves t = let m = read_moves k (mem (LockWord line)) (new (LockWord line)) (low_lane o mem views g x k ink) moves.1 in
     (wins o mem views g x k ink new views' line false (TakeRead line true) law.allowed.early law.allowed.free moves.0 m.0 m.1 (λ e. absurd (both_ways false refl e)) t refl, λ _. refl)
-takes_read line false o mem new views views' g k x ink law moves t = (refused o mem views g x k ink new views' (TakeRead line false) moves.0 t refl,
-    λ one. absurd (never_none (with_reader k (mem (LockWord line))) (with_reader k 0) moves.1 (ap (with_reader k) (lone_free o mem views g x k ink (one_runs o mem views g x k ink one) line law.allowed.free)) refl))
+takes_read line false o mem new views views' g k x ink law moves t = (
+  refused o mem views g x k ink new views' (TakeRead line false) moves.0 t refl,
+  λ one. absurd (never_none (with_reader k (mem (LockWord line))) (with_reader k 0) moves.1 (ap (with_reader k) (lone_free o mem views g x k ink (one_runs o mem views g x k ink one) line law.allowed.free)) refl),
+)
 
 -- ---- RAISES
 pub raised : (line : ℕ) (won : Bool) → Keeps (Raise line won)
@@ -197,15 +199,19 @@ raised line true o mem new views views' g k x ink law moves t = let m = raise_mo
     let r = relocked_by o mem views g x k ink new line true false moves.0 m.0 in
     let is : (B : Block) → here sh (Raised line ∷ c) B ≡ (found sh c B && ((line == header o.shape g.geo B) || locked c (header o.shape g.geo B))) = λ B. and_at (found sh c B) ((line == header_in sh c B) || locked c (header_in sh c B)) ((line == header o.shape g.geo B) || locked c (header o.shape g.geo B))
     (λ e. ap (λ a. (line == a) || locked c a) (header_found o mem views g x k ink B e)) in
-    let n = raising o.shape o.lanes (origin o) (cells_of o.shape mem) (λ j. sight_of (views j)) (ghost_of g) x.bits k ink law.allowed.early line (cells_of o.shape new).writer (cells_of o.shape new).reader (here sh (Raised line ∷ c)) in
-    (claims_step o mem new views views' g x k ink line moves.0 (Raised line ∷ c) (Raise line true ∷ (views k).seen) t law.allowed.early
-        (λ p b _ e. owned_more o.shape o.lanes (origin o) (cells_of o.shape mem) (λ j. sight_of (views j)) (ghost_of g) x.bits k ink n (λ B y. let z = and_parts (found sh c B) (locked c (header_in sh c B)) y in and_from (found sh c B) ((line == header_in sh c B) || locked c (header_in sh c B)) z.0 (or_right (line == header_in sh c B) (locked c (header_in sh c B)) z.1))
-        (λ a y. or_right (line == a) (locked c a) y) p b e)
-        (λ one w y e. ((x.each_lane k ink).alone one).words w y e) (λ a j ne. r.writer_else a j (inr ne)) (λ a j ne. r.reader_else a j (inr ne)) refl
-        (raises o.shape o.lanes (origin o) (cells_of o.shape mem) (λ j. sight_of (views j)) (ghost_of g) x.bits k ink law.allowed.early line (cells_of o.shape new).writer (cells_of o.shape new).reader law.allowed.held r (λ i ne. m.1.writer i ne) (λ i ne. m.2.reader i ne)
-        (here sh (Raised line ∷ c)) is (λ j. sight_of (views' j)) record { here = ap sight_of t.here; else_ = λ j ne. ap sight_of (t.else_ j ne) }), λ _. refl)
-raised line false o mem new views views' g k x ink law moves t = (refused o mem views g x k ink new views' (Raise line false) moves.0 t refl,
-    λ one. absurd (never_none (with_raised k (mem (LockWord line))) (with_raised k (reader_bit k)) moves.1 (ap (with_raised k) (lone_reader o mem views g x k ink (one_runs o mem views g x k ink one) line law.allowed.held)) (ap (λ z. given (cond z (Some (writer_bit k)) None)) (eq-eqb (reader_bit k) (reader_bit k) refl))))
+    let n = raising o.shape o.lanes (origin o) (cells_of o.shape mem) (λ j. sight_of (views j)) (ghost_of g) x.bits k ink law.allowed.early line (cells_of o.shape new).writer (cells_of o.shape new).reader (here sh (Raised line ∷ c)) in (
+      claims_step o mem new views views' g x k ink line moves.0 (Raised line ∷ c) (Raise line true ∷ (views k).seen) t law.allowed.early
+          (λ p b _ e. owned_more o.shape o.lanes (origin o) (cells_of o.shape mem) (λ j. sight_of (views j)) (ghost_of g) x.bits k ink n (λ B y. let z = and_parts (found sh c B) (locked c (header_in sh c B)) y in and_from (found sh c B) ((line == header_in sh c B) || locked c (header_in sh c B)) z.0 (or_right (line == header_in sh c B) (locked c (header_in sh c B)) z.1))
+          (λ a y. or_right (line == a) (locked c a) y) p b e)
+          (λ one w y e. ((x.each_lane k ink).alone one).words w y e) (λ a j ne. r.writer_else a j (inr ne)) (λ a j ne. r.reader_else a j (inr ne)) refl
+          (raises o.shape o.lanes (origin o) (cells_of o.shape mem) (λ j. sight_of (views j)) (ghost_of g) x.bits k ink law.allowed.early line (cells_of o.shape new).writer (cells_of o.shape new).reader law.allowed.held r (λ i ne. m.1.writer i ne) (λ i ne. m.2.reader i ne)
+          (here sh (Raised line ∷ c)) is (λ j. sight_of (views' j)) record { here = ap sight_of t.here; else_ = λ j ne. ap sight_of (t.else_ j ne) }),
+      λ _. refl,
+    )
+raised line false o mem new views views' g k x ink law moves t = (
+  refused o mem views g x k ink new views' (Raise line false) moves.0 t refl,
+  λ one. absurd (never_none (with_raised k (mem (LockWord line))) (with_raised k (reader_bit k)) moves.1 (ap (with_raised k) (lone_reader o mem views g x k ink (one_runs o mem views g x k ink one) line law.allowed.held)) (ap (λ z. given (cond z (Some (writer_bit k)) None)) (eq-eqb (reader_bit k) (reader_bit k) refl))),
+)
 
 -- ---- GIVES
 and_at_left : (x y a : Bool) → (a ≡ true → x ≡ y) → (x && a) ≡ (y && a)
@@ -339,10 +345,10 @@ module _ (o : Opening) (mem new : Memory) (views views' : Views) (g : Past) (x :
       let hi : (B : Block) → here sh (Gave line ∷ c) B ≡ (found sh (Gave line ∷ c) B && (not (line == header o.shape g.geo B) && locked c (header o.shape g.geo B))) = λ B. and_at (found sh (Gave line ∷ c) B) (not (line == header_in sh c B) && locked c (header_in sh c B)) (not (line == header o.shape g.geo B) && locked c (header o.shape g.geo B))
       (λ e. ap (λ a. not (line == a) && locked c a) (header_found o mem views g x k ink B (and_parts (not (line == header_in sh c B)) (found sh c B) e).1)) in
       claims_step o mem new views views' g x k ink line moves.0 (Gave line ∷ c) (views k).seen t early
-          (λ p b e w. ⊎_elim (λ (q : owns g.geo (settled_words o g) gave_held p b ≡ true). q) (λ (q : owns g.geo (settled_words o g) gave_held p b ≡ false). absurd (recorded_kept p b e w q)) (cases_Bool (owns g.geo (settled_words o g) gave_held p b)))
-          (λ one w y e. ((x.each_lane k ink).alone one).words w y e) (λ a j ne. r.writer_else a j (inr ne)) (λ a j ne. r.reader_else a j (inr ne)) refl
-          (gives o.shape o.lanes (origin o) (cells_of o.shape mem) (λ j. sight_of (views j)) (ghost_of g) x.bits k ink early line (cells_of o.shape new).writer (cells_of o.shape new).reader r (found sh (Gave line ∷ c)) (here sh (Gave line ∷ c)) fi hi
-          freed undone (λ j. sight_of (views' j)) record { here = ap sight_of t.here; else_ = λ j ne. ap sight_of (t.else_ j ne) })
+      (λ p b e w. ⊎_elim (λ (q : owns g.geo (settled_words o g) gave_held p b ≡ true). q) (λ (q : owns g.geo (settled_words o g) gave_held p b ≡ false). absurd (recorded_kept p b e w q)) (cases_Bool (owns g.geo (settled_words o g) gave_held p b)))
+      (λ one w y e. ((x.each_lane k ink).alone one).words w y e) (λ a j ne. r.writer_else a j (inr ne)) (λ a j ne. r.reader_else a j (inr ne)) refl
+      (gives o.shape o.lanes (origin o) (cells_of o.shape mem) (λ j. sight_of (views j)) (ghost_of g) x.bits k ink early line (cells_of o.shape new).writer (cells_of o.shape new).reader r (found sh (Gave line ∷ c)) (here sh (Gave line ∷ c)) fi hi
+      freed undone (λ j. sight_of (views' j)) record { here = ap sight_of t.here; else_ = λ j ne. ap sight_of (t.else_ j ne) })
 
 pub gave_back : (line : ℕ) → Keeps (Give line)
 gave_back line o mem new views views' g k x ink law moves t = (given_back o mem new views views' g x k ink line law.allowed moves t, tt)

@@ -1,31 +1,28 @@
 -- A NUMBER IS SEEN: a call begins where none is open, and may take a number where the one seen is low.
-use Rattle.std.specs.Prelude.{List, [], ◌∷◌, All, IsTrue, length, is_none}
+use Rattle.std.specs.Prelude.{[], ◌∷◌, All, length, is_none}
 use Rattle.std.specs.List.{list_any}
 use Rattle.std.proofs.Common.{◌≡◌, ◌≢◌, ℕ, zero, suc, ◌+◌, ◌<◌, ◌≤◌, nat_lt, ◌⊎◌, inl, inr, ⊎_elim, Bool, true, false, cond, ◌&&◌, ◌||◌, eqb, ◌==◌, refl, sym, ap, ◌∙◌, subst, arith, Option, None, Some}
 use Rattle.std.proofs.lemmas.Bool.{cases_eq, cases_Bool, eqb-true, ltb-true, both_ways}
-use Rattle.pm_layout.specs.declared.shape.Shape.{Shape}
 use Rattle.pm_view.specs.Limits.{greatest_generation}
 use Rattle.pm_view.specs.Changes.{Undrained}
 use Rattle.pm_view.specs.Counts.{IsAtStop}
 use Rattle.pm_view.specs.Parts.{Part, GenerationPart, SealPart, EntryPart, SlotPart, RootPart, DescriptorPart, ChunkPart, OtherPart, part_of}
 use Rattle.pm_view.specs.Entries.{latest, turn}
 use Rattle.pm_view.specs.Log.{Phase, Idle, Open, Drawn, Sealing, Applying, Clearing, Retiring, Voiding, Log, new_log}
-use Rattle.pm_view.specs.Steps.{Step}
 use Rattle.pm_view.specs.Steps.Step.{NumberSeen}
-use Rattle.pm_view.specs.View.{View, Numbered, Told, runs_one}
+use Rattle.pm_view.specs.View.{View, Numbered}
 use Rattle.pm_view.specs.Views.{after}
-use Rattle.pm_world.specs.Sights.{Sight, sight_of}
+use Rattle.pm_world.specs.Sights.{sight_of}
 use Rattle.pm_world.specs.Lanes.{Ghost, SightFits, TurnBefore, Flies, flies_at, Bits}
-use Rattle.pm_world.specs.Logs.{AreaChange, BumpFits, PhaseFits, LogFits, seal_in}
-use Rattle.pm_world.specs.Memory.{Memory, PoolWord, CommitCounter, StopWord, IsSame, cells_of}
+use Rattle.pm_world.specs.Logs.{AreaChange, BumpFits, PhaseFits, seal_in}
+use Rattle.pm_world.specs.Memory.{Memory, CommitCounter, StopWord, IsSame, cells_of}
 use Rattle.pm_world.specs.World.{Opening, Views, Past, origin, ghost_of, settled_words, LaneFits, may_draw, may_draw_count, World}
 use Rattle.pm_world.specs.Laws.{Turn, Keeps}
 use Rattle.pm_world.proofs.Counting.{count_same}
-use Rattle.pm_world.proofs.Frame.{Around}
-use Rattle.pm_world.proofs.Going.{Turned, unchanged, at_phase}
+use Rattle.pm_world.proofs.Going.{unchanged, at_phase}
 use Rattle.pm_world.proofs.StepDraw.{numbers_below, all_numbered}
 use Rattle.pm_world.proofs.StepPlain.{lane_told}
-use Rattle.pm_world.proofs.Worlds.{Aside, turned, world_after}
+use Rattle.pm_world.proofs.Worlds.{turned, world_after}
 
 -- ---- how many lanes may take a number
 abbrev one : Bool → ℕ
@@ -171,12 +168,13 @@ module _ (o : Opening) (mem new : Memory) (views views' : Views) (g : Past) (x :
       low_alone false e = e
 
 pub number_seen : (n : ℕ) → Keeps (NumberSeen n)
-number_seen n o mem new views views' g k x ink law moves t = let f = x.each_lane k ink in let e : n ≡ g.length = moves.1 ∙ x.bits.counter in
-    (by_phase (views k).log.phase refl law.allowed t,
-    (
-      subst (λ l. All (λ (y : Numbered). y.number ≤ n) l) (sym f.entries) (numbers_below k g.drew g.length n (omega arith)),
-      λ one. let l : o.lanes ≡ 1 = sym f.lanes ∙ eqb-true (views k).fixed.lanes 1 one in e ∙ (sym (all_numbered k g.drew g.length (λ m q. let z = x.of_lanes m q in omega arith)) ∙ sym (ap length f.entries)),
-    ))
+number_seen n o mem new views views' g k x ink law moves t = let f = x.each_lane k ink in let e : n ≡ g.length = moves.1 ∙ x.bits.counter in (
+  by_phase (views k).log.phase refl law.allowed t,
+  (
+    subst (λ l. All (λ (y : Numbered). y.number ≤ n) l) (sym f.entries) (numbers_below k g.drew g.length n (omega arith)),
+    λ one. let l : o.lanes ≡ 1 = sym f.lanes ∙ eqb-true (views k).fixed.lanes 1 one in e ∙ (sym (all_numbered k g.drew g.length (λ m q. let z = x.of_lanes m q in omega arith)) ∙ sym (ap length f.entries)),
+  ),
+)
   where
     by_phase : (ph : Phase) → (views k).log.phase ≡ ph → Rattle.pm_view.specs.Log.is_early ph ≡ true → Turn views views' k (Rattle.pm_view.specs.Views.with_seen (NumberSeen n) (Rattle.pm_view.specs.Views.begun ph (views k))) → World o new views' g
     by_phase Idle q e t = begins o mem new views views' g x k ink moves.0 n moves.1 q (subst (λ (l : Log). Turn views views' k (record (views k) { log = l; seen = NumberSeen n ∷ []; call = []; number = None })) (new_log_is o mem new views views' g x k ink moves.0 n moves.1 q) t)

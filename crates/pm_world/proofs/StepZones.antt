@@ -1,30 +1,27 @@
 -- STEPS THAT CHANGE NO BIT: zones' locks are tried and given back, the stop word is set.
-use Rattle.std.specs.Prelude.{List, [], ◌∷◌, IsTrue, IfSome}
+use Rattle.std.specs.Prelude.{List, [], ◌∷◌}
 use Rattle.std.specs.List.{filter, list_any}
-use Rattle.std.proofs.Common.{◌≡◌, ◌≢◌, ℕ, suc, ◌+◌, ◌*◌, ◌/◌, ◌^◌, ◌<◌, ◌⊎◌, inl, inr, ⊎_elim, Bool, true, false, cond, not, ◌&&◌, ◌||◌, eqb, ◌==◌, refl, sym, ap, ◌∙◌, subst, arith, eq-eqb, ne_eqb, Option, None, Some}
-use Rattle.std.proofs.lemmas.Bool.{cases_eq, cases_Bool, eqb-true, both_ways, or_parts}
+use Rattle.std.proofs.Common.{◌≡◌, ◌≢◌, ℕ, suc, ◌+◌, ◌*◌, ◌^◌, ◌<◌, ◌⊎◌, inl, inr, ⊎_elim, Bool, true, false, cond, not, ◌||◌, ◌==◌, refl, sym, ap, ◌∙◌, subst, arith, eq-eqb, ne_eqb}
+use Rattle.std.proofs.lemmas.Bool.{cases_eq, eqb-true, both_ways}
 use Rattle.pm_layout.specs.declared.shape.Shape.{Shape}
 use Rattle.pm_layout.specs.Areas.{word_of_generation, word_of_seal, word_of_entry, line_of_slot}
-use Rattle.pm_view.specs.declared.occ.Occ.{Occ}
-use Rattle.pm_view.specs.declared.occ.Occ.TheVariants.{Run, Zone}
 use Rattle.pm_view.specs.Limits.{greatest_generation}
 use Rattle.pm_view.specs.Counts.{IsAtStop}
 use Rattle.pm_view.specs.Steps.{Step}
-use Rattle.pm_view.specs.Steps.Step.{ZoneTry, ZoneGive, Occupied, SetStop}
-use Rattle.pm_view.specs.View.{View, Seen}
-use Rattle.pm_view.specs.Views.{after, is_same_occ, occupancy_of, with_seen_at}
+use Rattle.pm_view.specs.Steps.Step.{ZoneTry, ZoneGive, SetStop}
+use Rattle.pm_view.specs.View.{View}
 use Rattle.pm_world.specs.States.{State, Cells}
 use Rattle.pm_world.specs.Sights.{Sight, sight_of}
-use Rattle.pm_world.specs.Lanes.{Ghost, SightFits, Bits}
+use Rattle.pm_world.specs.Lanes.{Ghost, Bits}
 use Rattle.pm_world.specs.Memory.{Location, Memory, PoolWord, LockWord, RunWord, ZoneWord, ZoneLock, CommitCounter, StopWord, occ_at, IsSame, cells_by, cells_of}
-use Rattle.pm_world.specs.World.{Opening, Views, Past, origin, ghost_of, settled_words, AloneFits, LaneFits, may_draw, may_draw_count, World}
+use Rattle.pm_world.specs.World.{Opening, Views, Past, origin, ghost_of, settled_words, LaneFits, may_draw, may_draw_count, World}
 use Rattle.pm_world.specs.Laws.{Turn, Keeps}
 use Rattle.pm_world.proofs.Cells.{sort, other_sort, other_number, occ_sort}
 use Rattle.pm_world.proofs.Counting.{count_same}
 use Rattle.pm_world.proofs.Frame.{Around}
 use Rattle.pm_world.proofs.StepClaims.{lane_again}
 use Rattle.pm_world.proofs.StepPlain.{plain_step}
-use Rattle.pm_world.proofs.Worlds.{Aside, world_after}
+use Rattle.pm_world.proofs.Worlds.{world_after}
 
 -- the bits say nothing of zones' locks and of the stop word
 bits_aside : (sh : Shape) (L : ℕ) (o : State) (cells : Cells) (sights sights' : ℕ → Sight) (g : Ghost) (zone : ℕ → ℕ) (stop : ℕ) → ((j : ℕ) → sights' j ≡ sights j) → Bits sh L o cells sights g → Bits sh L o (record cells { zone = zone; stop = stop }) sights' g
@@ -82,11 +79,13 @@ module _ (o : Opening) (mem new : Memory) (views views' : Views) (g : Past) (x :
 
 -- ---- THE STOP WORD IS SET by a lane at its stop number
 pub set_stop : Keeps SetStop
-set_stop o mem new views views' g k x ink law moves t = let f = x.each_lane k ink in let same : (l : Location) → sort l ≢ 6 → new l ≡ mem l = λ l ne. moves.0 l (other_sort l StopWord ne) in
-    (aside_step o mem new views views' g x k ink (λ l a b. same l b) (views k) t refl refl (λ z j ne. ap (λ n. n == suc j) (same (ZoneLock z) (λ q. omega arith)))
-        (lane_again o mem new g k (views k) f (λ w. same (PoolWord w) (λ q. omega arith)) (views k).claims (views k).seen (views k).zones (views k).occupancy f.log.phase (λ p b _ w. w) (λ z. ap (λ n. n == suc k) (same (ZoneLock z) (λ q. omega arith)) ∙ f.zones z)
-        (λ one. record { words = λ w y e. same (PoolWord w) (λ q. omega arith) ∙ (f.alone one).words w y e; occupancy = λ at y e. (moves.0 (occ_at at) (occ_sort at StopWord (λ q. omega arith) (λ q. omega arith)) ∙ ((f.alone one).occupancy at y e).0, ((f.alone one).occupancy at y e).1) }))
-        (inr (k, ink, subst IsAtStop (sym t.here) law.allowed)), tt)
+set_stop o mem new views views' g k x ink law moves t = let f = x.each_lane k ink in let same : (l : Location) → sort l ≢ 6 → new l ≡ mem l = λ l ne. moves.0 l (other_sort l StopWord ne) in (
+  aside_step o mem new views views' g x k ink (λ l a b. same l b) (views k) t refl refl (λ z j ne. ap (λ n. n == suc j) (same (ZoneLock z) (λ q. omega arith)))
+      (lane_again o mem new g k (views k) f (λ w. same (PoolWord w) (λ q. omega arith)) (views k).claims (views k).seen (views k).zones (views k).occupancy f.log.phase (λ p b _ w. w) (λ z. ap (λ n. n == suc k) (same (ZoneLock z) (λ q. omega arith)) ∙ f.zones z)
+      (λ one. record { words = λ w y e. same (PoolWord w) (λ q. omega arith) ∙ (f.alone one).words w y e; occupancy = λ at y e. (moves.0 (occ_at at) (occ_sort at StopWord (λ q. omega arith) (λ q. omega arith)) ∙ ((f.alone one).occupancy at y e).0, ((f.alone one).occupancy at y e).1) }))
+      (inr (k, ink, subst IsAtStop (sym t.here) law.allowed)),
+  tt,
+)
 
 -- ---- ZONES' LOCKS
 module _ (o : Opening) (mem new : Memory) (views views' : Views) (g : Past) (x : World o mem views g) (k : ℕ) (ink : k < o.lanes) (zone y : ℕ) (moves : Rattle.pm_world.specs.Memory.Becomes (ZoneLock zone) y mem new) (seen' : List Step) (zones' : List ℕ)
@@ -124,20 +123,25 @@ without_else zone m ne (z ∷ zones) = go (z == zone) refl (without_else zone m 
     go false e r = ap (λ q. (z == m) || q) r
 
 pub zone_tried : (zone : ℕ) (won : Bool) → Keeps (ZoneTry zone won)
-zone_tried zone true o mem new views views' g k x ink law moves t = let f = x.each_lane k ink in
-    (zone_step o mem new views views' g x k ink zone (k + 1) moves.0 (ZoneTry zone true ∷ (views k).seen) (zone ∷ (views k).zones) t refl
-        (λ j ne. ne_eqb (k + 1) (suc j) (λ q. ne (omega arith)) ∙ (sym (ne_eqb 0 (suc j) (λ q. absurd (omega arith))) ∙ sym (ap (λ n. n == suc j) moves.1)))
-        (eq-eqb (k + 1) (suc k) (omega arith) ∙ sym (ap (λ q. q || list_any (λ other. other == zone) (views k).zones) (eq-eqb zone zone refl)))
-        (λ z ne. ap (λ q. q || list_any (λ other. other == z) (views k).zones) (ne_eqb zone z (λ q. ne (sym q)))), λ _. refl)
-zone_tried zone false o mem new views views' g k x ink law moves t = let f = x.each_lane k ink in
-    (plain_step o mem new views views' g x k ink moves.0 (record (views k) { seen = ZoneTry zone false ∷ (views k).seen }) t refl refl (λ e. e) (Rattle.pm_world.proofs.StepPlain.lane_told o mem g k (views k) (ZoneTry zone false ∷ (views k).seen) (views k).call (views k).actions f),
-    λ one. absurd (taken (sym f.lanes ∙ eqb-true (views k).fixed.lanes 1 one)))
+zone_tried zone true o mem new views views' g k x ink law moves t = let f = x.each_lane k ink in (
+  zone_step o mem new views views' g x k ink zone (k + 1) moves.0 (ZoneTry zone true ∷ (views k).seen) (zone ∷ (views k).zones) t refl
+      (λ j ne. ne_eqb (k + 1) (suc j) (λ q. ne (omega arith)) ∙ (sym (ne_eqb 0 (suc j) (λ q. absurd (omega arith))) ∙ sym (ap (λ n. n == suc j) moves.1)))
+      (eq-eqb (k + 1) (suc k) (omega arith) ∙ sym (ap (λ q. q || list_any (λ other. other == zone) (views k).zones) (eq-eqb zone zone refl)))
+      (λ z ne. ap (λ q. q || list_any (λ other. other == z) (views k).zones) (ne_eqb zone z (λ q. ne (sym q)))),
+  λ _. refl,
+)
+zone_tried zone false o mem new views views' g k x ink law moves t = let f = x.each_lane k ink in (
+  plain_step o mem new views views' g x k ink moves.0 (record (views k) { seen = ZoneTry zone false ∷ (views k).seen }) t refl refl (λ e. e) (Rattle.pm_world.proofs.StepPlain.lane_told o mem g k (views k) (ZoneTry zone false ∷ (views k).seen) (views k).call (views k).actions f),
+  λ one. absurd (taken (sym f.lanes ∙ eqb-true (views k).fixed.lanes 1 one)),
+)
   where
     taken : o.lanes ≡ 1 → ⊥
     taken one = let f = x.each_lane k ink in let l = x.zone_locks zone in let ne = moves.1 in both_ways (mem (ZoneLock zone) == suc k) (f.zones zone ∙ law.allowed.free) (eq-eqb (mem (ZoneLock zone)) (suc k) (omega arith))
 
 pub zone_given : (zone : ℕ) → Keeps (ZoneGive zone)
-zone_given zone o mem new views views' g k x ink law moves t = let f = x.each_lane k ink in
-    (zone_step o mem new views views' g x k ink zone 0 moves (views k).seen (filter (λ other. not (other == zone)) (views k).zones) t refl
-        (λ j ne. ne_eqb 0 (suc j) (λ q. absurd (omega arith)) ∙ sym (ap (λ n. n == suc j) (eqb-true (mem (ZoneLock zone)) (suc k) (f.zones zone ∙ law.allowed.held)) ∙ ne_eqb (suc k) (suc j) (λ q. ne (omega arith))))
-        (ne_eqb 0 (suc k) (λ q. absurd (omega arith)) ∙ sym (without_here zone (views k).zones)) (λ z ne. without_else zone z ne (views k).zones), tt)
+zone_given zone o mem new views views' g k x ink law moves t = let f = x.each_lane k ink in (
+  zone_step o mem new views views' g x k ink zone 0 moves (views k).seen (filter (λ other. not (other == zone)) (views k).zones) t refl
+      (λ j ne. ne_eqb 0 (suc j) (λ q. absurd (omega arith)) ∙ sym (ap (λ n. n == suc j) (eqb-true (mem (ZoneLock zone)) (suc k) (f.zones zone ∙ law.allowed.held)) ∙ ne_eqb (suc k) (suc j) (λ q. ne (omega arith))))
+      (ne_eqb 0 (suc k) (λ q. absurd (omega arith)) ∙ sym (without_here zone (views k).zones)) (λ z ne. without_else zone z ne (views k).zones),
+  tt,
+)
