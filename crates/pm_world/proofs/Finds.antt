@@ -68,7 +68,7 @@ module _ (sh : Shape) (L : ℕ) (o : State) (cells : Cells) (sights : ℕ → Si
   owner_of B = ⊎_elim (λ (y : (j : ℕ) × (own (sights j).hold B ≡ true)). inl y)
       (λ (y : (j : ℕ) → j < L → own (sights j).hold B ≡ false). inr (λ j. ⊎_elim (λ (l : j < L). y j l) (λ (l : L ≤ j). (x.beyond j l B).0) (cases_lt j L))) (some_lane (λ j. own (sights j).hold B) L)
 
-  maker_of : (c : ℕ) → ((j : ℕ) × ((sights j).hold.making c ≡ true)) ⊎ ((j : ℕ) → (sights j).hold.making c ≡ false)
+  pub maker_of : (c : ℕ) → ((j : ℕ) × ((sights j).hold.making c ≡ true)) ⊎ ((j : ℕ) → (sights j).hold.making c ≡ false)
   maker_of c = ⊎_elim (λ (y : (j : ℕ) × ((sights j).hold.making c ≡ true)). inl y)
       (λ (y : (j : ℕ) → j < L → (sights j).hold.making c ≡ false). inr (λ j. ⊎_elim (λ (l : j < L). y j l) (λ (l : L ≤ j). not_making (sights j).hold c 0 (x.beyond j l (Small c 0)).0) (cases_lt j L))) (some_lane (λ j. (sights j).hold.making c) L)
 

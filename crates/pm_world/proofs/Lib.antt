@@ -14,6 +14,7 @@ pub mod StepPlain
 pub mod StepClaims
 pub mod StepLocks
 pub mod Looks
+pub mod Descriptors
 pub mod StepZones
 pub mod StepNumber
 pub mod Values
