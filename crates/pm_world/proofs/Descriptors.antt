@@ -10,14 +10,14 @@ use Rattle.pm_view.specs.Changes.{is_dirty_bit}
 use Rattle.pm_view.specs.Places.{Place, InRun, InHuge, Descr, RootWord, Block, Small, Big, Root, part, block_of, header, is_data, is_place, word_of, in_span}
 use Rattle.pm_view.specs.Entries.{latest, redos, turn}
 use Rattle.pm_view.specs.Log.{is_early}
-use Rattle.pm_view.specs.Claims.{SawDescriptor, is_run, is_huge, locked, reads, holds, class, header_in, found, here, span, shown_by_descriptor}
+use Rattle.pm_view.specs.Claims.{SawDescriptor, is_run, is_huge, locked, reads, holds, class, header_in, found, here, span, last_first, first, shown_by_descriptor}
 use Rattle.pm_world.specs.States.{val, read, there, cell}
 use Rattle.pm_world.specs.Sights.{sight_of, is_soiled, hold_of}
-use Rattle.pm_world.specs.Lanes.{own, owns, SightFits, Flies}
+use Rattle.pm_world.specs.Lanes.{own, owns, has, SightFits, Flies}
 use Rattle.pm_world.specs.Memory.{Memory, PoolWord, bit, run_told, huge_told, cells_of}
 use Rattle.pm_world.specs.World.{Opening, Views, Past, origin, ghost_of, settled_words, World}
 use Rattle.pm_world.proofs.Finds.{maker_of, Shows, shown_there, not_others, span_told}
-use Rattle.pm_world.proofs.Frame.{maker_owns, no_run, soiled_owned, disjoint, mine_own}
+use Rattle.pm_world.proofs.Frame.{maker_owns, no_run, soiled_owned, disjoint, mine_own, found_has}
 use Rattle.pm_world.proofs.Looks.{unpictured}
 use Rattle.pm_world.proofs.Values.{val_from}
 
@@ -98,3 +98,53 @@ module _ (o : Opening) (mem : Memory) (views : Views) (g : Past) (x : World o me
         (subst (λ i. own (sight_of (views k)).hold (Big i) ≡ true) z.1 w)) (cases_eq y.0 k))
         (λ (y : (j : ℕ) → (sight_of (views j)).hold.making d ≡ false). let z : (cells_of o.shape mem).descr d ≡ 0 = x.bits.descr d y ∙ ap (λ q. cond q (g.geo.class d) 0) r in absurd (omega arith))
         (maker_of o.shape o.lanes (origin o) (cells_of o.shape mem) (λ j. sight_of (views j)) (ghost_of g) x.bits k ink early (unpictured o mem views g x k ink early) d)
+
+    -- ---- the first chunk of the block that a chunk is in, as the lane knows it then
+    abbrev first' : ℕ → ℕ
+    first' = first (views k).fixed.shape (SawDescriptor c n ∷ (views k).claims)
+
+    abbrev span' : ℕ → ℕ
+    span' = span (views k).fixed.shape (SawDescriptor c n ∷ (views k).claims)
+
+    abbrev found_now : ℕ → Bool
+    found_now f = found (views k).fixed.shape (views k).claims (Big f)
+
+    span_new : (f : ℕ) → now (Big f) ≡ true → found_now f ≡ false → span' f ≡ n / 256
+    span_new f e u = cond-true (now (Big f) && not (found_now f)) (n / 256) (span (views k).fixed.shape (views k).claims f) (and_from (now (Big f)) (not (found_now f)) e (ap not u))
+
+    span_old : (f : ℕ) → (now (Big f) ≡ false) ⊎ (found_now f ≡ true) → span' f ≡ span (views k).fixed.shape (views k).claims f
+    span_old f u = cond-false (now (Big f) && not (found_now f)) (n / 256) (span (views k).fixed.shape (views k).claims f) (⊎_elim (λ (e : now (Big f) ≡ false). ap (λ q. q && not (found_now f)) e)
+        (λ (e : found_now f ≡ true). Rattle.std.proofs.lemmas.Bool.and_right (now (Big f)) (not (found_now f)) (ap not e)) u)
+
+    -- the span that the lane then knows of a block that it has, or that is shown, is so
+    span_so : (f d : ℕ) → (now (Big f) ≡ true) ⊎ (has (sight_of (views k)).hold (Big f) ≡ true) → (g.geo.first d == f) ≡ in_span f (span' f) d
+    span_so f d u = ⊎_elim (λ (q : found_now f ≡ true). (fit k).hold.span f (found_has (sight_of (views k)).hold (Big f) q) d ∙ ap (λ m. in_span f m d) (sym (span_old f (inr q))))
+        (λ (q : found_now f ≡ false). ⊎_elim (λ (e : now (Big f) ≡ true). shown_span f e d ∙ ap (λ m. in_span f m d) (sym (span_new f e q)))
+        (λ (e : now (Big f) ≡ false). (fit k).hold.span f (⊎_elim (λ (z : now (Big f) ≡ true). absurd (both_ways (now (Big f)) e z)) (λ (z : has (sight_of (views k)).hold (Big f) ≡ true). z) u) d ∙ ap (λ m. in_span f m d) (sym (span_old f (inl e)))) (cases_Bool (now (Big f)))) (cases_Bool (found_now f))
+
+    within_cases : (s : ℕ → ℕ) (l d : ℕ) → (in_span (cond (in_span l (s l) d) l d) (s (cond (in_span l (s l) d) l d)) d ≡ true) ⊎ (cond (in_span l (s l) d) l d ≡ d)
+    within_cases s l d = ⊎_elim (λ (q : in_span l (s l) d ≡ true). inl (subst (λ a. in_span a (s a) d ≡ true) (sym (cond-true (in_span l (s l) d) l d q)) q)) (λ (q : in_span l (s l) d ≡ false). inr (cond-false (in_span l (s l) d) l d q)) (cases_Bool (in_span l (s l) d))
+
+    -- a block of the lane's, or shown, that it takes a chunk to be in has the chunk
+    first_back : (d : ℕ) → ((now (Big (first' d)) ≡ true) ⊎ (has (sight_of (views k)).hold (Big (first' d)) ≡ true)) → g.geo.first (first' d) ≡ first' d → g.geo.first d ≡ first' d
+    first_back d u head = ⊎_elim (λ (q : in_span (first' d) (span' (first' d)) d ≡ true). eqb-true (g.geo.first d) (first' d) (span_so (first' d) d u ∙ q)) (λ (q : first' d ≡ d). ap g.geo.first (sym q) ∙ head) (within_cases span' (last_first (views k).fixed.shape (SawDescriptor c n ∷ (views k).claims) d) d)
+
+    old_back : (d : ℕ) → has (sight_of (views k)).hold (Big ((sight_of (views k)).hold.first d)) ≡ true → g.geo.first ((sight_of (views k)).hold.first d) ≡ (sight_of (views k)).hold.first d → g.geo.first d ≡ (sight_of (views k)).hold.first d
+    old_back d u head = ⊎_elim (λ (q : in_span ((sight_of (views k)).hold.first d) ((sight_of (views k)).hold.span ((sight_of (views k)).hold.first d)) d ≡ true). eqb-true (g.geo.first d) ((sight_of (views k)).hold.first d) ((fit k).hold.span ((sight_of (views k)).hold.first d) u d ∙ q))
+        (λ (q : (sight_of (views k)).hold.first d ≡ d). ap g.geo.first (sym q) ∙ head) (within_cases (sight_of (views k)).hold.span (last_first (views k).fixed.shape (views k).claims d) d)
+
+    first_in : (d : ℕ) → now (Big (g.geo.first d)) ≡ true → first' d ≡ g.geo.first d
+    first_in d e = let f = g.geo.first d in let y = shown_big f e in let l = last_first (views k).fixed.shape (views k).claims d in
+        let q : (now (Big c) && in_span c (n / 256) d) ≡ true = subst (λ a. (now (Big a) && in_span a (n / 256) d) ≡ true) y.0 (and_from (now (Big f)) (in_span f (n / 256) d) e (sym (shown_span f e d) ∙ eq-eqb f f refl)) in
+        let is : last_first (views k).fixed.shape (SawDescriptor c n ∷ (views k).claims) d ≡ f = cond-true (now (Big c) && in_span c (n / 256) d) c l q ∙ sym y.0 in
+        ap (λ a. cond (in_span a (span' a) d) a d) is ∙ cond-true (in_span f (span' f) d) f d (sym (span_so f d (inl e)) ∙ eq-eqb f f refl)
+
+    first_old : (d : ℕ) → now (Big (g.geo.first d)) ≡ false → has (sight_of (views k)).hold (Big (g.geo.first d)) ≡ true → first' d ≡ g.geo.first d
+    first_old d u h = let f = g.geo.first d in let l = last_first (views k).fixed.shape (views k).claims d in let s = span (views k).fixed.shape (views k).claims in
+        let none_ : (now (Big c) && in_span c (n / 256) d) ≡ false = false_from_ne_true (now (Big c) && in_span c (n / 256) d) (λ q. let y = and_parts (now (Big c)) (in_span c (n / 256) d) q in both_ways (now (Big f)) u (ap (λ a. now (Big a)) (eqb-true f c (shown_span c y.0 d ∙ y.1)) ∙ y.0)) in
+        let is : last_first (views k).fixed.shape (SawDescriptor c n ∷ (views k).claims) d ≡ l = cond-false (now (Big c) && in_span c (n / 256) d) c l none_ in
+        let was : cond (in_span l (s l) d) l d ≡ f = (fit k).hold.first d h in
+        ap (λ a. cond (in_span a (span' a) d) a d) is ∙ ⊎_elim (λ (q : now (Big l) ≡ true). let ne : f ≢ l = λ z. both_ways (now (Big f)) u (ap (λ a. now (Big a)) z ∙ q) in
+        cond-false (in_span l (span' l) d) l d (sym (span_so l d (inl q)) ∙ ne_eqb f l ne)
+        ∙ ⊎_elim (λ (z : in_span l (s l) d ≡ true). absurd (ne (sym was ∙ cond-true (in_span l (s l) d) l d z))) (λ (z : in_span l (s l) d ≡ false). sym (cond-false (in_span l (s l) d) l d z) ∙ was) (cases_Bool (in_span l (s l) d)))
+        (λ (q : now (Big l) ≡ false). ap (λ m. cond (in_span l m d) l d) (span_old l (inl q)) ∙ was) (cases_Bool (now (Big l)))
