@@ -1,18 +1,18 @@
 -- Looks over bits: a load under the lock of a block shows that it is allocated, how many lines or chunks it has, and its words come to be known.
-use Rattle.std.proofs.Common.{◌≡◌, ◌≢◌, ℕ, zero, suc, ◌+◌, ◌%◌, ◌<◌, ◌≤◌, nat_lt, ◌⊎◌, inl, inr, ⊎_elim, Bool, true, false, cond, not, ◌&&◌, ◌||◌, eqb, ◌==◌, refl, sym, ap, ◌∙◌, subst, arith, eq-eqb, ne_eqb, Option, None, Some}
-use Rattle.std.proofs.lemmas.Bool.{cases_eq, cases_Bool, cases_lt, eqb-true, both_ways, and_parts, and_from, or_cases, or_left, or_right, or_parts, false_from_ne_true}
+use Rattle.std.proofs.Common.{◌≡◌, ◌≢◌, ℕ, zero, suc, ◌+◌, ◌%◌, ◌<◌, ◌≤◌, nat_lt, ◌⊎◌, inl, inr, ⊎_elim, Bool, true, false, cond, not, ◌&&◌, ◌||◌, ◌==◌, refl, sym, ap, ◌∙◌, subst, arith, eq-eqb, ne_eqb, Option, None, Some}
+use Rattle.std.proofs.lemmas.Bool.{cases_eq, cases_Bool, cases_lt, both_ways, and_parts, and_from, or_cases, or_left, or_right, false_from_ne_true}
 use Rattle.pm_layout.specs.declared.shape.Shape.{Shape}
 use Rattle.pm_layout.specs.Sizes.{blocks_of}
-use Rattle.pm_view.specs.Places.{Place, InRun, InHuge, Descr, RootWord, Block, Small, Big, Root, block_of, header, place_of, bit_of, in_span}
+use Rattle.pm_view.specs.Places.{Place, InRun, InHuge, Descr, RootWord, Block, Small, Big, Root, block_of, header, in_span}
 use Rattle.pm_view.specs.Entries.{latest, turn}
 use Rattle.pm_view.specs.Log.{Phase, Idle, Open, Drawn, Sealing, Applying, Clearing, Retiring, Voiding, is_early}
 use Rattle.pm_view.specs.Claims.{making_of}
-use Rattle.pm_world.specs.States.{State, Diff, diff, given, live, there, shown, val, spans, read, Cells}
+use Rattle.pm_world.specs.States.{State, Diff, given, live, there, val, spans, read, Cells}
 use Rattle.pm_world.specs.Sights.{Hold, Sight, is_pictured}
-use Rattle.pm_world.specs.Lanes.{Ghost, own, owns, sees, has, valid, blank, is_decided, left, settled, TurnFits, SightFits, Flies, Bits}
-use Rattle.pm_world.proofs.Frame.{own_cases, here_own, making_own, own_has, found_has, not_making, maker_no_run, small_cases, small_run, turn_stays}
-use Rattle.pm_world.proofs.Going.{Turned, own_fits}
-use Rattle.pm_world.proofs.Locks.{held, sighted, Unowned, Reclaims, reclaims, gains_by, none_where_found, others_unlocked, owned_more, own_new, true_picture}
+use Rattle.pm_world.specs.Lanes.{Ghost, own, owns, sees, has, valid, is_decided, left, settled, TurnFits, SightFits, Flies, Bits}
+use Rattle.pm_world.proofs.Frame.{own_cases, making_own, own_has, found_has, not_making, maker_no_run, small_cases, small_run, turn_stays}
+use Rattle.pm_world.proofs.Going.{Turned}
+use Rattle.pm_world.proofs.Locks.{held, sighted, reclaims, gains_by, none_where_found, others_unlocked, owned_more, own_new, true_picture}
 
 -- some lane of so many passes a test, or none does
 pub some_lane : (P : ℕ → Bool) (n : ℕ) → ((j : ℕ) × (P j ≡ true)) ⊎ ((j : ℕ) → j < n → P j ≡ false)
@@ -68,7 +68,7 @@ module _ (sh : Shape) (L : ℕ) (o : State) (cells : Cells) (sights : ℕ → Si
   owner_of B = ⊎_elim (λ (y : (j : ℕ) × (own (sights j).hold B ≡ true)). inl y)
       (λ (y : (j : ℕ) → j < L → own (sights j).hold B ≡ false). inr (λ j. ⊎_elim (λ (l : j < L). y j l) (λ (l : L ≤ j). (x.beyond j l B).0) (cases_lt j L))) (some_lane (λ j. own (sights j).hold B) L)
 
-  maker_of : (c : ℕ) → ((j : ℕ) × ((sights j).hold.making c ≡ true)) ⊎ ((j : ℕ) → (sights j).hold.making c ≡ false)
+  pub maker_of : (c : ℕ) → ((j : ℕ) × ((sights j).hold.making c ≡ true)) ⊎ ((j : ℕ) → (sights j).hold.making c ≡ false)
   maker_of c = ⊎_elim (λ (y : (j : ℕ) × ((sights j).hold.making c ≡ true)). inl y)
       (λ (y : (j : ℕ) → j < L → (sights j).hold.making c ≡ false). inr (λ j. ⊎_elim (λ (l : j < L). y j l) (λ (l : L ≤ j). not_making (sights j).hold c 0 (x.beyond j l (Small c 0)).0) (cases_lt j L))) (some_lane (λ j. (sights j).hold.making c) L)
 
@@ -84,7 +84,7 @@ module _ (sh : Shape) (L : ℕ) (o : State) (cells : Cells) (sights : ℕ → Si
           (λ (ne : j ≢ k). both_ways ((sights j).hold.locked l) (others_unlocked sh L o cells sights g x k ink l lk j ne) lj) (cases_eq j k)
 
   -- the chunk that memory tells to be a run is one, where a bit of its bitmap is set
-  is_run_there : (c i n : ℕ) → cells.descr c ≡ suc n → read cells.pool (InRun c 0) i ≡ true → g.runs c ≡ true
+  pub is_run_there : (c i n : ℕ) → cells.descr c ≡ suc n → read cells.pool (InRun c 0) i ≡ true → g.runs c ≡ true
   is_run_there c i n d m = ⊎_elim (λ (e : g.runs c ≡ true). e) (λ (e : g.runs c ≡ false). absurd (⊎_elim
       (λ (y : (j : ℕ) × ((sights j).hold.making c ≡ true)). both_ways (read cells.pool (InRun c 0) i) (((fit y.0).bits (InRun c 0) i (making_own (sights y.0).hold c i y.1)).1 y.1) m)
       (λ (y : (j : ℕ) → (sights j).hold.making c ≡ false). let z : cells.descr c ≡ 0 = x.descr c y ∙ ap (λ t. cond t (g.geo.class c) 0) e in (omega arith)) (maker_of c))) (cases_Bool (g.runs c))
@@ -137,6 +137,10 @@ module _ (sh : Shape) (L : ℕ) (o : State) (cells : Cells) (sights : ℕ → Si
   class_told c i t = ⊎_elim (λ (e : own (sights k).hold (Small c i) ≡ true). ⊎_elim (λ (r : g.runs c ≡ true). run_class c r) (λ (m : (sights k).hold.making c ≡ true). ((fit k).hold.making c m).1) (small_cases sh cells (settled o g) (Flies g k) g x.geo k (sights k) (fit k) c i e))
       (λ (e : (sights k).hold.found (Small c i) ≡ true). run_class c (small_run sh cells (settled o g) (Flies g k) g x.geo k (sights k) (fit k) c i ((fit k).hold.found (Small c i) e).1)) (or_cases (own (sights k).hold (Small c i)) ((sights k).hold.found (Small c i)) t)
 
+  -- and so the chunks of that block are those that memory tells
+  pub span_told : (f : ℕ) → ((sights k).hold.locked (header sh g.geo (Big f)) || (sights k).hold.reads (header sh g.geo (Big f))) ≡ true → there (settled o g) (Big f) ≡ true → (c : ℕ) → (g.geo.first c == f) ≡ in_span f (val (read cells.pool (Descr f)) 8 56) c
+  span_told f lk t c = x.geo.shape f t c ∙ sym (ap (λ w. spans w f c) (λ i b. same_descr f lk t b i))
+
   -- A LOAD SHOWS BLOCKS whose locks the lane holds: they are found, and those under a lock for writing are its to change. What it knows of their runs and
   -- chunks is what memory tells; of their words it knows nothing yet
   pub record Finds (now found' here' : Block → Bool) (class' span' first' : ℕ → ℕ) (pc : Diff) (so : Place → ℕ → Bool) : Type 0 where
@@ -147,8 +151,8 @@ module _ (sh : Shape) (L : ℕ) (o : State) (cells : Cells) (sights : ℕ → Si
     pub knows : (c i : ℕ) → now (Small c i) ≡ true → (n : ℕ) × (class' c ≡ suc n)
     pub span_new : (f : ℕ) → now (Big f) ≡ true → (sights k).hold.found (Big f) ≡ false → span' f ≡ val (read cells.pool (Descr f)) 8 56
     pub span_old : (f : ℕ) → (now (Big f) ≡ false) ⊎ ((sights k).hold.found (Big f) ≡ true) → span' f ≡ (sights k).hold.span f
-    pub first_in : (f c : ℕ) → now (Big f) ≡ true → in_span f (val (read cells.pool (Descr f)) 8 56) c ≡ true → first' c ≡ f
-    pub first_out : (c : ℕ) → ((f : ℕ) → now (Big f) ≡ true → in_span f (val (read cells.pool (Descr f)) 8 56) c ≡ false) → first' c ≡ (sights k).hold.first c
+    pub first_in : (c : ℕ) → now (Big (g.geo.first c)) ≡ true → first' c ≡ g.geo.first c
+    pub first_old : (c : ℕ) → now (Big (g.geo.first c)) ≡ false → has (sights k).hold (Big (g.geo.first c)) ≡ true → first' c ≡ g.geo.first c
     pub less : (p : Place) (b : ℕ) (y : Bool) → pc p b ≡ Some y → (sights k).picture p b ≡ Some y
     pub dark : (p : Place) (b : ℕ) → now (block_of g.geo p b) ≡ true → (sights k).hold.found (block_of g.geo p b) ≡ false → pc p b ≡ None
     pub fresh : (p : Place) (b : ℕ) (y : Bool) → (sights k).call.fresh p b ≡ Some y → pc p b ≡ Some y
@@ -175,8 +179,7 @@ module _ (sh : Shape) (L : ℕ) (o : State) (cells : Cells) (sights : ℕ → Si
           span = λ a s c. ⊎_elim (λ (e : (sights k).hold.found (Big a) ≡ true). f.hold.span a (found_has (sights k).hold (Big a) e) c ∙ ap (λ z. in_span a z c) (sym (r.span_old a (inr e))))
               (λ (e : (sights k).hold.found (Big a) ≡ false). ⊎_elim (λ (q : now (Big a) ≡ true). spanned a q c ∙ ap (λ z. in_span a z c) (sym (r.span_new a q e)))
               (λ (q : now (Big a) ≡ false). f.hold.span a (had_old (Big a) s q) c ∙ ap (λ z. in_span a z c) (sym (r.span_old a (inl q)))) (cases_Bool (now (Big a)))) (cases_Bool ((sights k).hold.found (Big a)));
-          first = λ c s. let y = g.geo.first c in ⊎_elim (λ (q : now (Big y) ≡ true). r.first_in y c q (sym (spanned y q c) ∙ eq-eqb y y refl))
-              (λ (q : now (Big y) ≡ false). r.first_out c (λ a e. sym (spanned a e c) ∙ ne_eqb y a (λ z. both_ways (now (Big y)) q (ap (λ t. now (Big t)) z ∙ e))) ∙ f.hold.first c (had_old (Big y) s q)) (cases_Bool (now (Big y)));
+          first = λ c s. let y = g.geo.first c in ⊎_elim (λ (q : now (Big y) ≡ true). r.first_in c q) (λ (q : now (Big y) ≡ false). r.first_old c q (had_old (Big y) s q)) (cases_Bool (now (Big y)));
           zone = λ a s. ⊎_elim (λ (e : (sights k).hold.found (Big a) ≡ true). subst (λ z. a % 64 + z ≤ 64) (sym (r.span_old a (inr e))) (f.hold.zone a (found_has (sights k).hold (Big a) e)))
               (λ (e : (sights k).hold.found (Big a) ≡ false). ⊎_elim (λ (q : now (Big a) ≡ true). subst (λ z. a % 64 + z ≤ 64) (sym (r.span_new a q e ∙ ap (λ w. val w 8 56) (λ i b. told a q b i))) (x.geo.in_zone a (there_now (Big a) q)))
               (λ (q : now (Big a) ≡ false). subst (λ z. a % 64 + z ≤ 64) (sym (r.span_old a (inl q))) (f.hold.zone a (had_old (Big a) s q))) (cases_Bool (now (Big a)))) (cases_Bool ((sights k).hold.found (Big a)));

@@ -26,7 +26,12 @@ pub mod Finds
 pub mod LockBits
 pub mod StepClaims
 pub mod StepLocks
+pub mod Looks
+pub mod Descriptors
 pub mod StepZones
+pub mod StepNumber
+pub mod Values
+pub mod Births
 pub mod Occupies
 pub mod Vacates
 pub mod Runs

@@ -1,7 +1,7 @@
 -- Lock words by their bits: a lane that takes a lock, raises it or gives it back changes its own bits alone.
-use Rattle.std.proofs.Common.{◌≡◌, ◌≢◌, ℕ, ◌+◌, ◌-◌, ◌*◌, ◌/◌, ◌^◌, ◌<◌, ◌≤◌, ◌⊎◌, inl, inr, ⊎_elim, nat_lt, max, min, Bool, true, false, ◌&&◌, eqb, ◌==◌, bit_and, bit_or, Some, refl, sym, ap, ◌∙◌, arith, eq-eqb, lt-ltb, le-ltb, pow_mono, pow_pos, pow-add}
+use Rattle.std.proofs.Common.{◌≡◌, ◌≢◌, ℕ, ◌+◌, ◌*◌, ◌/◌, ◌^◌, ◌<◌, ◌≤◌, ◌⊎◌, ⊎_elim, nat_lt, max, Bool, true, false, ◌&&◌, eqb, ◌==◌, bit_and, bit_or, Some, refl, sym, ap, ◌∙◌, arith, eq-eqb, lt-ltb, le-ltb, pow_mono, pow_pos, pow-add}
 use Rattle.std.specs.Int.{bit_at, bit_not, w64}
-use Rattle.std.proofs.lemmas.Bool.{cases_eq, cases_lt, cases_Bool, eqb-true, both_ways}
+use Rattle.std.proofs.lemmas.Bool.{cases_eq, cases_lt, eqb-true, both_ways}
 use Rattle.std.proofs.lemmas.Nat.{or_lt}
 use Rattle.std.proofs.lemmas.Nat.Bits.{bit_at_and, bit_at_or, bit_at_not, bit_at_above, bit_at-lt, bit_at-zero, bit_at-pow_same, bit_at-pow_other}
 use Rattle.std.proofs.lemmas.Option.{cond_some}

@@ -1,17 +1,17 @@
 -- Locks over bits: taken, raised and given back. What a lane holds changes, the words and the history stay.
 use Rattle.std.specs.Prelude.{List, [], ◌∷◌}
-use Rattle.std.proofs.Common.{◌≡◌, ◌≢◌, ℕ, suc, ◌<◌, ◌≤◌, ◌⊎◌, inl, inr, ⊎_elim, Bool, true, false, cond, not, ◌&&◌, ◌||◌, eqb, ◌==◌, refl, sym, ap, ◌∙◌, subst, arith, eq-eqb, ne_eqb, Option, None, Some}
+use Rattle.std.proofs.Common.{◌≡◌, ◌≢◌, ℕ, ◌<◌, ◌⊎◌, inl, inr, ⊎_elim, Bool, true, false, not, ◌&&◌, ◌||◌, eqb, ◌==◌, refl, sym, ap, ◌∙◌, subst, eq-eqb, ne_eqb, Option, None, Some}
 use Rattle.std.proofs.lemmas.Bool.{cases_eq, cases_Bool, eqb-true, both_ways, and_parts, and_from, or_cases, or_left, or_right, or_parts, false_from_ne_true}
 use Rattle.pm_layout.specs.declared.shape.Shape.{Shape}
 use Rattle.pm_view.specs.Places.{Place, InRun, InHuge, Descr, RootWord, Block, Small, Big, Root, block_of, header}
 use Rattle.pm_view.specs.Entries.{latest, turn}
 use Rattle.pm_view.specs.Log.{Phase, Idle, Open, Drawn, Sealing, Applying, Clearing, Retiring, Voiding, is_early}
 use Rattle.pm_view.specs.Claims.{making_of}
-use Rattle.pm_world.specs.States.{State, Diff, diff, given, live, val, root_line, guards, read, Cells}
+use Rattle.pm_world.specs.States.{State, Diff, diff, given, live, val, root_line, read, Cells}
 use Rattle.pm_world.specs.Sights.{Hold, Sight}
-use Rattle.pm_world.specs.Lanes.{Ghost, own, owns, sees, rights, all_held, has, valid, blank, is_decided, in_flight, left, settled, TurnFits, DescrFits, HoldFits, SightFits, Flies, flies_at, Alone, Bits}
-use Rattle.pm_world.proofs.Frame.{Around, own_cases, here_own, making_own, own_has, found_has, found_valid, found_apart, root_rights, lock_apart}
-use Rattle.pm_world.proofs.Going.{Turned, Rest, goes_on, own_fits, same_made, still_flying}
+use Rattle.pm_world.specs.Lanes.{Ghost, own, owns, sees, all_held, has, blank, is_decided, in_flight, left, settled, TurnFits, DescrFits, HoldFits, SightFits, Flies, Alone, Bits}
+use Rattle.pm_world.proofs.Frame.{own_cases, here_own, making_own, found_apart, root_rights, lock_apart}
+use Rattle.pm_world.proofs.Going.{Turned, goes_on, own_fits, same_made, still_flying}
 
 -- ---- phases before the number
 

@@ -2,9 +2,9 @@
 use Rattle.std.specs.Prelude.{List, [], ◌∷◌, IsTrue, All, length, slice_get, slice_index}
 use Rattle.std.specs.Option.{option_map}
 use Rattle.std.specs.Int.{bit_at}
-use Rattle.std.proofs.Common.{◌≡◌, ◌≢◌, ℕ, suc, ◌+◌, ◌-◌, ◌*◌, ◌/◌, ◌%◌, ◌^◌, ◌<◌, ◌≤◌, nat_lt, ◌⊎◌, inl, inr, ⊎_elim, Bool, true, false, cond, not, ◌&&◌, ◌||◌, eqb, ◌==◌, refl, sym, ap, ◌∙◌, subst, arith, eq-eqb, ne_eqb, lt-ltb, Option, None, Some}
-use Rattle.std.proofs.lemmas.Bool.{cases_eq, cases_lt, cases_Bool, eqb-true, both_ways, and_parts, and_from, or_cases, or_left, or_right, or_parts, false_from_ne_true}
-use Rattle.std.proofs.lemmas.Nat.Bits.{bit_at-lt, bit_at-zero, bit_at-pow_same, bit_at-pow_other, same_from_bits}
+use Rattle.std.proofs.Common.{◌≡◌, ◌≢◌, ℕ, suc, ◌+◌, ◌-◌, ◌*◌, ◌^◌, ◌<◌, ◌≤◌, nat_lt, ◌⊎◌, inl, inr, ⊎_elim, Bool, true, false, cond, not, ◌&&◌, ◌||◌, ◌==◌, refl, sym, ap, ◌∙◌, subst, arith, eq-eqb, ne_eqb, lt-ltb, Option, None, Some}
+use Rattle.std.proofs.lemmas.Bool.{cases_eq, cases_lt, cases_Bool, eqb-true, both_ways, and_parts, and_from, or_right, or_parts, false_from_ne_true}
+use Rattle.std.proofs.lemmas.Nat.Bits.{bit_at-zero, bit_at-pow_same, bit_at-pow_other, same_from_bits}
 use Rattle.pm_layout.specs.declared.shape.Shape.{Shape}
 use Rattle.pm_layout.specs.Chunks.{line_of_chunk, word_of_root}
 use Rattle.pm_view.specs.Changes.{Undrained}
@@ -15,24 +15,22 @@ use Rattle.pm_view.specs.Log.{Phase, Idle, Open, Drawn, Sealing, Applying, Clear
 use Rattle.pm_view.specs.Claims.{Claim, Took, Raised, Gave, making_of, locked, reads, holds, class, header_in, found, here, geometry, pictured}
 use Rattle.pm_view.specs.Steps.{Step}
 use Rattle.pm_view.specs.Steps.Step.{TakeWrite, TakeRead, Raise, Give}
-use Rattle.pm_view.specs.View.{View, runs_one}
+use Rattle.pm_view.specs.View.{runs_one}
 use Rattle.pm_view.specs.Views.{after}
-use Rattle.pm_world.specs.States.{State, Diff, diff, given, val, root_line, read, Cells}
-use Rattle.pm_world.specs.Sights.{Hold, Sight, is_pictured, is_recorded, is_logged, is_made, picture, fresh, call_of, call_in, sight_by, sight_of}
-use Rattle.pm_world.specs.Lanes.{Ghost, own, owns, has, TurnFits, SightFits, Flies, Alone, Bits}
+use Rattle.pm_world.specs.States.{diff, given}
+use Rattle.pm_world.specs.Sights.{Hold, is_pictured, is_recorded, is_logged, is_made, picture, fresh, call_of, call_in, sight_by, sight_of}
+use Rattle.pm_world.specs.Lanes.{own, owns, has, TurnFits, SightFits, Flies}
 use Rattle.pm_world.specs.Lawful.{GiveFits, MayGive}
 use Rattle.pm_world.specs.Logs.{PhaseFits}
-use Rattle.pm_world.specs.Memory.{Memory, PoolWord, LockWord, IsSame, IsSameBut, Becomes, bit, cells_of}
-use Rattle.pm_world.specs.World.{Opening, Views, Past, origin, ghost_of, settled_words, LaneFits, may_draw, World}
+use Rattle.pm_world.specs.Memory.{Memory, LockWord, IsSame, IsSameBut, Becomes, bit, cells_of}
+use Rattle.pm_world.specs.World.{Opening, Views, Past, origin, ghost_of, settled_words, may_draw, World}
 use Rattle.pm_world.specs.Laws.{Turn, Keeps}
 use Rattle.pm_world.proofs.Cells.{other_number}
-use Rattle.pm_world.proofs.Frame.{fresh_given, found_has}
-use Rattle.pm_world.proofs.Going.{Turned}
+use Rattle.pm_world.proofs.Frame.{found_has}
 use Rattle.pm_world.proofs.LockBits.{WordMoves, NoneElse, NoReader, clear_at, write_moves, read_moves, raise_moves, give_moves}
-use Rattle.pm_world.proofs.Locks.{Relocked, taking, takes, raising, raises, giving, gives, held, root_locked, owned_more, took_else, more3, early_undecided}
-use Rattle.pm_world.proofs.StepClaims.{claimed_view, relocked_cells, claims_step}
+use Rattle.pm_world.proofs.Locks.{Relocked, taking, takes, raising, raises, giving, gives, held, owned_more, took_else, more3, early_undecided}
+use Rattle.pm_world.proofs.StepClaims.{claims_step}
 use Rattle.pm_world.proofs.StepPlain.{plain_step, lane_told}
-use Rattle.pm_world.proofs.Worlds.{turned}
 
 -- ---- of a picture that forgets some words, what the call made stays
 pub fresh_same : (C : Bool) (pc pc' : Option Bool) → ((y : Bool) → pc' ≡ Some y → pc ≡ Some y) → (given (cond C pc None) ≡ true → pc' ≡ pc) → cond C pc' None ≡ cond C pc None

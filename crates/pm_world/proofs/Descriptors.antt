@@ -1,0 +1,150 @@
+-- LOOKS: what a load of a descriptor shows of a huge block, to a lane that holds its lock, and of a run.
+use Rattle.std.specs.Prelude.{List, [], ◌∷◌}
+use Rattle.std.specs.Option.{option_map}
+use Rattle.std.specs.Int.{bit_at}
+use Rattle.std.proofs.Common.{◌≡◌, ◌≢◌, ℕ, zero, suc, ◌+◌, ◌-◌, ◌*◌, ◌/◌, ◌%◌, ◌^◌, ◌<◌, ◌≤◌, nat_le, nat_lt, ◌⊎◌, inl, inr, ⊎_elim, Bool, true, false, cond, not, ◌&&◌, ◌||◌, eqb, ◌==◌, refl, sym, ap, ◌∙◌, subst, arith, eq-eqb, ne_eqb, Option, None, Some}
+use Rattle.std.proofs.lemmas.Bool.{cases_eq, cases_lt, cases_Bool, eqb-true, lt-ltb, ltb-true, leb-true, both_ways, and_parts, and_from, or_cases, or_left, cond-true, cond-false, false_from_ne_true}
+use Rattle.pm_layout.specs.declared.shape.Shape.{Shape}
+use Rattle.pm_layout.specs.Chunks.{chunks_of, line_of_chunk, word_of_chunk, word_of_descriptor}
+use Rattle.pm_view.specs.Changes.{is_dirty_bit}
+use Rattle.pm_view.specs.Places.{Place, InRun, InHuge, Descr, RootWord, Block, Small, Big, Root, part, block_of, header, is_data, is_place, word_of, in_span}
+use Rattle.pm_view.specs.Entries.{latest, redos, turn}
+use Rattle.pm_view.specs.Log.{is_early}
+use Rattle.pm_view.specs.Claims.{SawDescriptor, is_run, is_huge, locked, reads, holds, class, header_in, found, here, span, last_first, first, shown_by_descriptor}
+use Rattle.pm_world.specs.States.{val, read, there, cell}
+use Rattle.pm_world.specs.Sights.{sight_of, is_soiled, hold_of}
+use Rattle.pm_world.specs.Lanes.{own, owns, has, SightFits, Flies}
+use Rattle.pm_world.specs.Memory.{Memory, PoolWord, bit, run_told, huge_told, cells_of}
+use Rattle.pm_world.specs.World.{Opening, Views, Past, origin, ghost_of, settled_words, World}
+use Rattle.pm_world.proofs.Finds.{maker_of, Shows, shown_there, not_others, span_told}
+use Rattle.pm_world.proofs.Frame.{maker_owns, no_run, soiled_owned, disjoint, mine_own, found_has}
+use Rattle.pm_world.proofs.Looks.{unpictured}
+use Rattle.pm_world.proofs.Values.{val_from}
+
+module _ (o : Opening) (mem : Memory) (views : Views) (g : Past) (x : World o mem views g) (k : ℕ) (ink : k < o.lanes) (early : is_early (views k).log.phase ≡ true) where
+  fit : (j : ℕ) → SightFits o.shape (cells_of o.shape mem) (settled_words o g) (Flies (ghost_of g) j) (ghost_of g) j (sight_of (views j))
+  fit j = x.bits.each_lane j
+
+  shape_is : (views k).fixed.shape ≡ o.shape
+  shape_is = (x.each_lane k ink).shape
+
+  module _ (c n : ℕ) (inside : c < chunks_of o.shape) (word : n ≡ mem (PoolWord (word_of_descriptor o.shape c))) where
+    abbrev now : Block → Bool
+    now = shown_by_descriptor (views k).fixed.shape (views k).claims c n
+
+    shown_big : (f : ℕ) → now (Big f) ≡ true → (f ≡ c) × (is_huge n ≡ true) × (holds (views k).claims (line_of_chunk (views k).fixed.shape f) ≡ true)
+    shown_big f e = let h = holds (views k).claims (line_of_chunk (views k).fixed.shape f) in let y = and_parts (f == c) (is_huge n && h) e in let z = and_parts (is_huge n) h y.1 in (eqb-true f c y.0, z.0, z.1)
+
+    no_run_word : is_huge n ≡ true → is_run n ≡ false
+    no_run_word e = let z = eqb-true (n % 256) 2 e in ne_eqb (n % 256) 1 (λ q. absurd (omega arith))
+
+    small_word : n < 2 ^ 64
+    small_word = subst (λ m. m < 2 ^ 64) (sym word) (x.small (word_of_descriptor o.shape c))
+
+    -- what memory tells of the chunk
+    pub told_run : (cells_of o.shape mem).descr c ≡ run_told n
+    told_run = cond-true (is_place o.shape (Descr c)) (run_told (mem (PoolWord (word_of_descriptor o.shape c)))) 0 (lt-ltb c (chunks_of o.shape) inside) ∙ ap run_told (sym word)
+
+    pub told_huge : is_huge n ≡ true → (b : ℕ) → read (cells_of o.shape mem).pool (Descr c) b ≡ bit n b
+    told_huge e b = ap (λ q. q && huge_told (mem (PoolWord (word_of_descriptor o.shape c))) b) (lt-ltb c (chunks_of o.shape) inside) ∙ (ap (λ m. huge_told m b) (sym word) ∙ ap (λ q. not q && bit n b) (no_run_word e))
+
+    pub told_span : is_huge n ≡ true → val (read (cells_of o.shape mem).pool (Descr c)) 8 56 ≡ n / 256
+    told_span e = ap (λ w. val w 8 56) (λ i b. told_huge e b i) ∙ (val_from n 8 56 ∙ (let s = small_word in omega arith))
+
+    second_bit : is_huge n ≡ true → bit n 1 ≡ true
+    second_bit e = let z = eqb-true (n % 256) 2 e in eq-eqb (bit_at n 1) 1 (omega arith)
+
+    shown_held : (f : ℕ) → now (Big f) ≡ true → ((locked (views k).claims (header o.shape g.geo (Big f)) || reads (views k).claims (header o.shape g.geo (Big f))) ≡ true) × (read (cells_of o.shape mem).pool (Descr f) 1 ≡ true)
+    shown_held f e = let y = shown_big f e in (ap (λ s. holds (views k).claims (line_of_chunk s f)) (sym shape_is) ∙ y.2, subst (λ a. read (cells_of o.shape mem).pool (Descr a) 1 ≡ true) (sym y.0) (told_huge y.1 1 ∙ second_bit y.1))
+
+    -- the block is allocated, and its chunks are those that the word tells
+    pub shown_allocated : (f : ℕ) → now (Big f) ≡ true → there (settled_words o g) (Big f) ≡ true
+    shown_allocated f e = let y = shown_held f e in shown_there o.shape o.lanes (origin o) (cells_of o.shape mem) (λ j. sight_of (views j)) (ghost_of g) x.bits k ink early (unpictured o mem views g x k ink early) (Big f) y.0 y.1
+
+    pub shown_span : (f : ℕ) → now (Big f) ≡ true → (d : ℕ) → (g.geo.first d == f) ≡ in_span f (n / 256) d
+    shown_span f e d = let y = shown_big f e in span_told o.shape o.lanes (origin o) (cells_of o.shape mem) (λ j. sight_of (views j)) (ghost_of g) x.bits k ink early (unpictured o mem views g x k ink early) f (shown_held f e).0 (shown_allocated f e) d
+        ∙ ap (λ m. in_span f m d) (ap (λ a. val (read (cells_of o.shape mem).pool (Descr a)) 8 56) y.0 ∙ told_span y.1)
+
+    -- the class that the lane knows of a chunk is as before, or what memory tells
+    pub class_after : (d : ℕ) → (class (SawDescriptor c n ∷ (views k).claims) d ≡ class (views k).claims d) ⊎ (class (SawDescriptor c n ∷ (views k).claims) d ≡ (cells_of o.shape mem).descr d)
+    class_after d = ⊎_elim (λ (e : ((c == d) && is_run n) ≡ true). let y = and_parts (c == d) (is_run n) e in inr (cond-true ((c == d) && is_run n) (n / 256) (class (views k).claims d) e ∙ (sym (cond-true (is_run n) (n / 256) 0 y.1) ∙ (sym told_run ∙ ap (cells_of o.shape mem).descr (eqb-true c d y.0)))))
+        (λ (e : ((c == d) && is_run n) ≡ false). inl (cond-false ((c == d) && is_run n) (n / 256) (class (views k).claims d) e)) (cases_Bool ((c == d) && is_run n))
+
+    knew : (d m : ℕ) → class (SawDescriptor c n ∷ (views k).claims) d ≡ suc m → (cells_of o.shape mem).descr d ≡ suc m
+    knew d m e = ⊎_elim (λ (q : class (SawDescriptor c n ∷ (views k).claims) d ≡ class (views k).claims d). (fit k).hold.seen d m (sym q ∙ e)) (λ (q : class (SawDescriptor c n ∷ (views k).claims) d ≡ (cells_of o.shape mem).descr d). sym q ∙ e) (class_after d)
+
+    -- chunks of the block are no runs
+    pub no_class : (d : ℕ) → now (Big (g.geo.first d)) ≡ true → class (SawDescriptor c n ∷ (views k).claims) d ≡ 0
+    no_class d e = by_class (class (SawDescriptor c n ∷ (views k).claims) d) refl
+      where
+        th : there (settled_words o g) (Big (g.geo.first d)) ≡ true
+        th = shown_allocated (g.geo.first d) e
+
+        none_makes : (j : ℕ) → (sight_of (views j)).hold.making d ≡ false
+        none_makes j = false_from_ne_true ((sight_of (views j)).hold.making d) (λ q. let y = maker_owns o.shape (cells_of o.shape mem) (settled_words o g) (Flies (ghost_of g) j) (ghost_of g) x.bits.geo j (sight_of (views j)) (fit j) d q in
+            both_ways (there (settled_words o g) (Big d)) ((fit j).hold.mine (Big d) ((fit j).hold.making d q).0).2 (subst (λ a. there (settled_words o g) (Big a) ≡ true) y.1 th))
+
+        by_class : (m : ℕ) → class (SawDescriptor c n ∷ (views k).claims) d ≡ m → class (SawDescriptor c n ∷ (views k).claims) d ≡ 0
+        by_class zero q = q
+        by_class (suc m) q = let z = knew d m q in let r : (cells_of o.shape mem).descr d ≡ 0 = x.bits.descr d none_makes ∙ ap (λ b. cond b (g.geo.class d) 0) (x.bits.geo.huge d th) in absurd (omega arith)
+
+    -- a word that was soiled as a huge block's is none of a run
+    soiled_huge : (d a b m : ℕ) → (sight_of (views k)).soiled (InHuge d a) b ≡ true → (cells_of o.shape mem).descr d ≡ suc m → ⊥
+    soiled_huge d a b m s e = let w = soiled_owned o.shape (cells_of o.shape mem) (settled_words o g) (Flies (ghost_of g) k) (ghost_of g) x.bits.geo k (sight_of (views k)) (fit k) (InHuge d a) b s in
+        let r = no_run o.shape (cells_of o.shape mem) (settled_words o g) (Flies (ghost_of g) k) (ghost_of g) x.bits.geo k (sight_of (views k)) (fit k) d w in
+        ⊎_elim (λ (y : (j : ℕ) × ((sight_of (views j)).hold.making d ≡ true)). ⊎_elim (λ (q : y.0 ≡ k). both_ways ((sight_of (views k)).hold.making d) ((fit k).soiled (InHuge d a) b s).1 (subst (λ i. (sight_of (views i)).hold.making d ≡ true) q y.1))
+        (λ (ne : y.0 ≢ k). let z = maker_owns o.shape (cells_of o.shape mem) (settled_words o g) (Flies (ghost_of g) y.0) (ghost_of g) x.bits.geo y.0 (sight_of (views y.0)) (fit y.0) d y.1 in
+        both_ways (own (sight_of (views k)).hold (Big d)) (disjoint o.shape (cells_of o.shape mem) (settled_words o g) (Flies (ghost_of g) y.0) (Flies (ghost_of g) k) (ghost_of g) x.bits.geo x.bits.alone y.0 k (sight_of (views y.0)) (sight_of (views k)) (fit y.0) (fit k) ne (Big d) z.0)
+        (subst (λ i. own (sight_of (views k)).hold (Big i) ≡ true) z.1 w)) (cases_eq y.0 k))
+        (λ (y : (j : ℕ) → (sight_of (views j)).hold.making d ≡ false). let z : (cells_of o.shape mem).descr d ≡ 0 = x.bits.descr d y ∙ ap (λ q. cond q (g.geo.class d) 0) r in absurd (omega arith))
+        (maker_of o.shape o.lanes (origin o) (cells_of o.shape mem) (λ j. sight_of (views j)) (ghost_of g) x.bits k ink early (unpictured o mem views g x k ink early) d)
+
+    -- ---- the first chunk of the block that a chunk is in, as the lane knows it then
+    abbrev first' : ℕ → ℕ
+    first' = first (views k).fixed.shape (SawDescriptor c n ∷ (views k).claims)
+
+    abbrev span' : ℕ → ℕ
+    span' = span (views k).fixed.shape (SawDescriptor c n ∷ (views k).claims)
+
+    abbrev found_now : ℕ → Bool
+    found_now f = found (views k).fixed.shape (views k).claims (Big f)
+
+    span_new : (f : ℕ) → now (Big f) ≡ true → found_now f ≡ false → span' f ≡ n / 256
+    span_new f e u = cond-true (now (Big f) && not (found_now f)) (n / 256) (span (views k).fixed.shape (views k).claims f) (and_from (now (Big f)) (not (found_now f)) e (ap not u))
+
+    span_old : (f : ℕ) → (now (Big f) ≡ false) ⊎ (found_now f ≡ true) → span' f ≡ span (views k).fixed.shape (views k).claims f
+    span_old f u = cond-false (now (Big f) && not (found_now f)) (n / 256) (span (views k).fixed.shape (views k).claims f) (⊎_elim (λ (e : now (Big f) ≡ false). ap (λ q. q && not (found_now f)) e)
+        (λ (e : found_now f ≡ true). Rattle.std.proofs.lemmas.Bool.and_right (now (Big f)) (not (found_now f)) (ap not e)) u)
+
+    -- the span that the lane then knows of a block that it has, or that is shown, is so
+    span_so : (f d : ℕ) → (now (Big f) ≡ true) ⊎ (has (sight_of (views k)).hold (Big f) ≡ true) → (g.geo.first d == f) ≡ in_span f (span' f) d
+    span_so f d u = ⊎_elim (λ (q : found_now f ≡ true). (fit k).hold.span f (found_has (sight_of (views k)).hold (Big f) q) d ∙ ap (λ m. in_span f m d) (sym (span_old f (inr q))))
+        (λ (q : found_now f ≡ false). ⊎_elim (λ (e : now (Big f) ≡ true). shown_span f e d ∙ ap (λ m. in_span f m d) (sym (span_new f e q)))
+        (λ (e : now (Big f) ≡ false). (fit k).hold.span f (⊎_elim (λ (z : now (Big f) ≡ true). absurd (both_ways (now (Big f)) e z)) (λ (z : has (sight_of (views k)).hold (Big f) ≡ true). z) u) d ∙ ap (λ m. in_span f m d) (sym (span_old f (inl e)))) (cases_Bool (now (Big f)))) (cases_Bool (found_now f))
+
+    within_cases : (s : ℕ → ℕ) (l d : ℕ) → (in_span (cond (in_span l (s l) d) l d) (s (cond (in_span l (s l) d) l d)) d ≡ true) ⊎ (cond (in_span l (s l) d) l d ≡ d)
+    within_cases s l d = ⊎_elim (λ (q : in_span l (s l) d ≡ true). inl (subst (λ a. in_span a (s a) d ≡ true) (sym (cond-true (in_span l (s l) d) l d q)) q)) (λ (q : in_span l (s l) d ≡ false). inr (cond-false (in_span l (s l) d) l d q)) (cases_Bool (in_span l (s l) d))
+
+    -- a block of the lane's, or shown, that it takes a chunk to be in has the chunk
+    first_back : (d : ℕ) → ((now (Big (first' d)) ≡ true) ⊎ (has (sight_of (views k)).hold (Big (first' d)) ≡ true)) → g.geo.first (first' d) ≡ first' d → g.geo.first d ≡ first' d
+    first_back d u head = ⊎_elim (λ (q : in_span (first' d) (span' (first' d)) d ≡ true). eqb-true (g.geo.first d) (first' d) (span_so (first' d) d u ∙ q)) (λ (q : first' d ≡ d). ap g.geo.first (sym q) ∙ head) (within_cases span' (last_first (views k).fixed.shape (SawDescriptor c n ∷ (views k).claims) d) d)
+
+    old_back : (d : ℕ) → has (sight_of (views k)).hold (Big ((sight_of (views k)).hold.first d)) ≡ true → g.geo.first ((sight_of (views k)).hold.first d) ≡ (sight_of (views k)).hold.first d → g.geo.first d ≡ (sight_of (views k)).hold.first d
+    old_back d u head = ⊎_elim (λ (q : in_span ((sight_of (views k)).hold.first d) ((sight_of (views k)).hold.span ((sight_of (views k)).hold.first d)) d ≡ true). eqb-true (g.geo.first d) ((sight_of (views k)).hold.first d) ((fit k).hold.span ((sight_of (views k)).hold.first d) u d ∙ q))
+        (λ (q : (sight_of (views k)).hold.first d ≡ d). ap g.geo.first (sym q) ∙ head) (within_cases (sight_of (views k)).hold.span (last_first (views k).fixed.shape (views k).claims d) d)
+
+    first_in : (d : ℕ) → now (Big (g.geo.first d)) ≡ true → first' d ≡ g.geo.first d
+    first_in d e = let f = g.geo.first d in let y = shown_big f e in let l = last_first (views k).fixed.shape (views k).claims d in
+        let q : (now (Big c) && in_span c (n / 256) d) ≡ true = subst (λ a. (now (Big a) && in_span a (n / 256) d) ≡ true) y.0 (and_from (now (Big f)) (in_span f (n / 256) d) e (sym (shown_span f e d) ∙ eq-eqb f f refl)) in
+        let is : last_first (views k).fixed.shape (SawDescriptor c n ∷ (views k).claims) d ≡ f = cond-true (now (Big c) && in_span c (n / 256) d) c l q ∙ sym y.0 in
+        ap (λ a. cond (in_span a (span' a) d) a d) is ∙ cond-true (in_span f (span' f) d) f d (sym (span_so f d (inl e)) ∙ eq-eqb f f refl)
+
+    first_old : (d : ℕ) → now (Big (g.geo.first d)) ≡ false → has (sight_of (views k)).hold (Big (g.geo.first d)) ≡ true → first' d ≡ g.geo.first d
+    first_old d u h = let f = g.geo.first d in let l = last_first (views k).fixed.shape (views k).claims d in let s = span (views k).fixed.shape (views k).claims in
+        let none_ : (now (Big c) && in_span c (n / 256) d) ≡ false = false_from_ne_true (now (Big c) && in_span c (n / 256) d) (λ q. let y = and_parts (now (Big c)) (in_span c (n / 256) d) q in both_ways (now (Big f)) u (ap (λ a. now (Big a)) (eqb-true f c (shown_span c y.0 d ∙ y.1)) ∙ y.0)) in
+        let is : last_first (views k).fixed.shape (SawDescriptor c n ∷ (views k).claims) d ≡ l = cond-false (now (Big c) && in_span c (n / 256) d) c l none_ in
+        let was : cond (in_span l (s l) d) l d ≡ f = (fit k).hold.first d h in
+        ap (λ a. cond (in_span a (span' a) d) a d) is ∙ ⊎_elim (λ (q : now (Big l) ≡ true). let ne : f ≢ l = λ z. both_ways (now (Big f)) u (ap (λ a. now (Big a)) z ∙ q) in
+        cond-false (in_span l (span' l) d) l d (sym (span_so l d (inl q)) ∙ ne_eqb f l ne)
+        ∙ ⊎_elim (λ (z : in_span l (s l) d ≡ true). absurd (ne (sym was ∙ cond-true (in_span l (s l) d) l d z))) (λ (z : in_span l (s l) d ≡ false). sym (cond-false (in_span l (s l) d) l d z) ∙ was) (cases_Bool (in_span l (s l) d)))
+        (λ (q : now (Big l) ≡ false). ap (λ m. cond (in_span l m d) l d) (span_old l (inl q)) ∙ was) (cases_Bool (now (Big l)))
