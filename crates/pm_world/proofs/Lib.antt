@@ -30,8 +30,6 @@ pub mod Looks
 pub mod Descriptors
 pub mod StepZones
 pub mod StepNumber
-pub mod Values
-pub mod Births
 pub mod Occupies
 pub mod Vacates
 pub mod Runs

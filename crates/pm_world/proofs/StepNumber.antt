@@ -54,9 +54,9 @@ area_begins count generation SealPart c e = absurd e
 area_begins count generation EntryPart c e = tt
 area_begins count generation SlotPart c e = tt
 area_begins count generation RootPart c e = tt
-area_begins count generation (DescriptorPart d) c e = tt
+area_begins count generation (DescriptorPart d) c e = absurd e
 area_begins count generation (ChunkPart d i) c e = tt
-area_begins count generation OtherPart c e = tt
+area_begins count generation OtherPart c e = absurd e
 
 module _ (o : Opening) (mem new : Memory) (views views' : Views) (g : Past) (x : World o mem views g) (k : ℕ) (ink : k < o.lanes) (same : IsSame mem new) (n : ℕ) (counted : n ≡ mem CommitCounter) (v : View) (t : Turn views views' k v) where
   -- numbers do not run out
@@ -130,13 +130,14 @@ module _ (o : Opening) (mem new : Memory) (views views' : Views) (g : Past) (x :
           pair_part = q.pair_part;
           records = q.records;
           once = q.once;
-          olds = λ u p y e. q.olds (ap Rattle.pm_world.specs.Lanes.is_decided idle_) p y e;
+          olds = λ p y e b. let z = q.olds p y e b in (z.0, λ _. z.1 (ap Rattle.pm_world.specs.Lanes.is_decided idle_));
           slot_part = q.slot_part;
           stale = q.stale;
           area_changes = λ i d l. let c = Rattle.std.proofs.Common.get_or (views k).changes i d in area_begins (length (views k).log.entries) (views k).log.generation (part_of o.shape k c.word) c
               (subst (λ ph. AreaChange ph (length (views k).log.entries) (views k).log.generation (part_of o.shape k c.word) c) idle_ (q.area_changes i d l));
           phase = (let e = ap length idle_log.2 in omega arith, let e = ap length idle_log.3 in omega arith);
         };
+        made = λ u. absurd (both_ways false refl u);
         number = refl;
         zones = f.zones;
         masks = f.masks;
