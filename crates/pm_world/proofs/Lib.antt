@@ -17,4 +17,6 @@ pub mod Runs
 pub mod Stores
 pub mod WordPlaces
 pub mod OccWorlds
+pub mod RowBits
 pub mod StepOccupies
+pub mod StepChunks
