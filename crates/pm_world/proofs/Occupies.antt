@@ -362,7 +362,7 @@ module _ (sh : Shape) (L : ℕ) (o : State) (cells : Cells) (sights : ℕ → Si
   less_small c i = ap (λ t. (t || hk.mine (Small c i)) || (hk.here (Small c i) || hk.making c)) (no_small c i)
 
   -- of what the lane owned the blocks stay
-  blocks_stay : (p : Place) (b : ℕ) → owns g.geo (settled o g) (sights k).hold p b ≡ true → block_of (claimed g.geo f₀ n) p b ≡ block_of g.geo p b
+  pub blocks_stay : (p : Place) (b : ℕ) → owns g.geo (settled o g) (sights k).hold p b ≡ true → block_of (claimed g.geo f₀ n) p b ≡ block_of g.geo p b
   blocks_stay (InRun c w) b t = refl
   blocks_stay (InHuge c w) b t = ⊎_elim (λ (e : first' c ≡ g.geo.first c). ap (λ a. Big a) e) (λ (z : Nothing (g.geo.first c) × Nothing (first' c)). absurd (owned_some (g.geo.first c) t z.0)) (moves c)
   blocks_stay (Descr c) b t = ⊎_elim (λ (e : first' c ≡ g.geo.first c). ap (λ a. Big a) e) (λ (z : Nothing (g.geo.first c) × Nothing (first' c)). absurd (owned_some (g.geo.first c) t z.0)) (moves c)

@@ -30,8 +30,8 @@ use Rattle.pm_world.proofs.Frame.{Around, fresh_given, own_has, small_cases, mak
 use Rattle.pm_world.proofs.Going.{Turned}
 use Rattle.pm_world.proofs.Replays.{put1_here, put1_else}
 use Rattle.pm_world.proofs.Worlds.{turned}
-use Rattle.pm_world.proofs.Occupies.{with_claim, ghost_with_claim, first', chunks_of_new, none_in, none_f, free_chunk, owns_more, PicturedClaim, occupies_chunks}
-use Rattle.pm_world.proofs.OccWorlds.{early_undecided, OwesOcc, occ_world}
+use Rattle.pm_world.proofs.Occupies.{with_claim, ghost_with_claim, first', chunks_of_new, none_in, none_f, free_chunk, blocks_stay, owns_more, PicturedClaim, occupies_chunks}
+use Rattle.pm_world.proofs.OccWorlds.{data_owned, early_undecided, OwesOcc, occ_world}
 use Rattle.pm_world.proofs.WordPlaces.{chunk_part, no_part, or_bit, clear_bit}
 use Rattle.pm_world.proofs.RowBits.{lowest_row, ones_row, row_bit, zone_row}
 use Rattle.pm_world.proofs.StepOccupies.{less_known, none_known, same_known, known_less, none_some, occ_known, if_some}
@@ -240,6 +240,7 @@ module _ (o : Opening) (mem new : Memory) (views views' : Views) (g : Past) (x :
       (λ B. cond (is_block_of (views k).fixed.shape (Zone zone) bits B) (suc (views k).fixed.lane) (g.holder B)) record {
         early = law.allowed.early;
         olds = λ p b q a. subst (λ z. owns (claimed g.geo f₀ n) S z.hold p b ≡ true) (sym sight_is) (owns_more o.shape o.lanes (origin o) cells sights (ghost_of g) x.bits k ink f₀ n some_ got got_is found p b a);
+        recorded = λ p b q y z. (subst (λ B. (sights k).hold.here B ≡ true) (sym (blocks_stay o.shape o.lanes (origin o) cells sights (ghost_of g) x.bits k ink f₀ n some_ got got_is found p b (data_owned (sights k).hold g.geo S p b q y))) y, ap given (pic.else_ p b (data_owned (sights k).hold g.geo S p b q y)) ∙ z);
         words = λ w z e. known_less (is_new_by (views k).fixed.shape (views k).claims (Zone zone) bits w) (pictured (views k).fixed.shape (views k).claims w) z e;
         occs = λ one other z e. occ_known (Zone zone) (λ m. bit_or m bits) mem new refl moves.0 (views k).occupancy (fl.alone one).occupancy other z e;
         draws = refl;

@@ -32,7 +32,7 @@ use Rattle.pm_world.proofs.Going.{Turned}
 use Rattle.pm_world.proofs.Replays.{put1_here, put1_else}
 use Rattle.pm_world.proofs.Worlds.{turned}
 use Rattle.pm_world.proofs.Occupies.{with_mine, more_owned, free_block, nobody, class_known, Pictured, occupies_small}
-use Rattle.pm_world.proofs.OccWorlds.{early_undecided, OwesOcc, occ_world}
+use Rattle.pm_world.proofs.OccWorlds.{data_owned, early_undecided, OwesOcc, occ_world}
 use Rattle.pm_world.proofs.WordPlaces.{chunk_part, no_part, run_chunk_is, page_apart, pow_bit, or_bit, clear_bit}
 use Rattle.pm_world.proofs.StepPlain.{plain_step, lane_told}
 
@@ -57,7 +57,7 @@ if_some (Some x) P u = u x refl
 -- a look at an occupancy word is of its value
 pub occupied : (at : Occ) (found : ℕ) → Keeps (Occupied at found)
 occupied at found o mem new views views' g k x ink law moves t = let f = x.each_lane k ink in let v = after (views k) (Occupied at found) in
-    (plain_step o mem new views views' g x k ink moves.0 v t refl refl (λ e. e) record { lane = f.lane; shape = f.shape; lanes = f.lanes; log = f.log; number = f.number; zones = f.zones; masks = f.masks; room = f.room; within = f.within; alone = λ one. record { words = (f.alone one).words; occupancy = λ other y e. seen (f.alone one).occupancy other y e }; entries = f.entries },
+    (plain_step o mem new views views' g x k ink moves.0 v t refl refl (λ e. e) record { lane = f.lane; shape = f.shape; lanes = f.lanes; log = f.log; recorded = f.recorded; number = f.number; zones = f.zones; masks = f.masks; room = f.room; within = f.within; alone = λ one. record { words = (f.alone one).words; occupancy = λ other y e. seen (f.alone one).occupancy other y e }; entries = f.entries },
     λ one. if_some (occupancy_of (views k).occupancy at) (λ y. found ≡ y) (λ y e. moves.1 ∙ ((f.alone (sym f.lanes ∙ eqb-true (views k).fixed.lanes 1 one)).occupancy at y e).0))
   where
     seen : ((other : Occ) (y : ℕ) → occupancy_of (views k).occupancy other ≡ Some y → (mem (occ_at other) ≡ y) × (is_at_page other ≡ true)) → (other : Occ) (y : ℕ) → cond (is_same_occ at other) (Some found) (occupancy_of (views k).occupancy other) ≡ Some y → (mem (occ_at other) ≡ y) × (is_at_page other ≡ true)
@@ -294,6 +294,7 @@ module _ (o : Opening) (mem new : Memory) (views views' : Views) (g : Past) (x :
       (λ B. cond (is_block_of (views k).fixed.shape (Run place) bits B) (suc (views k).fixed.lane) (g.holder B)) record {
         early = law.allowed.early;
         olds = λ p b q a. more_owned g.geo S (sights k).hold got refl p b a;
+        recorded = λ p b q y z. (y, ap given (pic.else_ p b (data_owned (sights k).hold g.geo S p b q y)) ∙ z);
         words = λ w z e. known_less (is_new_by (views k).fixed.shape (views k).claims (Run place) bits w) (pictured (views k).fixed.shape (views k).claims w) z e;
         occs = λ one other z e. occ_known (Run place) (λ n. bit_or n bits) mem new (at_page (views k) (Run place) law.allowed.there) moves.0 (views k).occupancy (fl.alone one).occupancy other z e;
         draws = refl;

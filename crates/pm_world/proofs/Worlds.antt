@@ -7,15 +7,16 @@ use Rattle.pm_view.specs.Limits.{greatest_generation}
 use Rattle.pm_record.specs.Undo.{undo_of}
 use Rattle.pm_view.specs.Counts.{IsAtStop}
 use Rattle.pm_view.specs.Log.{Idle}
+use Rattle.pm_view.specs.Places.{block_of}
 use Rattle.pm_view.specs.View.{View}
 use Rattle.pm_world.specs.States.{State, Cells}
 use Rattle.pm_world.specs.Sights.{Hold, Sight, sight_of}
-use Rattle.pm_world.specs.Lanes.{Ghost, settled, owns, Flies, SightFits, Bits}
+use Rattle.pm_world.specs.Lanes.{Ghost, settled, has, owns, Flies, SightFits, Bits}
 use Rattle.pm_world.specs.Logs.{LogFits}
 use Rattle.pm_world.specs.Memory.{Memory, PoolWord, ZoneLock, CommitCounter, StopWord, cells_of}
 use Rattle.pm_world.specs.World.{Opening, Views, Past, origin, ghost_of, settled_words, numbered_by, LaneFits, may_draw_count, is_header, World}
 use Rattle.pm_world.specs.Laws.{Turn}
-use Rattle.pm_world.proofs.Frame.{Around, owned_kept, bit_away, owns_apart}
+use Rattle.pm_world.proofs.Frame.{Around, found_has, block_kept, owned_kept, bit_away, owns_apart}
 use Rattle.pm_world.proofs.Going.{Turned}
 
 -- what the step leaves of the other lanes' areas, zone locks and entries
@@ -60,6 +61,7 @@ module _ (o : Opening) (mem : Memory) (views : Views) (g : Past) (x : World o me
       area_changes = l.area_changes;
       phase = l.phase;
     };
+    recorded = λ u p q. let y = f.recorded u p q in (y.0, λ b. let z = y.1 b in (subst (λ B. (sight_of (views j)).hold.here B ≡ true) (sym (block p b (found_has (sight_of (views j)).hold (block_of g.geo p b) ((fit j).hold.here (block_of g.geo p b) z.0).1))) z.0, z.1));
     number = f.number;
     zones = λ z. a.zone z j ne ∙ f.zones z;
     masks = f.masks;
@@ -74,6 +76,9 @@ module _ (o : Opening) (mem : Memory) (views : Views) (g : Past) (x : World o me
 
       owned : (p : Rattle.pm_view.specs.Places.Place) (b : ℕ) → owns g.geo (settled_words o g) (sight_of (views j)).hold p b ≡ true → owns g'.geo S' (sight_of (views j)).hold p b ≡ true
       owned = owned_kept o.shape k (sight_of (views k)) (λ i. (sight_of (views i)).hold) (cells_of o.shape mem) (cells_of o.shape new) (settled_words o g) S' (ghost_of g) (ghost_of g') x.bits.geo x.bits.alone (fit k) m j ne (sight_of (views j)) refl (fit j)
+
+      block : (p : Rattle.pm_view.specs.Places.Place) (b : ℕ) → has (sight_of (views j)).hold (block_of g.geo p b) ≡ true → block_of g'.geo p b ≡ block_of g.geo p b
+      block = block_kept o.shape k (sight_of (views k)) (λ i. (sight_of (views i)).hold) (cells_of o.shape mem) (cells_of o.shape new) (settled_words o g) S' (ghost_of g) (ghost_of g') x.bits.geo x.bits.alone (fit k) m j ne (sight_of (views j)) refl (fit j)
 
       away : (p : Rattle.pm_view.specs.Places.Place) (b : ℕ) → owns g.geo (settled_words o g) (sight_of (views j)).hold p b ≡ true → owns g.geo (settled_words o g) (sight_of (views k)).hold p b ≡ false
       away = bit_away o.shape k (sight_of (views k)) (λ i. (sight_of (views i)).hold) (cells_of o.shape mem) (cells_of o.shape new) (settled_words o g) S' (ghost_of g) (ghost_of g') x.bits.geo x.bits.alone (fit k) m j ne (sight_of (views j)) refl (fit j)

@@ -8,7 +8,7 @@ use Rattle.pm_layout.specs.Chunks.{words_of, word_of_descriptor, word_of_root}
 use Rattle.pm_view.specs.declared.occ.Occ.{Occ}
 use Rattle.pm_view.specs.declared.occ.Occ.TheVariants.{Run, Zone}
 use Rattle.pm_view.specs.Changes.{Undrained}
-use Rattle.pm_view.specs.Places.{Place, InRun, InHuge, Descr, RootWord, Block, Geometry}
+use Rattle.pm_view.specs.Places.{Place, InRun, InHuge, Descr, RootWord, Block, Geometry, block_of, is_data}
 use Rattle.pm_view.specs.Claims.{pictured, is_run}
 use Rattle.pm_view.specs.Counts.{max_changes, IsAtStop}
 use Rattle.pm_view.specs.Log.{Phase, Idle, Open, Drawn, Sealing, Applying, Clearing, Retiring, Voiding}
@@ -16,9 +16,9 @@ use Rattle.pm_view.specs.Steps.{Step}
 use Rattle.pm_view.specs.Steps.Step.{NumberSeen}
 use Rattle.pm_view.specs.View.{View, Numbered}
 use Rattle.pm_view.specs.Views.{occupancy_of}
-use Rattle.pm_world.specs.States.{State, Call}
-use Rattle.pm_world.specs.Sights.{call_in, sight_of}
-use Rattle.pm_world.specs.Lanes.{Ghost, owns, settled, Bits}
+use Rattle.pm_world.specs.States.{State, Call, given}
+use Rattle.pm_world.specs.Sights.{Sight, is_recorded, call_in, sight_of}
+use Rattle.pm_world.specs.Lanes.{Ghost, is_decided, owns, settled, Bits}
 use Rattle.pm_world.specs.Logs.{LogFits}
 use Rattle.pm_world.specs.Memory.{Memory, PoolWord, ZoneLock, CommitCounter, StopWord, occ_at, bits_of, cells_of}
 
@@ -82,6 +82,10 @@ pub record AloneFits (mem : Memory) (v : View) : Type 0 where
   pub words : (w x : ℕ) → pictured v.fixed.shape v.claims w ≡ Some x → mem (PoolWord w) ≡ x
   pub occupancy : (at : Occ) (x : ℕ) → occupancy_of v.occupancy at ≡ Some x → (mem (occ_at at) ≡ x) × (is_at_page at ≡ true)
 
+-- a record is of data of a block that the lane found under its write lock, and it knows the word
+abbrev pub RecordedFits : Geometry → Sight → Place → Type 0
+RecordedFits G x p = (is_data p ≡ true) × ((b : ℕ) → (x.hold.here (block_of G p b) ≡ true) × (given (x.picture p b) ≡ true))
+
 -- of a lane's view, beside what is said of its sight
 pub record LaneFits (o : Opening) (mem : Memory) (g : Past) (k : ℕ) (v : View) : Type 0 where
   pub lane : v.fixed.lane ≡ k
@@ -89,6 +93,7 @@ pub record LaneFits (o : Opening) (mem : Memory) (g : Past) (k : ℕ) (v : View)
   pub lanes : v.fixed.lanes ≡ o.lanes
   pub log : LogFits o.shape k ((cells_of o.shape mem).generation k) ((cells_of o.shape mem).seal k) ((cells_of o.shape mem).entry k) ((cells_of o.shape mem).slot k)
       (settled_words o g) (owns g.geo (settled_words o g) (sight_of v).hold) (sight_of v).picture v.log v.changes
+  pub recorded : is_decided v.log.phase ≡ false → (p : Place) → is_recorded v.log.records p ≡ true → RecordedFits g.geo (sight_of v) p
   pub number : NumberFits v.log.phase v.number
   pub zones : (z : ℕ) → (mem (ZoneLock z) == suc k) ≡ list_any (λ other. other == z) v.zones
   pub masks : All (λ (c : Undrained). (c.mask < 2 ^ 64) × (c.word < words_of o.shape)) v.changes
