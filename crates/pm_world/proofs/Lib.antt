@@ -20,3 +20,4 @@ pub mod OccWorlds
 pub mod RowBits
 pub mod StepOccupies
 pub mod StepChunks
+pub mod StepVacate

@@ -39,7 +39,7 @@ use Rattle.pm_world.proofs.StepPlain.{plain_step, lane_told}
 some_is : (a b : ℕ) → Some a ≡ Some b → a ≡ b
 some_is a b e = ap (λ z. unwrap_or z a) e
 
-at_page : (v : View) (at : Occ) → HasOcc v at → is_at_page at ≡ true
+pub at_page : (v : View) (at : Occ) → HasOcc v at → is_at_page at ≡ true
 at_page v (Run place) has = let e = has.2 in eq-eqb (place % 4096) 0 (omega arith)
 at_page v (Zone zone) has = refl
 
@@ -133,7 +133,7 @@ same_fresh true None None u w = refl
 same_fresh true None (Some y) u w = w refl
 same_fresh true (Some y) c u w = sym (u y refl)
 
-part_of_data : (cl w a b : ℕ) → 8 ≤ w → part cl w a ≡ part cl w b
+pub part_of_data : (cl w a b : ℕ) → 8 ≤ w → part cl w a ≡ part cl w b
 part_of_data cl w a b l = let z : eqb w 0 ≡ false = ne_eqb w 0 (λ e. omega arith) in cond-false (eqb w 0) a ((w / 8 - 1) / cl) z ∙ sym (cond-false (eqb w 0) b ((w / 8 - 1) / cl) z)
 
 module _ (o : Opening) (mem new : Memory) (views views' : Views) (g : Past) (x : World o mem views g) (k : ℕ) (ink : k < o.lanes) (place bits : ℕ) (law : IsLawful (views k) (Occupy (Run place) bits true)) (moves : Moves k (Occupy (Run place) bits true) mem new)
