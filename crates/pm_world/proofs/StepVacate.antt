@@ -158,3 +158,113 @@ module _ (o : Opening) (mem new : Memory) (views views' : Views) (g : Past) (x :
           }
           (subst (λ y. Around k (sights k).hold (λ j. (sights j).hold) cells y S S (ghost_of g) (record (ghost_of g) { holder = λ B. cond (is_among (views k).fixed.shape at bits B) 0 (g.holder B) })) (sym to) step.0)
           (subst (λ y. Bits o.shape o.lanes (origin o) y (λ j. sight_of (views' j)) (record (ghost_of g) { holder = λ B. cond (is_among (views k).fixed.shape at bits B) 0 (g.holder B) })) (sym to) step.1) t
+
+-- ---- BLOCKS OF A RUN
+module _ (o : Opening) (mem new : Memory) (views views' : Views) (g : Past) (x : World o mem views g) (k : ℕ) (ink : k < o.lanes) (place bits : ℕ) (law : IsLawful (views k) (Vacate (Run place) bits)) where
+  run_whole : Whole o mem new views views' g x k ink (Run place) bits law
+  run_whole = record { root = refl; own_ = own_run; whole = λ c. refl; unmade = λ c t. absurd (both_ways false refl t) }
+    where
+      own_run : (a : Block) → is_among (views k).fixed.shape (Run place) bits a ≡ true → (sight_of (views k)).hold.mine (atom g.geo a) ≡ true
+      own_run (Small d j) t = let y = and_parts (d == run_chunk (views k).fixed.shape place) (bit_at bits j == 1) t in subst (λ a. (sight_of (views k)).hold.mine (Small a j) ≡ true) (sym (eqb-true d (run_chunk (views k).fixed.shape place) y.0)) (law.allowed.whole j (eqb-true (bit_at bits j) 1 y.1))
+      own_run (Big d) t = absurd (both_ways false refl t)
+      own_run Root t = absurd (both_ways false refl t)
+
+  vacate_run : Moves k (Vacate (Run place) bits) mem new → Turn views views' k (after (views k) (Vacate (Run place) bits)) → World o new views' (past_after g (views k) (Vacate (Run place) bits))
+  vacate_run moves t = vacated_world o mem new views views' g x k ink (Run place) bits law run_whole moves t occ' (cells_run o.shape mem new (place / 4096) y moves) occs
+    where
+      y : ℕ
+      y = bit_and (mem (RunWord (place / 4096))) (bit_not w64 bits)
+
+      occ' : Block → Bool
+      occ' = occupancy_bit o.shape (put1 (λ p. mem (RunWord p)) (place / 4096) (bit_and (mem (RunWord (place / 4096))) (bit_not w64 bits))) (λ z. mem (ZoneWord z))
+
+      c : ℕ
+      c = law.allowed.there.0
+
+      chunk_is : run_chunk (views k).fixed.shape place ≡ law.allowed.there.0
+      chunk_is = run_chunk_is (views k).fixed.shape law.allowed.there.0 place law.allowed.there.2
+
+      page_is : place / 4096 ≡ page_of_chunk o.shape law.allowed.there.0
+      page_is = let e = law.allowed.there.2 in let q : place / 4096 ≡ page_of_chunk (views k).fixed.shape law.allowed.there.0 = omega arith in q ∙ ap (λ s. page_of_chunk s law.allowed.there.0) (x.each_lane k ink).shape
+
+      occs : (a : Block) → is_occupancy o.shape a ≡ true → occ' a ≡ (not (is_among (views k).fixed.shape (Run place) bits a) && (cells_of o.shape mem).occ a)
+      occs (Small d j) in_ = ⊎_elim
+          (λ (e : d ≡ law.allowed.there.0). let q : page_of_chunk o.shape d ≡ place / 4096 = ap (page_of_chunk o.shape) e ∙ sym page_is in
+          ap (λ p. bit (put1 (λ p. mem (RunWord p)) (place / 4096) y p) j) q ∙ (ap (λ n. bit n j) (put1_here (λ p. mem (RunWord p)) (place / 4096) y) ∙ (cleared_bit (mem (RunWord (place / 4096))) bits j law.allowed.small (ltb-true j 64 (and_parts (nat_lt d (chunks_of o.shape)) (nat_lt j 64) in_).1)
+          ∙ (ap (λ p. not (bit bits j) && bit (mem (RunWord p)) j) (sym q) ∙ ap (λ b. not b && bit (mem (RunWord (page_of_chunk o.shape d))) j) (sym (ap (λ b. b && bit bits j) (eq-eqb d (run_chunk (views k).fixed.shape place) (e ∙ sym chunk_is))))))))
+          (λ (ne : d ≢ law.allowed.there.0). ap (λ n. bit n j) (put1_else (λ p. mem (RunWord p)) (place / 4096) y (page_of_chunk o.shape d) (λ q. ne (page_apart o.shape d law.allowed.there.0 (q ∙ page_is))))
+          ∙ ap (λ b. not b && bit (mem (RunWord (page_of_chunk o.shape d))) j) (sym (and_left (d == run_chunk (views k).fixed.shape place) (bit_at bits j == 1) (ne_eqb d (run_chunk (views k).fixed.shape place) (λ q. ne (q ∙ chunk_is)))))) (cases_eq d law.allowed.there.0)
+      occs (Big d) in_ = refl
+      occs Root in_ = refl
+
+-- ---- HUGE BLOCKS OF A ZONE
+module _ (o : Opening) (mem new : Memory) (views views' : Views) (g : Past) (x : World o mem views g) (k : ℕ) (ink : k < o.lanes) (zone bits : ℕ) (law : IsLawful (views k) (Vacate (Zone zone) bits)) where
+  abbrev fz : SightFits o.shape (cells_of o.shape mem) (settled_words o g) (Flies (ghost_of g) k) (ghost_of g) k (sight_of (views k))
+  fz = x.bits.each_lane k
+
+  abbrev hz : Rattle.pm_world.specs.Sights.Hold
+  hz = (sight_of (views k)).hold
+
+  -- the block that a chunk is of, whose bit is given back
+  pub record Given (c : ℕ) : Type 0 where
+    pub head : ℕ
+    pub mine : (sight_of (views k)).hold.mine (Big (64 * zone + head)) ≡ true
+    pub unmade : (sight_of (views k)).hold.making (64 * zone + head) ≡ false
+    pub first : g.geo.first c ≡ 64 * zone + head
+    pub bit : bit_at bits head ≡ 1
+    pub low : head < 64
+
+  given_chunk : (c : ℕ) → is_among (views k).fixed.shape (Zone zone) bits (Big c) ≡ true → Given c
+  given_chunk c t = let y = and_parts (c / 64 == zone) (bit_at bits (c % 64) == 1) t in let z = eqb-true (c / 64) zone y.0 in let w = law.allowed.whole (c % 64) (eqb-true (bit_at bits (c % 64)) 1 y.1) in
+      let F : ℕ = 64 * zone + w.1.0 in let n = hz.span F in let from = w.1.3 in let to = w.1.4 in
+      let s : in_span F n c ≡ true = and_from (nat_le F c) (nat_lt c (F + n)) (le-leb F c (omega arith)) (lt-ltb c (F + n) (omega arith)) in
+      record { head = w.1.0; mine = w.1.1; unmade = w.1.2; first = eqb-true (g.geo.first c) F (fz.hold.span F (own_has hz (Big F) (mine_own hz (Big F) w.1.1)) c ∙ s); bit = w.1.5 w.1.0 (omega arith) (omega arith); low = omega arith }
+
+  zone_whole : Whole o mem new views views' g x k ink (Zone zone) bits law
+  zone_whole = record { root = refl; own_ = own_zone; whole = whole; unmade = unmade }
+    where
+      own_zone : (a : Block) → is_among (views k).fixed.shape (Zone zone) bits a ≡ true → hz.mine (atom g.geo a) ≡ true
+      own_zone (Small d j) t = absurd (both_ways false refl t)
+      own_zone (Big d) t = let y = given_chunk d t in subst (λ a. hz.mine (Big a) ≡ true) (sym y.first) y.mine
+      own_zone Root t = absurd (both_ways false refl t)
+
+      head_given : (head : ℕ) → head < 64 → bit_at bits head ≡ 1 → is_among (views k).fixed.shape (Zone zone) bits (Big (64 * zone + head)) ≡ true
+      head_given head low b = let q : (64 * zone + head) / 64 ≡ zone = omega arith in let r : (64 * zone + head) % 64 ≡ head = omega arith in and_from ((64 * zone + head) / 64 == zone) (bit_at bits ((64 * zone + head) % 64) == 1) (eq-eqb ((64 * zone + head) / 64) zone q) (eq-eqb (bit_at bits ((64 * zone + head) % 64)) 1 (ap (bit_at bits) r ∙ b))
+
+      back : (c : ℕ) → is_among (views k).fixed.shape (Zone zone) bits (Big (g.geo.first c)) ≡ true → is_among (views k).fixed.shape (Zone zone) bits (Big c) ≡ true
+      back c t = let p = and_parts (g.geo.first c / 64 == zone) (bit_at bits (g.geo.first c % 64) == 1) t in let z = eqb-true (g.geo.first c / 64) zone p.0 in let w = law.allowed.whole (g.geo.first c % 64) (eqb-true (bit_at bits (g.geo.first c % 64)) 1 p.1) in
+          let F : ℕ = 64 * zone + w.1.0 in let n = hz.span F in let from = w.1.3 in let to = w.1.4 in let has_F = own_has hz (Big F) (mine_own hz (Big F) w.1.1) in
+          let s : in_span F n (g.geo.first c) ≡ true = and_from (nat_le F (g.geo.first c)) (nat_lt (g.geo.first c) (F + n)) (le-leb F (g.geo.first c) (omega arith)) (lt-ltb (g.geo.first c) (F + n) (omega arith)) in
+          let e : g.geo.first c ≡ F = sym (x.bits.geo.twice c) ∙ eqb-true (g.geo.first (g.geo.first c)) F (fz.hold.span F has_F (g.geo.first c) ∙ s) in
+          let r = and_parts (nat_le F c) (nat_lt c (F + n)) (sym (fz.hold.span F has_F c) ∙ eq-eqb (g.geo.first c) F e) in
+          let a = leb-true F c r.0 in let b = ltb-true c (F + n) r.1 in let room = fz.hold.zone F has_F in let low = w.0 in
+          let q : c / 64 ≡ zone = omega arith in let m : bit_at bits (c % 64) ≡ 1 = w.1.5 (c % 64) (omega arith) (omega arith) in
+          and_from (c / 64 == zone) (bit_at bits (c % 64) == 1) (eq-eqb (c / 64) zone q) (eq-eqb (bit_at bits (c % 64)) 1 m)
+
+      whole : (c : ℕ) → is_among (views k).fixed.shape (Zone zone) bits (Big c) ≡ is_among (views k).fixed.shape (Zone zone) bits (Big (g.geo.first c))
+      whole c = ⊎_elim (λ (t : is_among (views k).fixed.shape (Zone zone) bits (Big c) ≡ true). let y = given_chunk c t in t ∙ sym (ap (λ a. is_among (views k).fixed.shape (Zone zone) bits (Big a)) y.first ∙ head_given y.head y.low y.bit))
+          (λ (u : is_among (views k).fixed.shape (Zone zone) bits (Big c) ≡ false). u ∙ sym (false_from_ne_true (is_among (views k).fixed.shape (Zone zone) bits (Big (g.geo.first c))) (λ t. both_ways (is_among (views k).fixed.shape (Zone zone) bits (Big c)) u (back c t)))) (cases_Bool (is_among (views k).fixed.shape (Zone zone) bits (Big c)))
+
+      unmade : (c : ℕ) → is_among (views k).fixed.shape (Zone zone) bits (Big c) ≡ true → hz.making c ≡ false
+      unmade c t = let y = given_chunk c t in false_from_ne_true (hz.making c) (λ m. let e = eqb-true (g.geo.first c) c (fz.hold.mine (Big c) (fz.hold.making c m).0).1 in both_ways (hz.making (64 * zone + y.head)) y.unmade (ap hz.making (sym y.first ∙ e) ∙ m))
+
+  vacate_zone : Moves k (Vacate (Zone zone) bits) mem new → Turn views views' k (after (views k) (Vacate (Zone zone) bits)) → World o new views' (past_after g (views k) (Vacate (Zone zone) bits))
+  vacate_zone moves t = vacated_world o mem new views views' g x k ink (Zone zone) bits law zone_whole moves t occ' (cells_zone o.shape mem new zone y moves) occs
+    where
+      y : ℕ
+      y = bit_and (mem (ZoneWord zone)) (bit_not w64 bits)
+
+      occ' : Block → Bool
+      occ' = occupancy_bit o.shape (λ p. mem (RunWord p)) (put1 (λ z. mem (ZoneWord z)) zone (bit_and (mem (ZoneWord zone)) (bit_not w64 bits)))
+
+      occs : (a : Block) → is_occupancy o.shape a ≡ true → occ' a ≡ (not (is_among (views k).fixed.shape (Zone zone) bits a) && (cells_of o.shape mem).occ a)
+      occs (Small d j) in_ = refl
+      occs (Big c) in_ = let low : c % 64 < 64 = omega arith in ⊎_elim
+          (λ (e : c / 64 ≡ zone). ap (λ z. bit (put1 (λ z. mem (ZoneWord z)) zone y z) (c % 64)) e ∙ (ap (λ w. bit w (c % 64)) (put1_here (λ z. mem (ZoneWord z)) zone y) ∙ (cleared_bit (mem (ZoneWord zone)) bits (c % 64) law.allowed.small low
+          ∙ (ap (λ z. not (bit bits (c % 64)) && bit (mem (ZoneWord z)) (c % 64)) (sym e) ∙ ap (λ b. not b && bit (mem (ZoneWord (c / 64))) (c % 64)) (sym (ap (λ b. b && bit bits (c % 64)) (eq-eqb (c / 64) zone e)))))))
+          (λ (ne : c / 64 ≢ zone). ap (λ w. bit w (c % 64)) (put1_else (λ z. mem (ZoneWord z)) zone y (c / 64) ne) ∙ ap (λ b. not b && bit (mem (ZoneWord (c / 64))) (c % 64)) (sym (and_left (c / 64 == zone) (bit_at bits (c % 64) == 1) (ne_eqb (c / 64) zone ne)))) (cases_eq (c / 64) zone)
+      occs Root in_ = refl
+
+pub vacate_keeps : (at : Occ) (bits : ℕ) → Keeps (Vacate at bits)
+vacate_keeps (Run place) bits o mem new views views' g k x ink law moves t = (vacate_run o mem new views views' g x k ink place bits law moves t, tt)
+vacate_keeps (Zone zone) bits o mem new views views' g k x ink law moves t = (vacate_zone o mem new views views' g x k ink zone bits law moves t, tt)
