@@ -21,3 +21,4 @@ pub mod RowBits
 pub mod StepOccupies
 pub mod StepChunks
 pub mod StepVacate
+pub mod StepDrops

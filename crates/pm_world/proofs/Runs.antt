@@ -170,7 +170,7 @@ module _ (sh : Shape) (L : ℕ) (o : State) (cells : Cells) (sights : ℕ → Si
   less_owned RootWord b t = t
 
   -- a bit that it no longer owns is of a chunk that becomes a run
-  dropped : (p : Place) (b : ℕ) → owns g.geo (settled o g) (sights k).hold p b ≡ true → (is_in_making (sights k).hold p ≡ false) → owns g.geo (settled o g) (with_runs (sights k).hold dirty) p b ≡ true
+  pub dropped : (p : Place) (b : ℕ) → owns g.geo (settled o g) (sights k).hold p b ≡ true → (is_in_making (sights k).hold p ≡ false) → owns g.geo (settled o g) (with_runs (sights k).hold dirty) p b ≡ true
   dropped (InRun c w) b t e = small_kept c (part (g.geo.class c) w b) (unmade c e) t
   dropped (InHuge c w) b t e = big_kept (g.geo.first c) (false_from_ne_true (becoming h dirty (g.geo.first c)) (λ y. let m = becomes_made (g.geo.first c) y in both_ways (h.making c) e (ap h.making (alone_in (g.geo.first c) c m refl) ∙ m))) t
   dropped (Descr c) b t e = big_kept (g.geo.first c) (false_from_ne_true (becoming h dirty (g.geo.first c)) (λ y. let m = becomes_made (g.geo.first c) y in both_ways (h.making c) e (ap h.making (alone_in (g.geo.first c) c m refl) ∙ m))) t
