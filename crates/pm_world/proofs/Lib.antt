@@ -22,3 +22,4 @@ pub mod StepOccupies
 pub mod StepChunks
 pub mod StepVacate
 pub mod StepDrops
+pub mod StepDrain
