@@ -1,6 +1,6 @@
 -- A change of one occupancy word keeps the world: what its lane owes beside the bits.
-use Rattle.std.specs.Prelude.{[], ◌∷◌, List, length}
-use Rattle.std.proofs.Common.{◌≡◌, ◌≢◌, ℕ, suc, ◌+◌, ◌*◌, ◌^◌, ◌<◌, ◌≤◌, ◌⊎◌, inl, inr, ⊎_elim, Bool, true, false, eqb, ◌==◌, refl, sym, ap, ◌∙◌, subst, arith, Option, None, Some}
+use Rattle.std.specs.Prelude.{List, length}
+use Rattle.std.proofs.Common.{◌≡◌, ◌≢◌, ℕ, suc, ◌+◌, ◌*◌, ◌^◌, ◌<◌, inl, inr, ⊎_elim, true, false, ◌==◌, refl, sym, ap, ◌∙◌, subst, arith, Some}
 use Rattle.std.proofs.lemmas.Bool.{both_ways}
 use Rattle.pm_layout.specs.declared.shape.Shape.{Shape}
 use Rattle.pm_layout.specs.Areas.{word_of_generation, word_of_seal, word_of_entry, line_of_slot}
@@ -16,16 +16,16 @@ use Rattle.pm_view.specs.Steps.{Step}
 use Rattle.pm_view.specs.View.{View, Seen}
 use Rattle.pm_view.specs.Views.{occupancy_of}
 use Rattle.pm_world.specs.States.{State, Diff, given, Cells}
-use Rattle.pm_world.specs.Sights.{Hold, Sight, sight_of}
+use Rattle.pm_world.specs.Sights.{Hold, sight_of}
 use Rattle.pm_world.specs.Lanes.{owns, is_decided, in_flight, Bits}
 use Rattle.pm_world.specs.Logs.{slot_list, PhaseFits}
 use Rattle.pm_world.specs.Memory.{Location, PoolWord, ZoneLock, CommitCounter, StopWord, Memory, Becomes, occ_at, cells_of}
-use Rattle.pm_world.specs.World.{Opening, Views, Past, origin, ghost_of, settled_words, is_at_page, LaneFits, may_draw, may_draw_count, World}
+use Rattle.pm_world.specs.World.{Opening, Views, Past, origin, ghost_of, settled_words, is_at_page, may_draw, may_draw_count, World}
 use Rattle.pm_world.specs.Laws.{Turn}
 use Rattle.pm_world.proofs.Cells.{sort, occ_sort}
 use Rattle.pm_world.proofs.Counting.{count_same}
 use Rattle.pm_world.proofs.Frame.{Around, here_own}
-use Rattle.pm_world.proofs.Worlds.{Aside, world_after, stops_stay}
+use Rattle.pm_world.proofs.Worlds.{world_after, stops_stay}
 
 pub early_undecided : (ph : Phase) → is_early ph ≡ true → (is_decided ph ≡ false) × (in_flight ph ≡ false)
 early_undecided Idle e = (refl, refl)

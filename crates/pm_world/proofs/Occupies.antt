@@ -4,15 +4,15 @@ use Rattle.std.proofs.lemmas.Bool.{cases_eq, cases_Bool, eqb-true, both_ways, le
 use Rattle.pm_layout.specs.declared.shape.Shape.{Shape}
 use Rattle.pm_layout.specs.Sizes.{blocks_of}
 use Rattle.pm_view.specs.Places.{Place, InRun, InHuge, Descr, RootWord, Block, Small, Big, Root, Geometry, part, block_of, header, in_span, is_data, same}
-use Rattle.pm_view.specs.Entries.{latest, turn, first_of_two}
+use Rattle.pm_view.specs.Entries.{latest, turn}
 use Rattle.pm_view.specs.Log.{Phase, Idle, Open, Drawn, Sealing, Applying, Clearing, Retiring, Voiding}
 use Rattle.pm_view.specs.Claims.{making_of}
-use Rattle.pm_world.specs.States.{State, Diff, Call, diff, given, there, lit, bright_huge, live, guards, read, claimed, Cells}
+use Rattle.pm_world.specs.States.{State, Diff, diff, given, there, lit, bright_huge, live, guards, read, claimed, Cells}
 use Rattle.pm_world.specs.Sights.{Hold, Sight}
 use Rattle.pm_world.specs.Lanes.{Ghost, own, rights, owns, has, valid, is_decided, in_flight, left, blank, BitFits, open_soils, soils, TurnFits, settled, SightFits, Flies, is_occupancy, is_taken, is_size, DescrFits, GeoFits, Bits}
-use Rattle.pm_world.proofs.Geometry.{same_true, same_refl}
+use Rattle.pm_world.proofs.Geometry.{same_true}
 use Rattle.pm_world.proofs.Frame.{Around, own_cases, mine_own, own_has, maker_no_run, turn_stays, stay_fits, some_first, fresh_given, soiled_owned}
-use Rattle.pm_world.proofs.Going.{Turned, goes_on, own_fits, same_made, still_flying}
+use Rattle.pm_world.proofs.Going.{Turned, goes_on, same_made, still_flying}
 
 -- by cases of a test that stands in several places
 pub split : (t : Bool) (P : Bool → Type 0) → (t ≡ true → P true) → (t ≡ false → P false) → P t
@@ -129,49 +129,51 @@ module _ (sh : Shape) (L : ℕ) (o : State) (cells : Cells) (sights : ℕ → Si
         class = λ d u. refl;
         first = λ d j ne. inl refl;
         flies = λ j n d ne w y. y;
-      } in
-      (a, goes_on sh L o cells sights g x k ink (settled o g) (record cells { occ = occ' }) x' g' sights' refl a record {
-        hold = record {
-          locks = f.hold.locks;
-          reading = f.hold.reading;
-          found = f.hold.found;
-          here = f.hold.here;
-          found_here = f.hold.found_here;
-          mine = λ B. split (new B) (λ z. (z || h.mine B) ≡ true → (cond z (suc k) (g.holder B) ≡ suc k) × (valid g B ≡ true) × (there (settled o g) B ≡ false))
-              (λ y _. subst (λ C. (suc k ≡ suc k) × (valid g C ≡ true) × (there (settled o g) C ≡ false)) (sym (new_is B y)) (refl, fb.0, fb.1)) (λ _ m. f.hold.mine B m);
-          holds = λ B. split (new B) (λ z. cond z (suc k) (g.holder B) ≡ suc k → (z || h.mine B) ≡ true) (λ _ _. refl) (λ _ e. f.hold.holds B e);
-          class = λ d j. λ a. ⊎_elim (λ (y : new (Small d j) ≡ true). subst (λ C. class_at C) (sym (new_is (Small d j) y)) class_here) (λ (y : has h (Small d j) ≡ true). f.hold.class d j y) (less_has (Small d j) a);
-          span = λ y a. f.hold.span y (big_has y a);
-          first = λ d a. f.hold.first d (big_has (g.geo.first d) a);
-          zone = λ y a. f.hold.zone y (big_has y a);
-          making = λ d a. let y = f.hold.making d a in (or_right (new (Big d)) (h.mine (Big d)) y.0, y.1, y.2, y.3, y.4);
-          free = λ d a. f.hold.free d (sym (ap (λ z. z || h.mine (Big (g.geo.first d))) (no_big (g.geo.first d))) ∙ a);
-          seen = f.hold.seen;
-        };
-        bits = bits';
-        picture = λ p b s y e. f.picture p b s y (pic.less p b y e);
-        turns = λ B. split (new B) (λ z. TurnFits (sights k).phase (h.locked (header sh g.geo B)) (z || h.mine B) (h.here B) (turn (latest (sights k).call.entries) B))
-            (λ y. subst (TurnFits (sights k).phase (h.locked (header sh g.geo B)) true (h.here B)) (sym (turn_stays (sights k).phase (h.locked (header sh g.geo B)) (h.mine B) (h.here B) (making_of h.making B) (turn (latest (sights k).call.entries) B) (f.turns B) (subst (λ C. own h C ≡ false) (sym (new_is B y)) (none_ k)))) (stay_fits (sights k).phase (h.locked (header sh g.geo B)) true (h.here B))) (λ _. f.turns B);
-        call = f.call;
-        reach = λ p b y. more_owned g.geo (settled o g) h new (is Root) p b (f.reach p b y);
-        plain = f.plain;
-        logged = λ p b u y. let z = f.logged p b u y in (more_owned g.geo (settled o g) h new (is Root) p b z.0, z.1);
-        stored = f.stored;
-        fresh = λ p b y e. pic.else_ p b (f.reach p b (fresh_given (latest (sights k).call.entries p b) ((sights k).call.fresh p b) (ap given e))) ∙ f.fresh p b y e;
-        sizes = f.sizes;
-        born = λ y. absurd (both_ways (in_flight (sights k).phase) flight y);
-        guarded = λ y. absurd (both_ways (in_flight (sights k).phase) flight y);
-        soiled = λ p b y. let z = f.soiled p b y in let B = block_of g.geo p b in (more_soils (sights k).phase p (h.mine B) (new B || h.mine B) ((sights k).logged p) (latest (sights k).call.entries p b) (or_right (new B) (h.mine B)) z.0, z.1);
-      } record {
-        gone = λ p b q u l. absurd (both_ways (owns g.geo (settled o g) (with_mine h new) p b) u (more_owned g.geo (settled o g) h new (is Root) p b q));
-        back = λ p b u u' l. (l, λ j ne y. y);
-        made = same_made sh L o cells sights g x k ink x' (λ d. refl);
-        occ = λ a in_. occs a in_ ∙ occ_after a in_;
-        geo = record { twice = x.geo.twice; classes = x.geo.classes; shape = x.geo.shape; head = x.geo.head; huge = x.geo.huge; zeros = x.geo.zeros; in_zone = x.geo.in_zone; within = x.geo.within };
-        alone = x.alone;
-        counter = x.counter;
-        flying = still_flying sh L o cells sights g x k ink x' (λ n y. y);
-      } t)
+      } in (
+        a,
+        goes_on sh L o cells sights g x k ink (settled o g) (record cells { occ = occ' }) x' g' sights' refl a record {
+          hold = record {
+            locks = f.hold.locks;
+            reading = f.hold.reading;
+            found = f.hold.found;
+            here = f.hold.here;
+            found_here = f.hold.found_here;
+            mine = λ B. split (new B) (λ z. (z || h.mine B) ≡ true → (cond z (suc k) (g.holder B) ≡ suc k) × (valid g B ≡ true) × (there (settled o g) B ≡ false))
+                (λ y _. subst (λ C. (suc k ≡ suc k) × (valid g C ≡ true) × (there (settled o g) C ≡ false)) (sym (new_is B y)) (refl, fb.0, fb.1)) (λ _ m. f.hold.mine B m);
+            holds = λ B. split (new B) (λ z. cond z (suc k) (g.holder B) ≡ suc k → (z || h.mine B) ≡ true) (λ _ _. refl) (λ _ e. f.hold.holds B e);
+            class = λ d j. λ a. ⊎_elim (λ (y : new (Small d j) ≡ true). subst (λ C. class_at C) (sym (new_is (Small d j) y)) class_here) (λ (y : has h (Small d j) ≡ true). f.hold.class d j y) (less_has (Small d j) a);
+            span = λ y a. f.hold.span y (big_has y a);
+            first = λ d a. f.hold.first d (big_has (g.geo.first d) a);
+            zone = λ y a. f.hold.zone y (big_has y a);
+            making = λ d a. let y = f.hold.making d a in (or_right (new (Big d)) (h.mine (Big d)) y.0, y.1, y.2, y.3, y.4);
+            free = λ d a. f.hold.free d (sym (ap (λ z. z || h.mine (Big (g.geo.first d))) (no_big (g.geo.first d))) ∙ a);
+            seen = f.hold.seen;
+          };
+          bits = bits';
+          picture = λ p b s y e. f.picture p b s y (pic.less p b y e);
+          turns = λ B. split (new B) (λ z. TurnFits (sights k).phase (h.locked (header sh g.geo B)) (z || h.mine B) (h.here B) (turn (latest (sights k).call.entries) B))
+              (λ y. subst (TurnFits (sights k).phase (h.locked (header sh g.geo B)) true (h.here B)) (sym (turn_stays (sights k).phase (h.locked (header sh g.geo B)) (h.mine B) (h.here B) (making_of h.making B) (turn (latest (sights k).call.entries) B) (f.turns B) (subst (λ C. own h C ≡ false) (sym (new_is B y)) (none_ k)))) (stay_fits (sights k).phase (h.locked (header sh g.geo B)) true (h.here B))) (λ _. f.turns B);
+          call = f.call;
+          reach = λ p b y. more_owned g.geo (settled o g) h new (is Root) p b (f.reach p b y);
+          plain = f.plain;
+          logged = λ p b u y. let z = f.logged p b u y in (more_owned g.geo (settled o g) h new (is Root) p b z.0, z.1);
+          stored = f.stored;
+          fresh = λ p b y e. pic.else_ p b (f.reach p b (fresh_given (latest (sights k).call.entries p b) ((sights k).call.fresh p b) (ap given e))) ∙ f.fresh p b y e;
+          sizes = f.sizes;
+          born = λ y. absurd (both_ways (in_flight (sights k).phase) flight y);
+          guarded = λ y. absurd (both_ways (in_flight (sights k).phase) flight y);
+          soiled = λ p b y. let z = f.soiled p b y in let B = block_of g.geo p b in (more_soils (sights k).phase p (h.mine B) (new B || h.mine B) ((sights k).logged p) (latest (sights k).call.entries p b) (or_right (new B) (h.mine B)) z.0, z.1);
+        } record {
+          gone = λ p b q u l. absurd (both_ways (owns g.geo (settled o g) (with_mine h new) p b) u (more_owned g.geo (settled o g) h new (is Root) p b q));
+          back = λ p b u u' l. (l, λ j ne y. y);
+          made = same_made sh L o cells sights g x k ink x' (λ d. refl);
+          occ = λ a in_. occs a in_ ∙ occ_after a in_;
+          geo = record { twice = x.geo.twice; classes = x.geo.classes; shape = x.geo.shape; head = x.geo.head; huge = x.geo.huge; zeros = x.geo.zeros; in_zone = x.geo.in_zone; within = x.geo.within };
+          alone = x.alone;
+          counter = x.counter;
+          flying = still_flying sh L o cells sights g x k ink x' (λ n y. y);
+        } t,
+      )
     where
       x' : Sight
       x' = record (sights k) { hold = with_mine (sights k).hold new; picture = pc }
@@ -228,11 +230,11 @@ module _ (sh : Shape) (L : ℕ) (o : State) (cells : Cells) (sights : ℕ → Si
       bits' : (p : Place) (b : ℕ) → owns g.geo (settled o g) (with_mine h new) p b ≡ true
           → BitFits (live (settled o g) g.geo g.runs p) (blank h p) (is_decided (sights k).phase) (left (sights k).phase p b) ((sights k).logged p) (latest (sights k).call.entries p b) (pc p b) (read cells.pool p b) (settled o g p b)
       bits' p b a = ⊎_elim (λ (y : new (block_of g.geo p b) ≡ true). (
-            λ al _ _. lives p b y al,
-            λ bl. absurd (not_blank p b y bl),
-            λ dec. absurd (both_ways (is_decided (sights k).phase) early dec),
-            λ z e. absurd (both_ways true (ap given (sym e ∙ pic.none_ p b y)) refl),
-          ))
+        λ al _ _. lives p b y al,
+        λ bl. absurd (not_blank p b y bl),
+        λ dec. absurd (both_ways (is_decided (sights k).phase) early dec),
+        λ z e. absurd (both_ways true (ap given (sym e ∙ pic.none_ p b y)) refl),
+      ))
           (λ (y : owns g.geo (settled o g) h p b ≡ true). let u = f.bits p b y in (u.0, u.1, u.2, λ z e. u.3 z (sym (pic.else_ p b y) ∙ e))) (less_owned g.geo (settled o g) h new (is Root) p b a)
 
       occ_after : (a : Block) → is_occupancy sh a ≡ true → (new a || cells.occ a) ≡ is_taken (settled o g) g' a
@@ -412,62 +414,64 @@ module _ (sh : Shape) (L : ℕ) (o : State) (cells : Cells) (sights : ℕ → Si
         class = λ d u. refl;
         first = λ c j ne. ⊎_elim (λ (e : first' c ≡ g.geo.first c). inl e) (λ (z : Nothing (g.geo.first c) × Nothing (first' c)). inr (unfound (g.geo.first c) z.0 j, unfound (first' c) z.1 j)) (moves c);
         flies = λ j n d ne w y. y;
-      } in
-      (a, goes_on sh L o cells sights g x k ink (settled o g) (record cells { occ = occ' }) x' g' sights' refl a record {
-        hold = record {
-          locks = f.hold.locks;
-          reading = f.hold.reading;
-          found = λ B a. let y = f.hold.found B a in (ap (λ l. hk.locked l || hk.reads l) (header_same B) ∙ y.0, valid_there B y.1 y.2, y.2);
-          here = λ B a. let y = f.hold.here B a in (ap hk.locked (header_same B) ∙ y.0, y.1);
-          found_here = λ B a l. f.hold.found_here B a (sym (ap hk.locked (header_same B)) ∙ l);
-          mine = λ B. split (new B) (λ z. (z || hk.mine B) ≡ true → (cond z (suc k) (g.holder B) ≡ suc k) × (valid g' B ≡ true) × (there (settled o g) B ≡ false))
-              (λ y _. subst (λ C. (suc k ≡ suc k) × (valid g' C ≡ true) × (there (settled o g) C ≡ false)) (sym (new_is B y)) (refl, chunks_of_new f₀ ∙ in_f, none_f.1)) (λ _ m. let y = f.hold.mine B m in (y.0, valid_mine B m y.1, y.2));
-          holds = λ B. split (new B) (λ z. cond z (suc k) (g.holder B) ≡ suc k → (z || hk.mine B) ≡ true) (λ _ _. refl) (λ _ e. f.hold.holds B e);
-          class = λ d j a. f.hold.class d j (sym (ap (λ z. z || hk.found (Small d j)) (less_small d j)) ∙ a);
-          span = λ y a c. ⊎_elim (λ (e : y ≡ f₀). subst (λ a. (first' c == a) ≡ in_span a (cond (new (Big a)) n (hk.span a)) c) (sym e) (chunks_of_new c ∙ sym (ap (λ m. in_span f₀ m c) (cond-true (new (Big f₀)) n (hk.span f₀) new_f))))
-              (λ (ne : y ≢ f₀). let w = old_has y ne a in claim_same y (λ z. both_ways (has hk (Big y)) (unfound y z k) w) c ∙ (f.hold.span y w c ∙ sym (ap (λ m. in_span y m c) (cond-false (new (Big y)) n (hk.span y) (new_else y ne))))) (cases_eq y f₀);
-          first = λ c a. ⊎_elim (λ (z : New c). cond-true (in_span f₀ n c) f₀ (hk.first c) z.0 ∙ sym z.1)
-              (λ (z : (first' c ≡ g.geo.first c) × (has hk (Big (g.geo.first c)) ≡ true)). ⊎_elim (λ (t : in_span f₀ n c ≡ true). absurd (both_ways (has hk (Big (g.geo.first c))) (unfound (g.geo.first c) (none_in c t) k) z.1)) (λ (u : in_span f₀ n c ≡ false). cond-false (in_span f₀ n c) f₀ (hk.first c) u ∙ (f.hold.first c z.1 ∙ sym z.0)) (cases_Bool (in_span f₀ n c))) (chunk_cases c a);
-          zone = λ y a. ⊎_elim (λ (e : y ≡ f₀). subst (λ a. a % 64 + cond (new (Big a)) n (hk.span a) ≤ 64) (sym e) (subst (λ m. f₀ % 64 + m ≤ 64) (sym (cond-true (new (Big f₀)) n (hk.span f₀) new_f)) zone0))
-              (λ (ne : y ≢ f₀). subst (λ m. y % 64 + m ≤ 64) (sym (cond-false (new (Big y)) n (hk.span y) (new_else y ne))) (f.hold.zone y (old_has y ne a))) (cases_eq y f₀);
-          making = λ c a. let y = f.hold.making c a in (or_right (new (Big c)) (hk.mine (Big c)) y.0, y.1, y.2, y.3, cond-false (new (Big c)) n (hk.span c) (new_else c (λ e. owned_some c (mine_own hk (Big c) y.0) (subst Nothing (sym e) none_f))) ∙ y.4);
-          free = λ c a. ⊎_elim (λ (z : New c). (free_chunk c z.0).0) (λ (z : (first' c ≡ g.geo.first c) × (has hk (Big (g.geo.first c)) ≡ true)). f.hold.free c (mine_of (g.geo.first c) (λ e. both_ways (has hk (Big (g.geo.first c))) (unfound (g.geo.first c) (subst Nothing (sym e) none_f) k) z.1) (subst (λ a. (new (Big a) || hk.mine (Big a)) ≡ true) z.0 a)))
-              (chunk_cases c (own_has h' (Big (first' c)) (mine_own h' (Big (first' c)) a)));
-          seen = f.hold.seen;
-        };
-        bits = bits';
-        picture = λ p b s y e. f.picture p b (sees_same p b s) y (pic.less p b y e);
-        turns = turns';
-        call = record {
-          flight = f.call.flight;
-          todo = f.call.todo;
-          descr = λ y. ⊎_elim (λ (e : y ≡ f₀). subst (λ a. DescrFits (turn (latest (sights k).call.entries) (Big a)) a (cond (new (Big a)) n (hk.span a)) (λ b. diff (sights k).call (Descr a) b)) (sym e)
-              (subst (λ t. DescrFits t f₀ (cond (new (Big f₀)) n (hk.span f₀)) (λ b. diff (sights k).call (Descr f₀) b)) (sym turn_f) (subst (λ t. DescrFits t f₀ (hk.span f₀) (λ b. diff (sights k).call (Descr f₀) b)) turn_f (f.call.descr f₀))))
-              (λ (ne : y ≢ f₀). subst (λ m. DescrFits (turn (latest (sights k).call.entries) (Big y)) y m (λ b. diff (sights k).call (Descr y) b)) (sym (cond-false (new (Big y)) n (hk.span y) (new_else y ne))) (f.call.descr y)) (cases_eq y f₀);
-        };
-        reach = λ p b y. owns_more p b (f.reach p b y);
-        plain = f.plain;
-        logged = λ p b u y. let z = f.logged p b u y in (owns_more p b z.0, z.1);
-        stored = f.stored;
-        fresh = λ p b y e. pic.else_ p b (f.reach p b (fresh_given (latest (sights k).call.entries p b) ((sights k).call.fresh p b) (ap given e))) ∙ f.fresh p b y e;
-        sizes = λ p b s. (
-          false_from_ne_true (given (latest (sights k).call.entries p b)) (λ u. both_ways (given (latest (sights k).call.entries p b)) (f.sizes p b (size_stays p b (f.reach p b (some_first (latest (sights k).call.entries p b) ((sights k).call.fresh p b) u)) s)).0 u),
-          λ u. let w = f.reach p b (fresh_given (latest (sights k).call.entries p b) ((sights k).call.fresh p b) u) in subst (λ B. turn (latest (sights k).call.entries) B ≡ Some true) (sym (blocks_stay p b w)) ((f.sizes p b (size_stays p b w s)).1 u),
-        );
-        born = λ y. absurd (both_ways (in_flight (sights k).phase) flight y);
-        guarded = λ y. absurd (both_ways (in_flight (sights k).phase) flight y);
-        soiled = λ p b y. let z = f.soiled p b y in let w = soiled_owned sh cells (settled o g) (Flies g k) g x.geo k (sights k) f p b y in let B = block_of g.geo p b in
-            (subst (λ C. soils (sights k).phase p (new C || hk.mine C) ((sights k).logged p) (latest (sights k).call.entries p b) ≡ true) (sym (blocks_stay p b w)) (more_soils (sights k).phase p (hk.mine B) (new B || hk.mine B) ((sights k).logged p) (latest (sights k).call.entries p b) (or_right (new B) (hk.mine B)) z.0), z.1);
-      } record {
-        gone = λ p b q u l. absurd (both_ways (owns (claimed g.geo f₀ n) (settled o g) (with_claim hk new f₀ n) p b) u (owns_more p b q));
-        back = back';
-        made = same_made sh L o cells sights g x k ink x' (λ d. refl);
-        occ = occ_after;
-        geo = geo_after;
-        alone = x.alone;
-        counter = x.counter;
-        flying = still_flying sh L o cells sights g x k ink x' (λ n y. y);
-      } t)
+      } in (
+        a,
+        goes_on sh L o cells sights g x k ink (settled o g) (record cells { occ = occ' }) x' g' sights' refl a record {
+          hold = record {
+            locks = f.hold.locks;
+            reading = f.hold.reading;
+            found = λ B a. let y = f.hold.found B a in (ap (λ l. hk.locked l || hk.reads l) (header_same B) ∙ y.0, valid_there B y.1 y.2, y.2);
+            here = λ B a. let y = f.hold.here B a in (ap hk.locked (header_same B) ∙ y.0, y.1);
+            found_here = λ B a l. f.hold.found_here B a (sym (ap hk.locked (header_same B)) ∙ l);
+            mine = λ B. split (new B) (λ z. (z || hk.mine B) ≡ true → (cond z (suc k) (g.holder B) ≡ suc k) × (valid g' B ≡ true) × (there (settled o g) B ≡ false))
+                (λ y _. subst (λ C. (suc k ≡ suc k) × (valid g' C ≡ true) × (there (settled o g) C ≡ false)) (sym (new_is B y)) (refl, chunks_of_new f₀ ∙ in_f, none_f.1)) (λ _ m. let y = f.hold.mine B m in (y.0, valid_mine B m y.1, y.2));
+            holds = λ B. split (new B) (λ z. cond z (suc k) (g.holder B) ≡ suc k → (z || hk.mine B) ≡ true) (λ _ _. refl) (λ _ e. f.hold.holds B e);
+            class = λ d j a. f.hold.class d j (sym (ap (λ z. z || hk.found (Small d j)) (less_small d j)) ∙ a);
+            span = λ y a c. ⊎_elim (λ (e : y ≡ f₀). subst (λ a. (first' c == a) ≡ in_span a (cond (new (Big a)) n (hk.span a)) c) (sym e) (chunks_of_new c ∙ sym (ap (λ m. in_span f₀ m c) (cond-true (new (Big f₀)) n (hk.span f₀) new_f))))
+                (λ (ne : y ≢ f₀). let w = old_has y ne a in claim_same y (λ z. both_ways (has hk (Big y)) (unfound y z k) w) c ∙ (f.hold.span y w c ∙ sym (ap (λ m. in_span y m c) (cond-false (new (Big y)) n (hk.span y) (new_else y ne))))) (cases_eq y f₀);
+            first = λ c a. ⊎_elim (λ (z : New c). cond-true (in_span f₀ n c) f₀ (hk.first c) z.0 ∙ sym z.1)
+                (λ (z : (first' c ≡ g.geo.first c) × (has hk (Big (g.geo.first c)) ≡ true)). ⊎_elim (λ (t : in_span f₀ n c ≡ true). absurd (both_ways (has hk (Big (g.geo.first c))) (unfound (g.geo.first c) (none_in c t) k) z.1)) (λ (u : in_span f₀ n c ≡ false). cond-false (in_span f₀ n c) f₀ (hk.first c) u ∙ (f.hold.first c z.1 ∙ sym z.0)) (cases_Bool (in_span f₀ n c))) (chunk_cases c a);
+            zone = λ y a. ⊎_elim (λ (e : y ≡ f₀). subst (λ a. a % 64 + cond (new (Big a)) n (hk.span a) ≤ 64) (sym e) (subst (λ m. f₀ % 64 + m ≤ 64) (sym (cond-true (new (Big f₀)) n (hk.span f₀) new_f)) zone0))
+                (λ (ne : y ≢ f₀). subst (λ m. y % 64 + m ≤ 64) (sym (cond-false (new (Big y)) n (hk.span y) (new_else y ne))) (f.hold.zone y (old_has y ne a))) (cases_eq y f₀);
+            making = λ c a. let y = f.hold.making c a in (or_right (new (Big c)) (hk.mine (Big c)) y.0, y.1, y.2, y.3, cond-false (new (Big c)) n (hk.span c) (new_else c (λ e. owned_some c (mine_own hk (Big c) y.0) (subst Nothing (sym e) none_f))) ∙ y.4);
+            free = λ c a. ⊎_elim (λ (z : New c). (free_chunk c z.0).0) (λ (z : (first' c ≡ g.geo.first c) × (has hk (Big (g.geo.first c)) ≡ true)). f.hold.free c (mine_of (g.geo.first c) (λ e. both_ways (has hk (Big (g.geo.first c))) (unfound (g.geo.first c) (subst Nothing (sym e) none_f) k) z.1) (subst (λ a. (new (Big a) || hk.mine (Big a)) ≡ true) z.0 a)))
+                (chunk_cases c (own_has h' (Big (first' c)) (mine_own h' (Big (first' c)) a)));
+            seen = f.hold.seen;
+          };
+          bits = bits';
+          picture = λ p b s y e. f.picture p b (sees_same p b s) y (pic.less p b y e);
+          turns = turns';
+          call = record {
+            flight = f.call.flight;
+            todo = f.call.todo;
+            descr = λ y. ⊎_elim (λ (e : y ≡ f₀). subst (λ a. DescrFits (turn (latest (sights k).call.entries) (Big a)) a (cond (new (Big a)) n (hk.span a)) (λ b. diff (sights k).call (Descr a) b)) (sym e)
+                (subst (λ t. DescrFits t f₀ (cond (new (Big f₀)) n (hk.span f₀)) (λ b. diff (sights k).call (Descr f₀) b)) (sym turn_f) (subst (λ t. DescrFits t f₀ (hk.span f₀) (λ b. diff (sights k).call (Descr f₀) b)) turn_f (f.call.descr f₀))))
+                (λ (ne : y ≢ f₀). subst (λ m. DescrFits (turn (latest (sights k).call.entries) (Big y)) y m (λ b. diff (sights k).call (Descr y) b)) (sym (cond-false (new (Big y)) n (hk.span y) (new_else y ne))) (f.call.descr y)) (cases_eq y f₀);
+          };
+          reach = λ p b y. owns_more p b (f.reach p b y);
+          plain = f.plain;
+          logged = λ p b u y. let z = f.logged p b u y in (owns_more p b z.0, z.1);
+          stored = f.stored;
+          fresh = λ p b y e. pic.else_ p b (f.reach p b (fresh_given (latest (sights k).call.entries p b) ((sights k).call.fresh p b) (ap given e))) ∙ f.fresh p b y e;
+          sizes = λ p b s. (
+            false_from_ne_true (given (latest (sights k).call.entries p b)) (λ u. both_ways (given (latest (sights k).call.entries p b)) (f.sizes p b (size_stays p b (f.reach p b (some_first (latest (sights k).call.entries p b) ((sights k).call.fresh p b) u)) s)).0 u),
+            λ u. let w = f.reach p b (fresh_given (latest (sights k).call.entries p b) ((sights k).call.fresh p b) u) in subst (λ B. turn (latest (sights k).call.entries) B ≡ Some true) (sym (blocks_stay p b w)) ((f.sizes p b (size_stays p b w s)).1 u),
+          );
+          born = λ y. absurd (both_ways (in_flight (sights k).phase) flight y);
+          guarded = λ y. absurd (both_ways (in_flight (sights k).phase) flight y);
+          soiled = λ p b y. let z = f.soiled p b y in let w = soiled_owned sh cells (settled o g) (Flies g k) g x.geo k (sights k) f p b y in let B = block_of g.geo p b in
+              (subst (λ C. soils (sights k).phase p (new C || hk.mine C) ((sights k).logged p) (latest (sights k).call.entries p b) ≡ true) (sym (blocks_stay p b w)) (more_soils (sights k).phase p (hk.mine B) (new B || hk.mine B) ((sights k).logged p) (latest (sights k).call.entries p b) (or_right (new B) (hk.mine B)) z.0), z.1);
+        } record {
+          gone = λ p b q u l. absurd (both_ways (owns (claimed g.geo f₀ n) (settled o g) (with_claim hk new f₀ n) p b) u (owns_more p b q));
+          back = back';
+          made = same_made sh L o cells sights g x k ink x' (λ d. refl);
+          occ = occ_after;
+          geo = geo_after;
+          alone = x.alone;
+          counter = x.counter;
+          flying = still_flying sh L o cells sights g x k ink x' (λ n y. y);
+        } t,
+      )
     where
       x' : Sight
       x' = record (sights k) { hold = with_claim (sights k).hold new f₀ n; picture = pc }

@@ -1,6 +1,6 @@
 -- Bits that lie one after another in a word: the least of them, how many they are, and which.
 use Rattle.std.specs.Int.{bit_at}
-use Rattle.std.proofs.Common.{◌≡◌, ◌≢◌, ℕ, zero, suc, ◌+◌, ◌-◌, ◌*◌, ◌/◌, ◌%◌, ◌^◌, ◌<◌, ◌≤◌, ◌⊎◌, ⊎_elim, nat_le, nat_lt, Bool, true, false, cond, ◌==◌, ◌&&◌, eqb, refl, sym, ap, ◌∙◌, arith, eq-eqb, ne_eqb, pow-add}
+use Rattle.std.proofs.Common.{◌≡◌, ℕ, zero, suc, ◌+◌, ◌-◌, ◌*◌, ◌/◌, ◌%◌, ◌^◌, ◌<◌, ◌≤◌, ⊎_elim, nat_le, nat_lt, true, false, ◌==◌, ◌&&◌, refl, sym, ap, ◌∙◌, arith, eq-eqb, ne_eqb, pow-add}
 use Rattle.std.proofs.lemmas.Bool.{cases_eq, cases_lt, le-leb, lt-ltb, leb-true, ltb-true, and_from, and_parts, and_left, and_right, cond-true, cond-false, false_from_ne_true}
 use Rattle.std.proofs.lemmas.Nat.Bits.{bit_at_mask_inside, bit_at_mask_below, bit_at_mask_above}
 use Rattle.std.proofs.Math.Nat.{pow-suc, mul_comm, mul_assoc, mul-suc}

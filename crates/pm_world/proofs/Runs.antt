@@ -1,13 +1,12 @@
 -- Chunks become runs, over bits: a chunk is marked as one by the store of its descriptor, and the drain of that makes it one.
-use Rattle.std.proofs.Common.{◌≡◌, ◌≢◌, ℕ, zero, suc, ◌+◌, ◌-◌, ◌*◌, ◌/◌, ◌%◌, ◌<◌, ◌≤◌, ◌⊎◌, inl, inr, ⊎_elim, nat_le, nat_lt, Bool, true, false, cond, not, ◌&&◌, ◌||◌, eqb, ◌==◌, refl, sym, ap, ◌∙◌, subst, arith, eq-eqb, ne_eqb, Option, None, Some}
-use Rattle.std.proofs.lemmas.Bool.{cases_eq, cases_Bool, eqb-true, leb-true, ltb-true, both_ways, and_parts, and_from, and_left, and_right, or_cases, or_left, or_right, or_parts, or_from, not_from_true, not_from_false, not-true, cond-true, cond-false, false_from_ne_true, true_from_ne_false}
+use Rattle.std.proofs.Common.{◌≡◌, ◌≢◌, ℕ, suc, ◌+◌, ◌-◌, ◌/◌, ◌%◌, ◌<◌, ◌≤◌, ◌⊎◌, inl, ⊎_elim, nat_le, nat_lt, Bool, true, false, cond, not, ◌&&◌, ◌||◌, eqb, ◌==◌, refl, sym, ap, ◌∙◌, subst, arith, eq-eqb, ne_eqb, Option, None, Some}
+use Rattle.std.proofs.lemmas.Bool.{cases_eq, cases_Bool, eqb-true, leb-true, ltb-true, both_ways, and_parts, and_from, and_left, and_right, or_cases, or_left, or_right, or_from, not_from_true, not_from_false, not-true, cond-true, cond-false, false_from_ne_true, true_from_ne_false}
 use Rattle.pm_layout.specs.declared.shape.Shape.{Shape}
 use Rattle.pm_layout.specs.Sizes.{blocks_of}
-use Rattle.pm_view.specs.Places.{Place, InRun, InHuge, Descr, RootWord, Block, Small, Big, Root, Geometry, part, block_of, header, in_span, is_data}
-use Rattle.pm_view.specs.Entries.{latest, turn, first_of_two}
+use Rattle.pm_view.specs.Places.{Place, InRun, InHuge, Descr, RootWord, Block, Small, Big, Root, part, block_of, header, in_span, is_data}
+use Rattle.pm_view.specs.Entries.{latest, turn}
 use Rattle.pm_view.specs.Log.{Phase, Idle, Open, Drawn, Sealing, Applying, Clearing, Retiring, Voiding}
-use Rattle.pm_view.specs.Claims.{making_of}
-use Rattle.pm_world.specs.States.{State, Diff, Call, diff, given, over, after_diff, there, lit, size_at, bright, shown, live, guards, read, put1, Cells}
+use Rattle.pm_world.specs.States.{State, diff, given, over, after_diff, there, lit, size_at, bright, shown, live, read, put1, Cells}
 use Rattle.pm_world.specs.Sights.{Hold, Sight}
 use Rattle.pm_world.specs.Lanes.{Ghost, own, owns, has, valid, is_in_making, is_decided, in_flight, left, blank, BitFits, open_soils, soils, TurnFits, BornFits, settled, SightFits, Flies, is_occupancy, is_taken, Bits}
 use Rattle.pm_world.proofs.Geometry.{huge_line}
@@ -205,57 +204,59 @@ module _ (sh : Shape) (L : ℕ) (o : State) (cells : Cells) (sights : ℕ → Si
         class = λ c u. refl;
         first = λ c j ne. inl refl;
         flies = λ j n y ne w z. z;
-      } in
-      (a, goes_on sh L o cells sights g x k ink (settled o g) cells x' g' sights' refl a record {
-        hold = record {
-          locks = f.hold.locks;
-          reading = f.hold.reading;
-          found = λ B a. let y = f.hold.found B a in (y.0, more_valid B y.1, y.2);
-          here = f.hold.here;
-          found_here = f.hold.found_here;
-          mine = mine';
-          holds = holds';
-          class = λ c i a. f.hold.class c i (less_has (Small c i) a);
-          span = λ y a. f.hold.span y (less_has (Big y) a);
-          first = λ c a. f.hold.first c (less_has (Big (g.geo.first c)) a);
-          zone = λ y a. f.hold.zone y (less_has (Big y) a);
-          making = λ c a. let n = not_yet c a in let y = f.hold.making c n.0 in (and_from (not (becoming h dirty c)) (h.mine (Big c)) (not_from_false (becoming h dirty c) n.1) y.0, y.1, y.2, y.3, y.4);
-          free = λ c a. let e = g.geo.first c in let y = and_parts (not (becoming h dirty e)) (h.mine (Big e)) a in
-              or_from (becoming h dirty c) (g.runs c) (false_from_ne_true (becoming h dirty c) (λ z. both_ways (becoming h dirty e) (not-true (becoming h dirty e) y.0) (ap (becoming h dirty) (made_first c (becomes_made c z)) ∙ z))) (f.hold.free c y.1);
-          seen = f.hold.seen;
-        };
-        bits = λ p b a. bits' p b a (f.bits p b (less_owned p b a));
-        picture = f.picture;
-        turns = turns';
-        call = f.call;
-        reach = λ p b y. dropped p b (f.reach p b y) (f.plain p b y);
-        plain = λ p b y. not_making p (f.plain p b y);
-        logged = λ p b u y. let z = d.recorded p b u y in (dropped p b z.0 z.1, not_making p z.1);
-        stored = λ p b u y. (d.recorded p b u y).2;
-        fresh = f.fresh;
-        sizes = f.sizes;
-        born = λ u p b a. born' p b (f.born u p b (less_owned p b a));
-        guarded = f.guarded;
-        soiled = λ p b y. let z = f.soiled p b (d.fewer p b y) in (soils_more (sights k).phase p (h.mine (block_of g.geo p b)) (h'.mine (block_of g.geo p b)) ((sights k).logged p) (lg p) (latest (sights k).call.entries p b) (mine_kept p b z.1) (d.more p) z.0, not_making p z.1);
-      } record {
-        gone = gone';
-        back = back';
-        made = made';
-        occ = occ';
-        geo = record {
-          twice = x.geo.twice;
-          classes = λ c r. ⊎_elim (λ (y : becoming h dirty c ≡ true). let m = f.hold.making c (becomes_made c y) in (m.2, m.3)) (λ (y : g.runs c ≡ true). x.geo.classes c y) (or_cases (becoming h dirty c) (g.runs c) r);
-          shape = x.geo.shape;
-          head = x.geo.head;
-          huge = λ c y. or_from (becoming h dirty c) (g.runs c) (false_from_ne_true (becoming h dirty c) (λ z. let m = becomes_made c z in both_ways (there (settled o g) (Big c)) (no_chunk c m) (ap (λ a. there (settled o g) (Big a)) (sym (made_first c m)) ∙ y))) (x.geo.huge c y);
-          zeros = x.geo.zeros;
-          in_zone = x.geo.in_zone;
-          within = λ c i y. more_valid (Small c i) (x.geo.within c i y);
-        };
-        alone = x.alone;
-        counter = x.counter;
-        flying = still_flying sh L o cells sights g x k ink x' (λ n y. y);
-      } t)
+      } in (
+        a,
+        goes_on sh L o cells sights g x k ink (settled o g) cells x' g' sights' refl a record {
+          hold = record {
+            locks = f.hold.locks;
+            reading = f.hold.reading;
+            found = λ B a. let y = f.hold.found B a in (y.0, more_valid B y.1, y.2);
+            here = f.hold.here;
+            found_here = f.hold.found_here;
+            mine = mine';
+            holds = holds';
+            class = λ c i a. f.hold.class c i (less_has (Small c i) a);
+            span = λ y a. f.hold.span y (less_has (Big y) a);
+            first = λ c a. f.hold.first c (less_has (Big (g.geo.first c)) a);
+            zone = λ y a. f.hold.zone y (less_has (Big y) a);
+            making = λ c a. let n = not_yet c a in let y = f.hold.making c n.0 in (and_from (not (becoming h dirty c)) (h.mine (Big c)) (not_from_false (becoming h dirty c) n.1) y.0, y.1, y.2, y.3, y.4);
+            free = λ c a. let e = g.geo.first c in let y = and_parts (not (becoming h dirty e)) (h.mine (Big e)) a in
+                or_from (becoming h dirty c) (g.runs c) (false_from_ne_true (becoming h dirty c) (λ z. both_ways (becoming h dirty e) (not-true (becoming h dirty e) y.0) (ap (becoming h dirty) (made_first c (becomes_made c z)) ∙ z))) (f.hold.free c y.1);
+            seen = f.hold.seen;
+          };
+          bits = λ p b a. bits' p b a (f.bits p b (less_owned p b a));
+          picture = f.picture;
+          turns = turns';
+          call = f.call;
+          reach = λ p b y. dropped p b (f.reach p b y) (f.plain p b y);
+          plain = λ p b y. not_making p (f.plain p b y);
+          logged = λ p b u y. let z = d.recorded p b u y in (dropped p b z.0 z.1, not_making p z.1);
+          stored = λ p b u y. (d.recorded p b u y).2;
+          fresh = f.fresh;
+          sizes = f.sizes;
+          born = λ u p b a. born' p b (f.born u p b (less_owned p b a));
+          guarded = f.guarded;
+          soiled = λ p b y. let z = f.soiled p b (d.fewer p b y) in (soils_more (sights k).phase p (h.mine (block_of g.geo p b)) (h'.mine (block_of g.geo p b)) ((sights k).logged p) (lg p) (latest (sights k).call.entries p b) (mine_kept p b z.1) (d.more p) z.0, not_making p z.1);
+        } record {
+          gone = gone';
+          back = back';
+          made = made';
+          occ = occ';
+          geo = record {
+            twice = x.geo.twice;
+            classes = λ c r. ⊎_elim (λ (y : becoming h dirty c ≡ true). let m = f.hold.making c (becomes_made c y) in (m.2, m.3)) (λ (y : g.runs c ≡ true). x.geo.classes c y) (or_cases (becoming h dirty c) (g.runs c) r);
+            shape = x.geo.shape;
+            head = x.geo.head;
+            huge = λ c y. or_from (becoming h dirty c) (g.runs c) (false_from_ne_true (becoming h dirty c) (λ z. let m = becomes_made c z in both_ways (there (settled o g) (Big c)) (no_chunk c m) (ap (λ a. there (settled o g) (Big a)) (sym (made_first c m)) ∙ y))) (x.geo.huge c y);
+            zeros = x.geo.zeros;
+            in_zone = x.geo.in_zone;
+            within = λ c i y. more_valid (Small c i) (x.geo.within c i y);
+          };
+          alone = x.alone;
+          counter = x.counter;
+          flying = still_flying sh L o cells sights g x k ink x' (λ n y. y);
+        } t,
+      )
     where
       x' : Sight
       x' = record (sights k) { hold = with_runs (sights k).hold dirty; logged = lg; soiled = so }
@@ -324,12 +325,12 @@ module _ (sh : Shape) (L : ℕ) (o : State) (cells : Cells) (sights : ℕ → Si
       bits' : (p : Place) (b : ℕ) → owns g.geo (settled o g) (with_runs (sights k).hold dirty) p b ≡ true → abbrev_bits p b (live (settled o g) g.geo g.runs p) (blank (sights k).hold p)
           → BitFits (live (settled o g) g.geo g'.runs p) (blank (with_runs (sights k).hold dirty) p) (is_decided (sights k).phase) (left (sights k).phase p b) (lg p) (latest (sights k).call.entries p b) ((sights k).picture p b) (read cells.pool p b) (settled o g p b)
       bits' (InRun c w) b a u = eased (InRun c w) b (live (settled o g) g.geo g'.runs (InRun c w)) (blank (with_runs (sights k).hold dirty) (InRun c w)) (
-          λ al. ⊎_elim (λ (y : becoming h dirty c ≡ true). λ _ _. let m = becomes_made c y in at_bitmap c w b m (bare c w (becoming h dirty c || g.runs c) m al))
-              (λ (y : becoming h dirty c ≡ false). u.0 (sym (ap (λ r. (r || g.runs c) && shown (settled o g) (g.geo.class c) c w) y) ∙ al)) (cases_Bool (becoming h dirty c)),
-          λ bl. let y = and_parts (w == 0) (dirty c && h.making c) bl in u.1 (and_from (w == 0) (h.making c) y.0 (not_yet c y.1).0),
-          u.2,
-          u.3,
-        )
+        λ al. ⊎_elim (λ (y : becoming h dirty c ≡ true). λ _ _. let m = becomes_made c y in at_bitmap c w b m (bare c w (becoming h dirty c || g.runs c) m al))
+            (λ (y : becoming h dirty c ≡ false). u.0 (sym (ap (λ r. (r || g.runs c) && shown (settled o g) (g.geo.class c) c w) y) ∙ al)) (cases_Bool (becoming h dirty c)),
+        λ bl. let y = and_parts (w == 0) (dirty c && h.making c) bl in u.1 (and_from (w == 0) (h.making c) y.0 (not_yet c y.1).0),
+        u.2,
+        u.3,
+      )
       bits' (InHuge c w) b a u = eased (InHuge c w) b (live (settled o g) g.geo g.runs (InHuge c w)) false u
       bits' (Descr c) b a u = eased (Descr c) b true false u
       bits' RootWord b a u = eased RootWord b true false u
@@ -449,57 +450,59 @@ module _ (sh : Shape) (L : ℕ) (o : State) (cells : Cells) (sights : ℕ → Si
         class = λ c u. put_else g.geo.class c (λ e. both_ways (own h (Big c)) u (ap (λ a. own h (Big a)) e ∙ own0));
         first = λ c j ne. inl refl;
         flies = λ j n d ne w y. y;
-      } in
-      (a, goes_on sh L o cells sights g x k ink (settled o g) cells' x' g' sights' refl a record {
-        hold = record {
-          locks = f.hold.locks;
-          reading = f.hold.reading;
-          found = λ B a. let y = f.hold.found B a in (ap (λ l. h.locked l || h.reads l) (header_same B y.1) ∙ y.0, valid_same B y.1, y.2);
-          here = λ B a. let y = f.hold.here B a in (ap h.locked (header_same B (f.hold.found B y.1).1) ∙ y.0, y.1);
-          found_here = λ B a l. f.hold.found_here B a (sym (ap h.locked (header_same B (f.hold.found B a).1)) ∙ l);
-          mine = λ B a. let y = f.hold.mine B a in (y.0, valid_same B y.1, y.2);
-          holds = f.hold.holds;
-          class = λ c i. split (eqb c c₀) (λ z. ((h.mine (Small c i) || (h.here (Small c i) || (z || h.making c))) || h.found (Small c i)) ≡ true → cond z cl (h.class c) ≡ cond z cl (g.geo.class c)) (λ _ _. refl) (λ _ a. f.hold.class c i a);
-          span = f.hold.span;
-          first = f.hold.first;
-          zone = f.hold.zone;
-          making = λ c. split (eqb c c₀) (λ z. (z || h.making c) ≡ true → (h.mine (Big c) ≡ true) × (cond z cl (cells.descr c) ≡ cond z cl (g.geo.class c)) × (1 ≤ cond z cl (g.geo.class c)) × (0 < blocks_of (cond z cl (g.geo.class c))) × (h.span c ≡ 1))
-              (λ e _. let s = eqb-true c c₀ e in (ap (λ a. h.mine (Big a)) s ∙ q.own_, refl, q.some_, q.blocks, ap h.span s ∙ q.one)) (λ _ a. f.hold.making c a);
-          free = f.hold.free;
-          seen = λ c n. split (eqb c c₀) (λ z. cond z cl (h.class c) ≡ suc n → cond z cl (cells.descr c) ≡ suc n) (λ _ e. e) (λ _ e. f.hold.seen c n e);
-        };
-        bits = λ p b a. subst (λ m. BitFits (live (settled o g) g'.geo g.runs p) (blank (with_mark h c₀ cl) p) (is_decided (sights k).phase) (left (sights k).phase p b) ((sights k).logged p) (latest (sights k).call.entries p b) ((sights k).picture p b) m (settled o g p b)) (sym (read_same p b)) (bits' p b a);
-        picture = λ p b s y e. read_same p b ∙ f.picture p b (sees_same p b s) y e;
-        turns = turns';
-        call = f.call;
-        reach = λ p b y. reach' p b y (f.reach p b y);
-        plain = λ p b y. plain' p b y (f.plain p b y);
-        logged = λ p b u y. let z = logged_diff p b u y in let w = f.logged p b u y in (reach' p b z w.0, plain' p b z w.1);
-        stored = f.stored;
-        fresh = f.fresh;
-        sizes = sizes';
-        born = λ y. absurd (both_ways (in_flight (sights k).phase) flight y);
-        guarded = λ y. absurd (both_ways (in_flight (sights k).phase) flight y);
-        soiled = λ p b y. let z = q.fewer p b y in soiled' p b z.1 (f.soiled p b z.0);
-      } record {
-        gone = λ p b a u l. read_same p b ∙ gone' p b a u;
-        back = back';
-        made = λ c. split (eqb c c₀) (λ z. (z || h.making c) ≡ false → ((j : ℕ) → j ≢ k → (sights j).hold.making c ≡ false) → cond z cl (cells.descr c) ≡ cond (g.runs c) (cond z cl (g.geo.class c)) 0) (λ _ u. absurd (both_ways true u refl)) (λ _ u w. same_made sh L o cells sights g x k ink (sights k) (λ d. refl) c u w);
-        occ = occ';
-        geo = record {
-          twice = x.geo.twice;
-          classes = λ c r. split (eqb c c₀) (λ z. (1 ≤ cond z cl (g.geo.class c)) × (0 < blocks_of (cond z cl (g.geo.class c)))) (λ _. (q.some_, q.blocks)) (λ _. x.geo.classes c r);
-          shape = x.geo.shape;
-          head = x.geo.head;
-          huge = x.geo.huge;
-          zeros = x.geo.zeros;
-          in_zone = x.geo.in_zone;
-          within = λ c i y. valid_same (Small c i) (x.geo.within c i y);
-        };
-        alone = x.alone;
-        counter = x.counter;
-        flying = still_flying sh L o cells sights g x k ink x' (λ n y. y);
-      } t)
+      } in (
+        a,
+        goes_on sh L o cells sights g x k ink (settled o g) cells' x' g' sights' refl a record {
+          hold = record {
+            locks = f.hold.locks;
+            reading = f.hold.reading;
+            found = λ B a. let y = f.hold.found B a in (ap (λ l. h.locked l || h.reads l) (header_same B y.1) ∙ y.0, valid_same B y.1, y.2);
+            here = λ B a. let y = f.hold.here B a in (ap h.locked (header_same B (f.hold.found B y.1).1) ∙ y.0, y.1);
+            found_here = λ B a l. f.hold.found_here B a (sym (ap h.locked (header_same B (f.hold.found B a).1)) ∙ l);
+            mine = λ B a. let y = f.hold.mine B a in (y.0, valid_same B y.1, y.2);
+            holds = f.hold.holds;
+            class = λ c i. split (eqb c c₀) (λ z. ((h.mine (Small c i) || (h.here (Small c i) || (z || h.making c))) || h.found (Small c i)) ≡ true → cond z cl (h.class c) ≡ cond z cl (g.geo.class c)) (λ _ _. refl) (λ _ a. f.hold.class c i a);
+            span = f.hold.span;
+            first = f.hold.first;
+            zone = f.hold.zone;
+            making = λ c. split (eqb c c₀) (λ z. (z || h.making c) ≡ true → (h.mine (Big c) ≡ true) × (cond z cl (cells.descr c) ≡ cond z cl (g.geo.class c)) × (1 ≤ cond z cl (g.geo.class c)) × (0 < blocks_of (cond z cl (g.geo.class c))) × (h.span c ≡ 1))
+                (λ e _. let s = eqb-true c c₀ e in (ap (λ a. h.mine (Big a)) s ∙ q.own_, refl, q.some_, q.blocks, ap h.span s ∙ q.one)) (λ _ a. f.hold.making c a);
+            free = f.hold.free;
+            seen = λ c n. split (eqb c c₀) (λ z. cond z cl (h.class c) ≡ suc n → cond z cl (cells.descr c) ≡ suc n) (λ _ e. e) (λ _ e. f.hold.seen c n e);
+          };
+          bits = λ p b a. subst (λ m. BitFits (live (settled o g) g'.geo g.runs p) (blank (with_mark h c₀ cl) p) (is_decided (sights k).phase) (left (sights k).phase p b) ((sights k).logged p) (latest (sights k).call.entries p b) ((sights k).picture p b) m (settled o g p b)) (sym (read_same p b)) (bits' p b a);
+          picture = λ p b s y e. read_same p b ∙ f.picture p b (sees_same p b s) y e;
+          turns = turns';
+          call = f.call;
+          reach = λ p b y. reach' p b y (f.reach p b y);
+          plain = λ p b y. plain' p b y (f.plain p b y);
+          logged = λ p b u y. let z = logged_diff p b u y in let w = f.logged p b u y in (reach' p b z w.0, plain' p b z w.1);
+          stored = f.stored;
+          fresh = f.fresh;
+          sizes = sizes';
+          born = λ y. absurd (both_ways (in_flight (sights k).phase) flight y);
+          guarded = λ y. absurd (both_ways (in_flight (sights k).phase) flight y);
+          soiled = λ p b y. let z = q.fewer p b y in soiled' p b z.1 (f.soiled p b z.0);
+        } record {
+          gone = λ p b a u l. read_same p b ∙ gone' p b a u;
+          back = back';
+          made = λ c. split (eqb c c₀) (λ z. (z || h.making c) ≡ false → ((j : ℕ) → j ≢ k → (sights j).hold.making c ≡ false) → cond z cl (cells.descr c) ≡ cond (g.runs c) (cond z cl (g.geo.class c)) 0) (λ _ u. absurd (both_ways true u refl)) (λ _ u w. same_made sh L o cells sights g x k ink (sights k) (λ d. refl) c u w);
+          occ = occ';
+          geo = record {
+            twice = x.geo.twice;
+            classes = λ c r. split (eqb c c₀) (λ z. (1 ≤ cond z cl (g.geo.class c)) × (0 < blocks_of (cond z cl (g.geo.class c)))) (λ _. (q.some_, q.blocks)) (λ _. x.geo.classes c r);
+            shape = x.geo.shape;
+            head = x.geo.head;
+            huge = x.geo.huge;
+            zeros = x.geo.zeros;
+            in_zone = x.geo.in_zone;
+            within = λ c i y. valid_same (Small c i) (x.geo.within c i y);
+          };
+          alone = x.alone;
+          counter = x.counter;
+          flying = still_flying sh L o cells sights g x k ink x' (λ n y. y);
+        } t,
+      )
     where
       h : Hold
       h = (sights k).hold

@@ -1,28 +1,24 @@
 -- Bits of chunks of a zone, at the world: they are got, and the chunks are one claim of the lane's.
-use Rattle.std.specs.Prelude.{[], ◌∷◌, List, bit_and, bit_or, ◌↔◌}
+use Rattle.std.specs.Prelude.{◌∷◌, List, bit_and, bit_or, ◌↔◌}
 use Rattle.std.specs.Int.{bit_at}
-use Rattle.std.specs.Option.{option_map}
-use Rattle.std.proofs.Common.{◌≡◌, ◌≢◌, ℕ, zero, suc, ◌+◌, ◌-◌, ◌*◌, ◌/◌, ◌%◌, ◌^◌, ◌<◌, ◌≤◌, ◌⊎◌, inl, inr, ⊎_elim, nat_le, nat_lt, Bool, true, false, cond, not, eqb, ◌==◌, ◌&&◌, ◌||◌, refl, sym, ap, ◌∙◌, subst, arith, eq-eqb, ne_eqb, Option, None, Some}
-use Rattle.std.proofs.lemmas.Bool.{cases_eq, cases_lt, cases_Bool, both_ways, eqb-true, leb-true, ltb-true, lt-ltb, and_parts, and_from, and_left, and_right, or_parts, not_from_false, cond-true, cond-false, false_from_ne_true}
-use Rattle.pm_layout.specs.declared.shape.Shape.{Shape}
-use Rattle.pm_layout.specs.Chunks.{chunks_of, page_of_chunk, word_of_chunk}
-use Rattle.pm_view.specs.declared.occ.Occ.{Occ}
-use Rattle.pm_view.specs.declared.occ.Occ.TheVariants.{Run, Zone}
+use Rattle.std.proofs.Common.{◌≡◌, ◌≢◌, ℕ, zero, suc, ◌+◌, ◌*◌, ◌/◌, ◌%◌, ◌<◌, ◌≤◌, ◌⊎◌, inl, inr, ⊎_elim, nat_le, nat_lt, Bool, true, false, cond, not, ◌==◌, ◌&&◌, ◌||◌, refl, sym, ap, ◌∙◌, subst, arith, eq-eqb, ne_eqb, Option, None, Some}
+use Rattle.std.proofs.lemmas.Bool.{cases_eq, cases_lt, cases_Bool, both_ways, eqb-true, ltb-true, lt-ltb, and_parts, and_from, and_left, or_parts, not_from_false, cond-true, cond-false, false_from_ne_true}
+use Rattle.pm_layout.specs.Chunks.{chunks_of, word_of_chunk}
+use Rattle.pm_view.specs.declared.occ.Occ.TheVariants.{Zone}
 use Rattle.pm_view.specs.Places.{Place, InRun, InHuge, Descr, RootWord, Block, Small, Big, Root, part, block_of, in_span, is_data, same, word_of}
 use Rattle.pm_view.specs.Entries.{latest, redos, turn}
 use Rattle.pm_view.specs.Parts.{chunk_place, place_in}
-use Rattle.pm_view.specs.Claims.{Claim, Reserved, class, mine, first, first_by, geometry, block_in, passes, is_block_of, is_new_by, pictured, lowest, ones}
+use Rattle.pm_view.specs.Claims.{Claim, Reserved, class, mine, first, geometry, block_in, passes, is_block_of, is_new_by, pictured, lowest, ones}
 use Rattle.pm_view.specs.Founds.{Found}
 use Rattle.pm_view.specs.Steps.Step.{Occupy}
-use Rattle.pm_view.specs.View.{View, Seen}
 use Rattle.pm_view.specs.Views.{after, occupancy_of}
 use Rattle.pm_world.specs.States.{State, Diff, given, there, claimed, put1, Cells}
 use Rattle.pm_world.specs.Sights.{Sight, is_pictured, is_made, is_recorded, picture, fresh, sight_of}
-use Rattle.pm_world.specs.Lanes.{own, owns, valid, has, Flies, is_occupancy, Bits}
+use Rattle.pm_world.specs.Lanes.{own, owns, Flies, is_occupancy, Bits}
 use Rattle.pm_world.specs.Lawful.{IsLawful}
 use Rattle.pm_world.specs.Moves.{Moves}
 use Rattle.pm_world.specs.Course.{past_after}
-use Rattle.pm_world.specs.Memory.{Memory, RunWord, ZoneWord, occ_at, bit, occupancy_bit, cells_of}
+use Rattle.pm_world.specs.Memory.{Memory, RunWord, ZoneWord, bit, occupancy_bit, cells_of}
 use Rattle.pm_world.specs.World.{Opening, Views, Past, origin, ghost_of, settled_words, LaneFits, World}
 use Rattle.pm_world.specs.Laws.{Turn, Keeps}
 use Rattle.pm_world.proofs.Cells.{cells_zone}
@@ -30,8 +26,8 @@ use Rattle.pm_world.proofs.Frame.{Around, fresh_given, own_has, small_cases, mak
 use Rattle.pm_world.proofs.Going.{Turned}
 use Rattle.pm_world.proofs.Replays.{put1_here, put1_else}
 use Rattle.pm_world.proofs.Worlds.{turned}
-use Rattle.pm_world.proofs.Occupies.{with_claim, ghost_with_claim, first', chunks_of_new, none_in, none_f, free_chunk, blocks_stay, owns_more, PicturedClaim, occupies_chunks}
-use Rattle.pm_world.proofs.OccWorlds.{data_owned, early_undecided, OwesOcc, occ_world}
+use Rattle.pm_world.proofs.Occupies.{with_claim, ghost_with_claim, chunks_of_new, none_in, none_f, free_chunk, blocks_stay, owns_more, PicturedClaim, occupies_chunks}
+use Rattle.pm_world.proofs.OccWorlds.{data_owned, early_undecided, occ_world}
 use Rattle.pm_world.proofs.WordPlaces.{chunk_part, no_part, or_bit, clear_bit}
 use Rattle.pm_world.proofs.RowBits.{lowest_row, ones_row, row_bit, zone_row}
 use Rattle.pm_world.proofs.StepOccupies.{less_known, none_known, same_known, known_less, none_some, occ_known, if_some}
@@ -205,8 +201,10 @@ module _ (o : Opening) (mem new : Memory) (views views' : Views) (g : Past) (x :
   fresh_same : (p : Place) (b : ℕ) → fresh (views k).fixed.shape (Reserved (Zone zone) bits ∷ (views k).claims) (views k).log p b ≡ (sights k).call.fresh p b
   fresh_same (InRun d u) b = same_place_fresh (InRun d u) b (block_of (geometry (views k).fixed.shape (views k).claims) (InRun d u) b) (block_of (geometry (views k).fixed.shape (Reserved (Zone zone) bits ∷ (views k).claims)) (InRun d u) b) (inl refl) (λ y. pic.else_ (InRun d u) b (owned_fresh (InRun d u) b y))
   fresh_same (InHuge d u) b = same_place_fresh (InHuge d u) b (block_of (geometry (views k).fixed.shape (views k).claims) (InHuge d u) b) (block_of (geometry (views k).fixed.shape (Reserved (Zone zone) bits ∷ (views k).claims)) (InHuge d u) b)
-      (⊎_elim (λ (s : in_span f₀ n d ≡ true). inr (none_known (is_pictured (InHuge d u)) (newly (InHuge d u)) (word_known (InHuge d u)) (λ m. bit_at m b == 1) (λ e. newly_here d u (ltb-true u 512 e) s),
-      false_from_ne_true (given ((sights k).call.fresh (InHuge d u) b)) (λ y. both_ways (own (sights k).hold (Big (g.geo.first d))) ((nothing_in d s).0 k) (owned_fresh (InHuge d u) b y))))
+      (⊎_elim (λ (s : in_span f₀ n d ≡ true). inr (
+        none_known (is_pictured (InHuge d u)) (newly (InHuge d u)) (word_known (InHuge d u)) (λ m. bit_at m b == 1) (λ e. newly_here d u (ltb-true u 512 e) s),
+        false_from_ne_true (given ((sights k).call.fresh (InHuge d u) b)) (λ y. both_ways (own (sights k).hold (Big (g.geo.first d))) ((nothing_in d s).0 k) (owned_fresh (InHuge d u) b y)),
+      ))
       (λ (s : in_span f₀ n d ≡ false). inl (ap (λ a. Big a) (cond-false ((d / 64 == zone) && (bit_at bits (d % 64) == 1)) f₀ (first (views k).fixed.shape (views k).claims d) (hit d ∙ s)))) (cases_Bool (in_span f₀ n d))) (λ y. pic.else_ (InHuge d u) b (owned_fresh (InHuge d u) b y))
   fresh_same (Descr d) b = refl
   fresh_same RootWord b = refl
@@ -233,21 +231,22 @@ module _ (o : Opening) (mem new : Memory) (views views' : Views) (g : Past) (x :
   pub occupy_chunks : World o new views' (past_after g (views k) (Occupy (Zone zone) bits true)) × Found (views k) (Occupy (Zone zone) bits true)
   occupy_chunks = let un = early_undecided (views k).log.phase law.allowed.early in
       let step = occupies_chunks o.shape o.lanes (origin o) cells sights (ghost_of g) x.bits k ink f₀ n some_ got got_is found (let r = room in omega arith) un.0 un.1 occ' (λ c i in_. refl) occ_big pc pic (λ j. sight_of (views' j))
-          (subst (λ z. Turned sights (λ j. sight_of (views' j)) k z) sight_is (turned views views' k (after (views k) (Occupy (Zone zone) bits true)) t)) in
+      (subst (λ z. Turned sights (λ j. sight_of (views' j)) k z) sight_is (turned views views' k (after (views k) (Occupy (Zone zone) bits true)) t)) in
       let to : cells_of o.shape new ≡ record cells { occ = occ' } = cells_zone o.shape mem new zone y moves.0 in
-      let lane : suc k ≡ suc (views k).fixed.lane = ap suc (sym fl.lane) in
-      (occ_world o mem new views views' g x k ink (Zone zone) y moves.0 (Reserved (Zone zone) bits ∷ (views k).claims) (after (views k) (Occupy (Zone zone) bits true)).occupancy (Occupy (Zone zone) bits true ∷ (views k).seen) (claimed g.geo f₀ n)
-      (λ B. cond (is_block_of (views k).fixed.shape (Zone zone) bits B) (suc (views k).fixed.lane) (g.holder B)) record {
-        early = law.allowed.early;
-        olds = λ p b q a. subst (λ z. owns (claimed g.geo f₀ n) S z.hold p b ≡ true) (sym sight_is) (owns_more o.shape o.lanes (origin o) cells sights (ghost_of g) x.bits k ink f₀ n some_ got got_is found p b a);
-        recorded = λ p b q y z. (subst (λ B. (sights k).hold.here B ≡ true) (sym (blocks_stay o.shape o.lanes (origin o) cells sights (ghost_of g) x.bits k ink f₀ n some_ got got_is found p b (data_owned (sights k).hold g.geo S p b q y))) y, ap given (pic.else_ p b (data_owned (sights k).hold g.geo S p b q y)) ∙ z);
-        words = λ w z e. known_less (is_new_by (views k).fixed.shape (views k).claims (Zone zone) bits w) (pictured (views k).fixed.shape (views k).claims w) z e;
-        occs = λ one other z e. occ_known (Zone zone) (λ m. bit_or m bits) mem new refl moves.0 (views k).occupancy (fl.alone one).occupancy other z e;
-        draws = refl;
-      }
-      (subst (λ m. Around k (sights k).hold (λ j. (sights j).hold) cells (cells_of o.shape new) S S (ghost_of g) (record (ghost_of g) { geo = claimed g.geo f₀ n; holder = λ B. cond (got B) m (g.holder B) })) lane (subst (λ z. Around k (sights k).hold (λ j. (sights j).hold) cells z S S (ghost_of g) (ghost_with_claim k (ghost_of g) got f₀ n)) (sym to) step.0))
-      (subst (λ m. Bits o.shape o.lanes (origin o) (cells_of o.shape new) (λ j. sight_of (views' j)) (record (ghost_of g) { geo = claimed g.geo f₀ n; holder = λ B. cond (got B) m (g.holder B) })) lane (subst (λ z. Bits o.shape o.lanes (origin o) z (λ j. sight_of (views' j)) (ghost_with_claim k (ghost_of g) got f₀ n)) (sym to) step.1)) t,
-      λ one. if_some (occupancy_of (views k).occupancy (Zone zone)) (λ z. (true ≡ true) ↔ (bit_and z bits ≡ 0)) (λ z e. let w = ((fl.alone (sym fl.lanes ∙ eqb-true (views k).fixed.lanes 1 one)).occupancy (Zone zone) z e).0 in (λ q. ap (λ m. bit_and m bits) (sym w) ∙ moves.1, λ q. refl)))
+      let lane : suc k ≡ suc (views k).fixed.lane = ap suc (sym fl.lane) in (
+        occ_world o mem new views views' g x k ink (Zone zone) y moves.0 (Reserved (Zone zone) bits ∷ (views k).claims) (after (views k) (Occupy (Zone zone) bits true)).occupancy (Occupy (Zone zone) bits true ∷ (views k).seen) (claimed g.geo f₀ n)
+            (λ B. cond (is_block_of (views k).fixed.shape (Zone zone) bits B) (suc (views k).fixed.lane) (g.holder B)) record {
+              early = law.allowed.early;
+              olds = λ p b q a. subst (λ z. owns (claimed g.geo f₀ n) S z.hold p b ≡ true) (sym sight_is) (owns_more o.shape o.lanes (origin o) cells sights (ghost_of g) x.bits k ink f₀ n some_ got got_is found p b a);
+              recorded = λ p b q y z. (subst (λ B. (sights k).hold.here B ≡ true) (sym (blocks_stay o.shape o.lanes (origin o) cells sights (ghost_of g) x.bits k ink f₀ n some_ got got_is found p b (data_owned (sights k).hold g.geo S p b q y))) y, ap given (pic.else_ p b (data_owned (sights k).hold g.geo S p b q y)) ∙ z);
+              words = λ w z e. known_less (is_new_by (views k).fixed.shape (views k).claims (Zone zone) bits w) (pictured (views k).fixed.shape (views k).claims w) z e;
+              occs = λ one other z e. occ_known (Zone zone) (λ m. bit_or m bits) mem new refl moves.0 (views k).occupancy (fl.alone one).occupancy other z e;
+              draws = refl;
+            }
+            (subst (λ m. Around k (sights k).hold (λ j. (sights j).hold) cells (cells_of o.shape new) S S (ghost_of g) (record (ghost_of g) { geo = claimed g.geo f₀ n; holder = λ B. cond (got B) m (g.holder B) })) lane (subst (λ z. Around k (sights k).hold (λ j. (sights j).hold) cells z S S (ghost_of g) (ghost_with_claim k (ghost_of g) got f₀ n)) (sym to) step.0))
+            (subst (λ m. Bits o.shape o.lanes (origin o) (cells_of o.shape new) (λ j. sight_of (views' j)) (record (ghost_of g) { geo = claimed g.geo f₀ n; holder = λ B. cond (got B) m (g.holder B) })) lane (subst (λ z. Bits o.shape o.lanes (origin o) z (λ j. sight_of (views' j)) (ghost_with_claim k (ghost_of g) got f₀ n)) (sym to) step.1)) t,
+        λ one. if_some (occupancy_of (views k).occupancy (Zone zone)) (λ z. (true ≡ true) ↔ (bit_and z bits ≡ 0)) (λ z e. let w = ((fl.alone (sym fl.lanes ∙ eqb-true (views k).fixed.lanes 1 one)).occupancy (Zone zone) z e).0 in (λ q. ap (λ m. bit_and m bits) (sym w) ∙ moves.1, λ q. refl)),
+      )
 
 pub occupy_chunks_keeps : (zone bits : ℕ) → Keeps (Occupy (Zone zone) bits true)
 occupy_chunks_keeps zone bits o mem new views views' g k x ink law moves t = occupy_chunks o mem new views views' g x k ink zone bits law moves t

@@ -1,16 +1,15 @@
 -- A drain keeps the world, as far as the log's going on does.
 use Rattle.std.specs.Prelude.{[], ◌∷◌, List}
-use Rattle.std.proofs.Common.{◌≡◌, ◌≢◌, ℕ, suc, ◌+◌, ◌<◌, ⊎_elim, ◌⊎◌, Bool, true, false, cond, eqb, ◌==◌, refl, sym, ap, ◌∙◌, subst, eq-eqb, ne_eqb}
+use Rattle.std.proofs.Common.{◌≡◌, ◌≢◌, ℕ, ◌+◌, ⊎_elim, cond, ◌==◌, refl, sym, ap, ◌∙◌, subst, eq-eqb, ne_eqb}
 use Rattle.std.proofs.lemmas.Bool.{cases_eq, cond-true, cond-false}
 use Rattle.pm_view.specs.Changes.{Undrained, drained}
 use Rattle.pm_view.specs.Claims.{Drained}
 use Rattle.pm_view.specs.Log.{Phase, Idle, Open, Drawn, Sealing, Applying, Clearing, Retiring, Voiding, log_drained}
 use Rattle.pm_view.specs.Steps.Step.{Drain}
 use Rattle.pm_view.specs.View.{View}
-use Rattle.pm_view.specs.Views.{after, drained_to, decided_by}
+use Rattle.pm_view.specs.Views.{drained_to, decided_by}
 use Rattle.pm_world.specs.Course.{past_made, past_decided, past_drained}
-use Rattle.pm_world.specs.Memory.{Memory}
-use Rattle.pm_world.specs.World.{Opening, Views, Past, World}
+use Rattle.pm_world.specs.World.{Views, Past, World}
 use Rattle.pm_world.specs.Laws.{Turn, Keeps}
 use Rattle.pm_world.proofs.Stores.{drops, goes_on_to, GoesOnAt}
 use Rattle.pm_world.proofs.StepDrops.{dropped_world}

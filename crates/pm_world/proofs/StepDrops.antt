@@ -1,8 +1,8 @@
 -- A drain drops flushed changes and makes chunks runs, at the world.
-use Rattle.std.specs.Prelude.{[], ◌∷◌, List, All, length, IsSomeAnd}
+use Rattle.std.specs.Prelude.{[], ◌∷◌, List, length, IsSomeAnd}
 use Rattle.std.specs.List.{filter, list_any}
-use Rattle.std.proofs.Common.{◌≡◌, ◌≢◌, ℕ, zero, suc, ◌+◌, ◌^◌, ◌<◌, ◌≤◌, ◌⊎◌, inl, inr, ⊎_elim, nat_lt, Bool, true, false, cond, not, eqb, ◌==◌, ◌&&◌, ◌||◌, refl, sym, ap, ◌∙◌, subst, arith, Option, None, Some}
-use Rattle.std.proofs.lemmas.Bool.{cases_Bool, both_ways, eqb-true, and_parts, and_from, and_left, or_cases, or_left, or_right, or_from, or_parts, not-true, not_from_false, cond-true, false_from_ne_true, true_from_ne_false}
+use Rattle.std.proofs.Common.{◌≡◌, ℕ, suc, ◌+◌, ◌^◌, ◌<◌, ◌≤◌, inl, inr, ⊎_elim, nat_lt, Bool, true, false, cond, not, ◌==◌, ◌&&◌, ◌||◌, refl, sym, ap, ◌∙◌, subst, arith, Option, None, Some}
+use Rattle.std.proofs.lemmas.Bool.{both_ways, eqb-true, and_parts, and_from, or_cases, or_left, or_right, not-true, not_from_false, cond-true, false_from_ne_true}
 use Rattle.std.proofs.lemmas.List.Elements.{All-filter}
 use Rattle.pm_layout.specs.declared.shape.Shape.{Shape}
 use Rattle.pm_layout.specs.Areas.{line_of_slot}
@@ -14,18 +14,17 @@ use Rattle.pm_view.specs.Counts.{MayCount, IsAtStop}
 use Rattle.pm_view.specs.Places.{Place, InRun, InHuge, Descr, RootWord, Block, Small, Big, Root, block_of, is_data, word_of}
 use Rattle.pm_view.specs.Entries.{latest, redos, turn, first_of_two}
 use Rattle.pm_view.specs.Log.{Phase, Idle, Open, Drawn, Sealing, Applying, Clearing, Retiring, Voiding, Log, Recorded, old_in, old_of}
-use Rattle.pm_view.specs.Claims.{Claim, Drained, mine, geometry}
-use Rattle.pm_view.specs.View.{View}
+use Rattle.pm_view.specs.Claims.{Drained, mine, geometry}
 use Rattle.pm_world.specs.States.{State, Diff, given, there, Cells}
-use Rattle.pm_world.specs.Sights.{Hold, Sight, hold_of, is_made, is_recorded, is_slot_drained, is_logged_from, is_logged, is_use, is_soiled, sight_of}
-use Rattle.pm_world.specs.Lanes.{Ghost, own, owns, is_decided, is_in_making, Flies, SightFits, Bits}
+use Rattle.pm_world.specs.Sights.{Sight, hold_of, is_made, is_recorded, is_slot_drained, is_logged_from, is_logged, is_use, is_soiled, sight_of}
+use Rattle.pm_world.specs.Lanes.{owns, is_decided, is_in_making, Flies, SightFits, Bits}
 use Rattle.pm_world.specs.Logs.{PhaseFits}
 use Rattle.pm_world.specs.Course.{holder_made, past_made}
 use Rattle.pm_world.specs.Memory.{Memory, CommitCounter, cells_of}
-use Rattle.pm_world.specs.World.{Opening, Views, Past, origin, ghost_of, settled_words, may_draw_count, LaneFits, World}
+use Rattle.pm_world.specs.World.{Opening, Views, Past, origin, ghost_of, settled_words, LaneFits, World}
 use Rattle.pm_world.specs.Laws.{Turn}
 use Rattle.pm_world.proofs.Counting.{count_same}
-use Rattle.pm_world.proofs.Frame.{Around, maker_no_run, small_run}
+use Rattle.pm_world.proofs.Frame.{Around, maker_no_run}
 use Rattle.pm_world.proofs.Going.{Turned}
 use Rattle.pm_world.proofs.Worlds.{turned, world_after, stops_stay}
 use Rattle.pm_world.proofs.OccWorlds.{data_owned}

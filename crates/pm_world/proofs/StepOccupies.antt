@@ -2,9 +2,8 @@
 use Rattle.std.specs.Prelude.{[], ◌∷◌, List, bit_and, bit_or, unwrap_or, ◌↔◌}
 use Rattle.std.specs.Int.{bit_at}
 use Rattle.std.specs.Option.{option_map}
-use Rattle.std.proofs.Common.{◌≡◌, ◌≢◌, ℕ, zero, suc, ◌+◌, ◌-◌, ◌*◌, ◌/◌, ◌%◌, ◌<◌, ◌≤◌, ◌⊎◌, inl, inr, ⊎_elim, nat_le, nat_lt, Bool, true, false, cond, not, eqb, ◌==◌, ◌&&◌, ◌||◌, refl, sym, ap, ◌∙◌, subst, arith, eq-eqb, ne_eqb, Option, None, Some}
+use Rattle.std.proofs.Common.{◌≡◌, ◌≢◌, ℕ, zero, suc, ◌+◌, ◌-◌, ◌/◌, ◌%◌, ◌<◌, ◌≤◌, ⊎_elim, nat_le, nat_lt, Bool, true, false, cond, not, eqb, ◌==◌, ◌&&◌, ◌||◌, refl, sym, ap, ◌∙◌, subst, arith, eq-eqb, ne_eqb, Option, None, Some}
 use Rattle.std.proofs.lemmas.Bool.{cases_eq, cases_lt, cases_Bool, both_ways, eqb-true, leb-true, ltb-true, lt-ltb, and_parts, and_from, and_left, or_parts, not_from_false, cond-true, cond-false, false_from_ne_true}
-use Rattle.pm_layout.specs.declared.shape.Shape.{Shape}
 use Rattle.pm_layout.specs.Sizes.{blocks_of}
 use Rattle.pm_layout.specs.Chunks.{chunks_of, page_of_chunk, word_of_chunk}
 use Rattle.pm_view.specs.declared.occ.Occ.{Occ}
@@ -16,15 +15,15 @@ use Rattle.pm_view.specs.Claims.{Claim, Reserved, class, mine, geometry, block_i
 use Rattle.pm_view.specs.Founds.{Found}
 use Rattle.pm_view.specs.Steps.Step.{Occupied, Occupy}
 use Rattle.pm_view.specs.View.{View, Seen}
-use Rattle.pm_view.specs.Views.{after, is_same_occ, with_seen_at, occupancy_of, occupancy_with}
+use Rattle.pm_view.specs.Views.{after, is_same_occ, occupancy_of, occupancy_with}
 use Rattle.pm_world.specs.States.{State, Diff, given, there, put1, Cells}
 use Rattle.pm_world.specs.Sights.{Sight, is_pictured, is_made, is_recorded, picture, fresh, sight_of}
 use Rattle.pm_world.specs.Lanes.{own, owns, valid, Flies, is_occupancy, Bits}
 use Rattle.pm_world.specs.Lawful.{HasOcc, IsLawful}
 use Rattle.pm_world.specs.Moves.{Moves}
 use Rattle.pm_world.specs.Course.{past_after}
-use Rattle.pm_world.specs.Memory.{Memory, Location, RunWord, ZoneWord, Becomes, occ_at, bit, occupancy_bit, cells_of}
-use Rattle.pm_world.specs.World.{Opening, Views, Past, origin, ghost_of, settled_words, is_at_page, AloneFits, LaneFits, World}
+use Rattle.pm_world.specs.Memory.{Memory, RunWord, ZoneWord, Becomes, occ_at, bit, occupancy_bit, cells_of}
+use Rattle.pm_world.specs.World.{Opening, Views, Past, origin, ghost_of, settled_words, is_at_page, LaneFits, World}
 use Rattle.pm_world.specs.Laws.{Turn, Keeps}
 use Rattle.pm_world.proofs.Cells.{sort, number, cells_run}
 use Rattle.pm_world.proofs.Frame.{Around, fresh_given, no_run}
@@ -32,7 +31,7 @@ use Rattle.pm_world.proofs.Going.{Turned}
 use Rattle.pm_world.proofs.Replays.{put1_here, put1_else}
 use Rattle.pm_world.proofs.Worlds.{turned}
 use Rattle.pm_world.proofs.Occupies.{with_mine, more_owned, free_block, nobody, class_known, Pictured, occupies_small}
-use Rattle.pm_world.proofs.OccWorlds.{data_owned, early_undecided, OwesOcc, occ_world}
+use Rattle.pm_world.proofs.OccWorlds.{data_owned, early_undecided, occ_world}
 use Rattle.pm_world.proofs.WordPlaces.{chunk_part, no_part, run_chunk_is, page_apart, pow_bit, or_bit, clear_bit}
 use Rattle.pm_world.proofs.StepPlain.{plain_step, lane_told}
 
@@ -56,9 +55,10 @@ if_some (Some x) P u = u x refl
 
 -- a look at an occupancy word is of its value
 pub occupied : (at : Occ) (found : ℕ) → Keeps (Occupied at found)
-occupied at found o mem new views views' g k x ink law moves t = let f = x.each_lane k ink in let v = after (views k) (Occupied at found) in
-    (plain_step o mem new views views' g x k ink moves.0 v t refl refl (λ e. e) record { lane = f.lane; shape = f.shape; lanes = f.lanes; log = f.log; recorded = f.recorded; number = f.number; zones = f.zones; masks = f.masks; room = f.room; within = f.within; alone = λ one. record { words = (f.alone one).words; occupancy = λ other y e. seen (f.alone one).occupancy other y e }; entries = f.entries },
-    λ one. if_some (occupancy_of (views k).occupancy at) (λ y. found ≡ y) (λ y e. moves.1 ∙ ((f.alone (sym f.lanes ∙ eqb-true (views k).fixed.lanes 1 one)).occupancy at y e).0))
+occupied at found o mem new views views' g k x ink law moves t = let f = x.each_lane k ink in let v = after (views k) (Occupied at found) in (
+  plain_step o mem new views views' g x k ink moves.0 v t refl refl (λ e. e) record { lane = f.lane; shape = f.shape; lanes = f.lanes; log = f.log; recorded = f.recorded; number = f.number; zones = f.zones; masks = f.masks; room = f.room; within = f.within; alone = λ one. record { words = (f.alone one).words; occupancy = λ other y e. seen (f.alone one).occupancy other y e }; entries = f.entries },
+  λ one. if_some (occupancy_of (views k).occupancy at) (λ y. found ≡ y) (λ y e. moves.1 ∙ ((f.alone (sym f.lanes ∙ eqb-true (views k).fixed.lanes 1 one)).occupancy at y e).0),
+)
   where
     seen : ((other : Occ) (y : ℕ) → occupancy_of (views k).occupancy other ≡ Some y → (mem (occ_at other) ≡ y) × (is_at_page other ≡ true)) → (other : Occ) (y : ℕ) → cond (is_same_occ at other) (Some found) (occupancy_of (views k).occupancy other) ≡ Some y → (mem (occ_at other) ≡ y) × (is_at_page other ≡ true)
     seen u other y e = ⊎_elim (λ (s : is_same_occ at other ≡ true). let q = same_occ at other s in (ap (λ a. mem (occ_at a)) (sym q) ∙ (sym moves.1 ∙ some_is found y (sym (cond-true (is_same_occ at other) (Some found) (occupancy_of (views k).occupancy other) s) ∙ e)), ap is_at_page (sym q) ∙ at_page (views k) at law.allowed))
@@ -66,10 +66,11 @@ occupied at found o mem new views views' g k x ink law moves t = let f = x.each_
 
 -- bits of which some are taken stay as they are
 pub occupy_lost : (at : Occ) (bits : ℕ) → Keeps (Occupy at bits false)
-occupy_lost at bits o mem new views views' g k x ink law moves t = let f = x.each_lane k ink in let v = after (views k) (Occupy at bits false) in
-    (plain_step o mem new views views' g x k ink moves.0 v t refl refl (λ e. e) (lane_told o mem g k (views k) (Occupy at bits false ∷ (views k).seen) (views k).call (views k).actions f),
-    λ one. if_some (occupancy_of (views k).occupancy at) (λ y. (false ≡ true) ↔ (bit_and y bits ≡ 0))
-        (λ y e. let w = ((f.alone (sym f.lanes ∙ eqb-true (views k).fixed.lanes 1 one)).occupancy at y e).0 in (λ q. absurd (both_ways false refl q), λ q. absurd (moves.1 (ap (λ z. bit_and z bits) w ∙ q)))))
+occupy_lost at bits o mem new views views' g k x ink law moves t = let f = x.each_lane k ink in let v = after (views k) (Occupy at bits false) in (
+  plain_step o mem new views views' g x k ink moves.0 v t refl refl (λ e. e) (lane_told o mem g k (views k) (Occupy at bits false ∷ (views k).seen) (views k).call (views k).actions f),
+  λ one. if_some (occupancy_of (views k).occupancy at) (λ y. (false ≡ true) ↔ (bit_and y bits ≡ 0))
+      (λ y e. let w = ((f.alone (sym f.lanes ∙ eqb-true (views k).fixed.lanes 1 one)).occupancy at y e).0 in (λ q. absurd (both_ways false refl q), λ q. absurd (moves.1 (ap (λ z. bit_and z bits) w ∙ q)))),
+)
 
 -- occupancy words that are one location are one
 one_occ : (at other : Occ) → is_at_page at ≡ true → is_at_page other ≡ true → occ_at at ≡ occ_at other → at ≡ other
@@ -287,21 +288,22 @@ module _ (o : Opening) (mem new : Memory) (views views' : Views) (g : Past) (x :
   pub occupy_run : World o new views' (past_after g (views k) (Occupy (Run place) bits true)) × Found (views k) (Occupy (Run place) bits true)
   occupy_run = let un = early_undecided (views k).log.phase law.allowed.early in
       let step = occupies_small o.shape o.lanes (origin o) cells sights (ghost_of g) x.bits k ink c i got got_is inside was_free known un.0 un.1 occ' occ_is pc pic (λ j. sight_of (views' j))
-          (subst (λ y. Turned sights (λ j. sight_of (views' j)) k y) sight_is (turned views views' k (after (views k) (Occupy (Run place) bits true)) t)) in
+      (subst (λ y. Turned sights (λ j. sight_of (views' j)) k y) sight_is (turned views views' k (after (views k) (Occupy (Run place) bits true)) t)) in
       let to : cells_of o.shape new ≡ record cells { occ = occ' } = cells_run o.shape mem new (place / 4096) (bit_or (mem (RunWord (place / 4096))) bits) moves.0 in
-      let lane : suc k ≡ suc (views k).fixed.lane = ap suc (sym fl.lane) in
-      (occ_world o mem new views views' g x k ink (Run place) (bit_or (mem (RunWord (place / 4096))) bits) moves.0 (Reserved (Run place) bits ∷ (views k).claims) (after (views k) (Occupy (Run place) bits true)).occupancy (Occupy (Run place) bits true ∷ (views k).seen) g.geo
-      (λ B. cond (is_block_of (views k).fixed.shape (Run place) bits B) (suc (views k).fixed.lane) (g.holder B)) record {
-        early = law.allowed.early;
-        olds = λ p b q a. more_owned g.geo S (sights k).hold got refl p b a;
-        recorded = λ p b q y z. (y, ap given (pic.else_ p b (data_owned (sights k).hold g.geo S p b q y)) ∙ z);
-        words = λ w z e. known_less (is_new_by (views k).fixed.shape (views k).claims (Run place) bits w) (pictured (views k).fixed.shape (views k).claims w) z e;
-        occs = λ one other z e. occ_known (Run place) (λ n. bit_or n bits) mem new (at_page (views k) (Run place) law.allowed.there) moves.0 (views k).occupancy (fl.alone one).occupancy other z e;
-        draws = refl;
-      }
-      (subst (λ m. Around k (sights k).hold (λ j. (sights j).hold) cells (cells_of o.shape new) S S (ghost_of g) (record (ghost_of g) { holder = λ B. cond (got B) m (g.holder B) })) lane (subst (λ y. Around k (sights k).hold (λ j. (sights j).hold) cells y S S (ghost_of g) (record (ghost_of g) { holder = λ B. cond (got B) (suc k) (g.holder B) })) (sym to) step.0))
-      (subst (λ m. Bits o.shape o.lanes (origin o) (cells_of o.shape new) (λ j. sight_of (views' j)) (record (ghost_of g) { holder = λ B. cond (got B) m (g.holder B) })) lane (subst (λ y. Bits o.shape o.lanes (origin o) y (λ j. sight_of (views' j)) (record (ghost_of g) { holder = λ B. cond (got B) (suc k) (g.holder B) })) (sym to) step.1)) t,
-      λ one. if_some (occupancy_of (views k).occupancy (Run place)) (λ y. (true ≡ true) ↔ (bit_and y bits ≡ 0)) (λ y e. let w = ((fl.alone (sym fl.lanes ∙ eqb-true (views k).fixed.lanes 1 one)).occupancy (Run place) y e).0 in (λ q. ap (λ z. bit_and z bits) (sym w) ∙ moves.1, λ q. refl)))
+      let lane : suc k ≡ suc (views k).fixed.lane = ap suc (sym fl.lane) in (
+        occ_world o mem new views views' g x k ink (Run place) (bit_or (mem (RunWord (place / 4096))) bits) moves.0 (Reserved (Run place) bits ∷ (views k).claims) (after (views k) (Occupy (Run place) bits true)).occupancy (Occupy (Run place) bits true ∷ (views k).seen) g.geo
+            (λ B. cond (is_block_of (views k).fixed.shape (Run place) bits B) (suc (views k).fixed.lane) (g.holder B)) record {
+              early = law.allowed.early;
+              olds = λ p b q a. more_owned g.geo S (sights k).hold got refl p b a;
+              recorded = λ p b q y z. (y, ap given (pic.else_ p b (data_owned (sights k).hold g.geo S p b q y)) ∙ z);
+              words = λ w z e. known_less (is_new_by (views k).fixed.shape (views k).claims (Run place) bits w) (pictured (views k).fixed.shape (views k).claims w) z e;
+              occs = λ one other z e. occ_known (Run place) (λ n. bit_or n bits) mem new (at_page (views k) (Run place) law.allowed.there) moves.0 (views k).occupancy (fl.alone one).occupancy other z e;
+              draws = refl;
+            }
+            (subst (λ m. Around k (sights k).hold (λ j. (sights j).hold) cells (cells_of o.shape new) S S (ghost_of g) (record (ghost_of g) { holder = λ B. cond (got B) m (g.holder B) })) lane (subst (λ y. Around k (sights k).hold (λ j. (sights j).hold) cells y S S (ghost_of g) (record (ghost_of g) { holder = λ B. cond (got B) (suc k) (g.holder B) })) (sym to) step.0))
+            (subst (λ m. Bits o.shape o.lanes (origin o) (cells_of o.shape new) (λ j. sight_of (views' j)) (record (ghost_of g) { holder = λ B. cond (got B) m (g.holder B) })) lane (subst (λ y. Bits o.shape o.lanes (origin o) y (λ j. sight_of (views' j)) (record (ghost_of g) { holder = λ B. cond (got B) (suc k) (g.holder B) })) (sym to) step.1)) t,
+        λ one. if_some (occupancy_of (views k).occupancy (Run place)) (λ y. (true ≡ true) ↔ (bit_and y bits ≡ 0)) (λ y e. let w = ((fl.alone (sym fl.lanes ∙ eqb-true (views k).fixed.lanes 1 one)).occupancy (Run place) y e).0 in (λ q. ap (λ z. bit_and z bits) (sym w) ∙ moves.1, λ q. refl)),
+      )
 
 pub occupy_run_keeps : (place bits : ℕ) → Keeps (Occupy (Run place) bits true)
 occupy_run_keeps place bits o mem new views views' g k x ink law moves t = occupy_run o mem new views views' g x k ink place bits law moves t

@@ -2,28 +2,25 @@
 use Rattle.std.specs.Prelude.{[], ◌∷◌, List, All, length, slice_index_or, bit_and}
 use Rattle.std.specs.Int.{bit_at, bit_not, w64}
 use Rattle.std.specs.List.{list_any}
-use Rattle.std.proofs.Common.{◌≡◌, ◌≢◌, ℕ, zero, suc, ◌+◌, ◌-◌, ◌*◌, ◌/◌, ◌%◌, ◌^◌, ◌<◌, ◌≤◌, ◌⊎◌, inl, inr, ⊎_elim, nat_le, nat_lt, Bool, true, false, cond, not, eqb, ◌==◌, ◌&&◌, ◌||◌, refl, sym, ap, ◌∙◌, subst, arith, eq-eqb, ne_eqb, Option, None, Some}
+use Rattle.std.proofs.Common.{◌≡◌, ◌≢◌, ℕ, zero, suc, ◌+◌, ◌-◌, ◌*◌, ◌/◌, ◌%◌, ◌^◌, ◌<◌, ⊎_elim, nat_le, nat_lt, Bool, true, false, cond, not, ◌==◌, ◌&&◌, ◌||◌, refl, sym, ap, ◌∙◌, subst, arith, eq-eqb, ne_eqb, Option, None, Some}
 use Rattle.std.proofs.lemmas.Bool.{cases_eq, cases_lt, cases_Bool, both_ways, eqb-true, leb-true, ltb-true, le-leb, lt-ltb, and_parts, and_from, and_left, and_right, or_cases, not_from_true, not_from_false, cond-true, cond-false, false_from_ne_true}
 use Rattle.std.proofs.lemmas.List.Folds.{list_any_none}
 use Rattle.std.proofs.lemmas.Nat.Bits.{bit_at_and, bit_at-lt}
-use Rattle.pm_layout.specs.declared.shape.Shape.{Shape}
 use Rattle.pm_layout.specs.Chunks.{chunks_of, page_of_chunk, word_of_chunk, words_of}
 use Rattle.pm_view.specs.declared.occ.Occ.{Occ}
 use Rattle.pm_view.specs.declared.occ.Occ.TheVariants.{Run, Zone}
 use Rattle.pm_view.specs.Changes.{Undrained, is_dirty_bit}
-use Rattle.pm_view.specs.Places.{Place, InRun, InHuge, Descr, RootWord, Block, Small, Big, Root, part, block_of, in_span, is_data, word_of}
+use Rattle.pm_view.specs.Places.{Place, InRun, InHuge, Descr, RootWord, Block, Small, Big, Root, part, block_of, in_span, is_data}
 use Rattle.pm_view.specs.Entries.{latest, redos, turn}
 use Rattle.pm_view.specs.Parts.{chunk_place, place_in}
-use Rattle.pm_view.specs.Log.{Phase, Idle, Open, Drawn, Sealing, Applying, Clearing, Retiring, Voiding, old_of, is_early}
-use Rattle.pm_view.specs.Claims.{Claim, Released, class, first, geometry, block_in, passes, is_among, run_chunk}
-use Rattle.pm_view.specs.Founds.{Found}
+use Rattle.pm_view.specs.Log.{Phase, Idle, Open, Drawn, Sealing, Applying, Clearing, Retiring, Voiding, is_early}
+use Rattle.pm_view.specs.Claims.{Released, class, first, geometry, block_in, passes, is_among, run_chunk}
 use Rattle.pm_view.specs.Steps.Step.{Vacate}
-use Rattle.pm_view.specs.View.{View, Seen}
-use Rattle.pm_view.specs.Views.{after, occupancy_of}
-use Rattle.pm_world.specs.States.{State, Diff, given, diff, there, put1, Cells}
+use Rattle.pm_view.specs.Views.{after}
+use Rattle.pm_world.specs.States.{State, given, diff, there, put1, Cells}
 use Rattle.pm_world.specs.Sights.{Sight, is_made, is_recorded, sight_of}
-use Rattle.pm_world.specs.Lanes.{own, owns, has, valid, atom, is_decided, open_soils, soils, Flies, SightFits, is_occupancy, Bits}
-use Rattle.pm_world.specs.Lawful.{HasOcc, IsLawful, is_in_blocks}
+use Rattle.pm_world.specs.Lanes.{atom, open_soils, soils, Flies, SightFits, is_occupancy, Bits}
+use Rattle.pm_world.specs.Lawful.{IsLawful, is_in_blocks}
 use Rattle.pm_world.specs.Moves.{Moves}
 use Rattle.pm_world.specs.Course.{past_after}
 use Rattle.pm_world.specs.Memory.{Memory, RunWord, ZoneWord, occ_at, bit, occupancy_bit, cells_of}
@@ -31,11 +28,10 @@ use Rattle.pm_world.specs.World.{Opening, Views, Past, origin, ghost_of, settled
 use Rattle.pm_world.specs.Laws.{Turn, Keeps}
 use Rattle.pm_world.proofs.Cells.{cells_run, cells_zone}
 use Rattle.pm_world.proofs.Frame.{Around, mine_own, own_has}
-use Rattle.pm_world.proofs.Going.{Turned}
 use Rattle.pm_world.proofs.Replays.{put1_here, put1_else}
 use Rattle.pm_world.proofs.Worlds.{turned}
-use Rattle.pm_world.proofs.Vacates.{without_mine, kept_owned, GivesBack, vacates}
-use Rattle.pm_world.proofs.OccWorlds.{early_undecided, OwesOcc, occ_world}
+use Rattle.pm_world.proofs.Vacates.{kept_owned, GivesBack, vacates}
+use Rattle.pm_world.proofs.OccWorlds.{early_undecided, occ_world}
 use Rattle.pm_world.proofs.WordPlaces.{chunk_part, run_chunk_is, page_apart}
 use Rattle.pm_world.proofs.StepOccupies.{part_of_data, at_page, occ_known}
 

@@ -1,15 +1,14 @@
 -- A lane gives back occupancy bits, over bits: blocks of its own that are not allocated come to be nobody's.
-use Rattle.std.proofs.Common.{◌≡◌, ◌≢◌, ℕ, zero, suc, ◌<◌, ◌≤◌, ◌⊎◌, inl, inr, ⊎_elim, nat_lt, Bool, true, false, cond, not, ◌&&◌, ◌||◌, eqb, ◌==◌, refl, sym, ap, ◌∙◌, subst, arith, Option, None, Some}
+use Rattle.std.proofs.Common.{◌≡◌, ◌≢◌, ℕ, suc, ◌<◌, inl, ⊎_elim, Bool, true, false, cond, not, ◌&&◌, ◌||◌, ◌==◌, refl, sym, ap, ◌∙◌, subst, arith, Option, None, Some}
 use Rattle.std.proofs.lemmas.Bool.{cases_eq, cases_Bool, eqb-true, both_ways, and_parts, and_from, or_cases, or_left, or_right, or_parts, or_from, not_from_true, not_from_false, not-true, false_from_ne_true, true_from_ne_false}
 use Rattle.pm_layout.specs.declared.shape.Shape.{Shape}
-use Rattle.pm_layout.specs.Sizes.{blocks_of}
 use Rattle.pm_view.specs.Places.{Place, InRun, InHuge, Descr, RootWord, Block, Small, Big, Root, Geometry, block_of, header}
 use Rattle.pm_view.specs.Entries.{latest, turn}
 use Rattle.pm_view.specs.Claims.{making_of}
-use Rattle.pm_world.specs.States.{State, Diff, Call, diff, given, there, live, guards, read, Cells}
+use Rattle.pm_world.specs.States.{State, diff, given, there, live, guards, read, Cells}
 use Rattle.pm_world.specs.Sights.{Hold, Sight}
 use Rattle.pm_world.specs.Lanes.{Ghost, own, owns, all_held, has, valid, is_decided, in_flight, left, soils, TurnFits, settled, SightFits, Flies, atom, is_occupancy, is_taken, Bits}
-use Rattle.pm_world.proofs.Frame.{Around, own_cases, mine_own, own_has, stay_fits, some_first, fresh_given}
+use Rattle.pm_world.proofs.Frame.{Around, mine_own, own_has, stay_fits, some_first, fresh_given}
 use Rattle.pm_world.proofs.Going.{Turned, goes_on, same_made, still_flying}
 use Rattle.pm_world.proofs.Occupies.{split}
 
@@ -65,48 +64,50 @@ module _ (sh : Shape) (L : ℕ) (o : State) (cells : Cells) (sights : ℕ → Si
         class = λ d u. refl;
         first = λ d j ne. inl refl;
         flies = λ j n d ne w y. y;
-      } in
-      (a, goes_on sh L o cells sights g x k ink (settled o g) (record cells { occ = occ' }) x' g' sights' refl a record {
-        hold = record {
-          locks = f.hold.locks;
-          reading = f.hold.reading;
-          found = f.hold.found;
-          here = f.hold.here;
-          found_here = f.hold.found_here;
-          mine = λ B. split (out B) (λ z. (not z && h.mine B) ≡ true → (cond z 0 (g.holder B) ≡ suc k) × (valid g B ≡ true) × (there (settled o g) B ≡ false)) (λ _ m. absurd (both_ways false refl m)) (λ _ m. f.hold.mine B m);
-          holds = λ B. split (out B) (λ z. cond z 0 (g.holder B) ≡ suc k → (not z && h.mine B) ≡ true) (λ _ e. absurd (omega arith)) (λ _ e. f.hold.holds B e);
-          class = λ d j a. f.hold.class d j (less_has (Small d j) a);
-          span = λ y a. f.hold.span y (less_has (Big y) a);
-          first = λ d a. f.hold.first d (less_has (Big (g.geo.first d)) a);
-          zone = λ y a. f.hold.zone y (less_has (Big y) a);
-          making = λ d a. let y = f.hold.making d a in (and_from (not (out (Big d))) (h.mine (Big d)) (not_from_false (out (Big d)) (false_from_ne_true (out (Big d)) (λ z. both_ways (h.making d) (q.unmade d z) a))) y.0, y.1, y.2, y.3, y.4);
-          free = λ d a. f.hold.free d (and_parts (not (out (Big (g.geo.first d)))) (h.mine (Big (g.geo.first d))) a).1;
-          seen = f.hold.seen;
-        };
-        bits = λ p b a. f.bits p b (still_owned g.geo (settled o g) h out q.root p b a);
-        picture = f.picture;
-        turns = λ B. subst (TurnFits (sights k).phase (h.locked (header sh g.geo B)) (not (out B) && h.mine B) (h.here B)) (sym (q.turns B)) (stay_fits (sights k).phase (h.locked (header sh g.geo B)) (not (out B) && h.mine B) (h.here B));
-        call = f.call;
-        reach = λ p b y. kept_owned g.geo (settled o g) h out q.root p b (not_out p b y) ∙ f.reach p b y;
-        plain = f.plain;
-        logged = λ p b u y. let z = f.logged p b u y in (kept_owned g.geo (settled o g) h out q.root p b (not_out p b (logged_diff p b y)) ∙ z.0, z.1);
-        stored = f.stored;
-        fresh = f.fresh;
-        sizes = f.sizes;
-        born = λ y. absurd (both_ways (in_flight (sights k).phase) flight y);
-        guarded = λ y. absurd (both_ways (in_flight (sights k).phase) flight y);
-        soiled = λ p b y. let z = f.soiled p b y in let B = block_of g.geo p b in
-            (subst (λ m. soils (sights k).phase p m ((sights k).logged p) (latest (sights k).call.entries p b) ≡ true) (sym (ap (λ r. not r && h.mine B) (false_from_ne_true (out B) (λ r. both_ways ((sights k).soiled p b) (q.clean p b r) y)))) z.0, z.1);
-      } record {
-        gone = gone';
-        back = λ p b u u' l. (l, λ j ne y. y);
-        made = same_made sh L o cells sights g x k ink x' (λ d. refl);
-        occ = λ a in_. occs a in_ ∙ occ_after a in_;
-        geo = record { twice = x.geo.twice; classes = x.geo.classes; shape = x.geo.shape; head = x.geo.head; huge = x.geo.huge; zeros = x.geo.zeros; in_zone = x.geo.in_zone; within = x.geo.within };
-        alone = x.alone;
-        counter = x.counter;
-        flying = still_flying sh L o cells sights g x k ink x' (λ n y. y);
-      } t)
+      } in (
+        a,
+        goes_on sh L o cells sights g x k ink (settled o g) (record cells { occ = occ' }) x' g' sights' refl a record {
+          hold = record {
+            locks = f.hold.locks;
+            reading = f.hold.reading;
+            found = f.hold.found;
+            here = f.hold.here;
+            found_here = f.hold.found_here;
+            mine = λ B. split (out B) (λ z. (not z && h.mine B) ≡ true → (cond z 0 (g.holder B) ≡ suc k) × (valid g B ≡ true) × (there (settled o g) B ≡ false)) (λ _ m. absurd (both_ways false refl m)) (λ _ m. f.hold.mine B m);
+            holds = λ B. split (out B) (λ z. cond z 0 (g.holder B) ≡ suc k → (not z && h.mine B) ≡ true) (λ _ e. absurd (omega arith)) (λ _ e. f.hold.holds B e);
+            class = λ d j a. f.hold.class d j (less_has (Small d j) a);
+            span = λ y a. f.hold.span y (less_has (Big y) a);
+            first = λ d a. f.hold.first d (less_has (Big (g.geo.first d)) a);
+            zone = λ y a. f.hold.zone y (less_has (Big y) a);
+            making = λ d a. let y = f.hold.making d a in (and_from (not (out (Big d))) (h.mine (Big d)) (not_from_false (out (Big d)) (false_from_ne_true (out (Big d)) (λ z. both_ways (h.making d) (q.unmade d z) a))) y.0, y.1, y.2, y.3, y.4);
+            free = λ d a. f.hold.free d (and_parts (not (out (Big (g.geo.first d)))) (h.mine (Big (g.geo.first d))) a).1;
+            seen = f.hold.seen;
+          };
+          bits = λ p b a. f.bits p b (still_owned g.geo (settled o g) h out q.root p b a);
+          picture = f.picture;
+          turns = λ B. subst (TurnFits (sights k).phase (h.locked (header sh g.geo B)) (not (out B) && h.mine B) (h.here B)) (sym (q.turns B)) (stay_fits (sights k).phase (h.locked (header sh g.geo B)) (not (out B) && h.mine B) (h.here B));
+          call = f.call;
+          reach = λ p b y. kept_owned g.geo (settled o g) h out q.root p b (not_out p b y) ∙ f.reach p b y;
+          plain = f.plain;
+          logged = λ p b u y. let z = f.logged p b u y in (kept_owned g.geo (settled o g) h out q.root p b (not_out p b (logged_diff p b y)) ∙ z.0, z.1);
+          stored = f.stored;
+          fresh = f.fresh;
+          sizes = f.sizes;
+          born = λ y. absurd (both_ways (in_flight (sights k).phase) flight y);
+          guarded = λ y. absurd (both_ways (in_flight (sights k).phase) flight y);
+          soiled = λ p b y. let z = f.soiled p b y in let B = block_of g.geo p b in
+              (subst (λ m. soils (sights k).phase p m ((sights k).logged p) (latest (sights k).call.entries p b) ≡ true) (sym (ap (λ r. not r && h.mine B) (false_from_ne_true (out B) (λ r. both_ways ((sights k).soiled p b) (q.clean p b r) y)))) z.0, z.1);
+        } record {
+          gone = gone';
+          back = λ p b u u' l. (l, λ j ne y. y);
+          made = same_made sh L o cells sights g x k ink x' (λ d. refl);
+          occ = λ a in_. occs a in_ ∙ occ_after a in_;
+          geo = record { twice = x.geo.twice; classes = x.geo.classes; shape = x.geo.shape; head = x.geo.head; huge = x.geo.huge; zeros = x.geo.zeros; in_zone = x.geo.in_zone; within = x.geo.within };
+          alone = x.alone;
+          counter = x.counter;
+          flying = still_flying sh L o cells sights g x k ink x' (λ n y. y);
+        } t,
+      )
     where
       h : Hold
       h = (sights k).hold
