@@ -4,7 +4,8 @@ use Rattle.std.specs.Int.{bit_at}
 use Rattle.std.proofs.Common.{◌≡◌, ◌≢◌, ℕ, zero, suc, ◌+◌, ◌*◌, ◌/◌, ◌%◌, ◌<◌, ◌≤◌, ◌⊎◌, inl, inr, ⊎_elim, nat_le, nat_lt, Bool, true, false, cond, not, ◌==◌, ◌&&◌, ◌||◌, refl, sym, ap, ◌∙◌, subst, arith, eq-eqb, ne_eqb, Option, None, Some}
 use Rattle.std.proofs.lemmas.Bool.{cases_eq, cases_lt, cases_Bool, both_ways, eqb-true, ltb-true, lt-ltb, and_parts, and_from, and_left, or_parts, not_from_false, cond-true, cond-false, false_from_ne_true}
 use Rattle.pm_layout.specs.Chunks.{chunks_of, word_of_chunk}
-use Rattle.pm_view.specs.declared.occ.Occ.TheVariants.{Zone}
+use Rattle.pm_view.specs.declared.occ.Occ.{Occ}
+use Rattle.pm_view.specs.declared.occ.Occ.TheVariants.{Run, Zone}
 use Rattle.pm_view.specs.Places.{Place, InRun, InHuge, Descr, RootWord, Block, Small, Big, Root, part, block_of, in_span, is_data, same, word_of}
 use Rattle.pm_view.specs.Entries.{latest, redos, turn}
 use Rattle.pm_view.specs.Parts.{chunk_place, place_in}
@@ -30,7 +31,7 @@ use Rattle.pm_world.proofs.Occupies.{with_claim, ghost_with_claim, chunks_of_new
 use Rattle.pm_world.proofs.OccWorlds.{data_owned, early_undecided, occ_world}
 use Rattle.pm_world.proofs.WordPlaces.{chunk_part, no_part, or_bit, clear_bit}
 use Rattle.pm_world.proofs.RowBits.{lowest_row, ones_row, row_bit, zone_row}
-use Rattle.pm_world.proofs.StepOccupies.{less_known, none_known, same_known, known_less, none_some, occ_known, if_some}
+use Rattle.pm_world.proofs.StepOccupies.{occupy_lost, occupy_run_keeps, less_known, none_known, same_known, known_less, none_some, occ_known, if_some}
 
 -- a class that is not known: the word is a huge block's
 class_cases : (n : ℕ) → (n ≡ 0) ⊎ (n ≢ 0)
@@ -250,3 +251,9 @@ module _ (o : Opening) (mem new : Memory) (views views' : Views) (g : Past) (x :
 
 pub occupy_chunks_keeps : (zone bits : ℕ) → Keeps (Occupy (Zone zone) bits true)
 occupy_chunks_keeps zone bits o mem new views views' g k x ink law moves t = occupy_chunks o mem new views views' g x k ink zone bits law moves t
+
+-- occupation, whichever word it is of and whether it is won
+pub occupy_keeps : (at : Occ) (bits : ℕ) (won : Bool) → Keeps (Occupy at bits won)
+occupy_keeps at bits false = occupy_lost at bits
+occupy_keeps (Run place) bits true = occupy_run_keeps place bits
+occupy_keeps (Zone zone) bits true = occupy_chunks_keeps zone bits

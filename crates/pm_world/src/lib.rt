@@ -3,9 +3,10 @@
 //!
 //! It speaks of places and bits, and of the calls by what they make final; what they mean is said above. Docs/MODEL.md, "The world".
 //!
-//! So far it is proved of three kinds of step that they keep the world: the draw of a number, of any call; a look at the stop word; and an
-//! operation that is told. Still to come: loads, stores, OR and AND, flush and drain; locks and zones' locks; occupancy; the number seen,
-//! the stop set; the opening of a world; crash images; the history.
+//! So far it is proved of six kinds of step that they keep the world: a look at an occupancy word, bits of it that are taken, got or not, and
+//! bits that are given back; the draw of a number, of any call; a look at the stop word; and an operation that is told. Still to come: loads,
+//! stores, OR and AND, flush and drain; locks and zones' locks; the number seen, the stop set; the opening of a world; crash images; the
+//! history.
 #![tactic(auto)]
 
 mod laws;
