@@ -35,6 +35,7 @@ pub mod Vacates
 pub mod Runs
 pub mod WordPlaces
 pub mod OccWorlds
+pub mod RowBits
 pub mod StepOccupies
 pub mod Decides
 pub mod StepDrain
@@ -49,3 +50,5 @@ pub mod EntryBits
 pub mod StoreEntry
 pub mod StoreEnd
 pub mod RecordBits
+pub mod StepVacate
+pub mod StepDrops

@@ -24,7 +24,7 @@ use Rattle.pm_world.specs.Sights.{is_use, is_soiled, sight_of}
 use Rattle.pm_world.specs.Lanes.{owns, SightFits, Flies, flies_at}
 use Rattle.pm_world.specs.Logs.{IsEntryAt, ends_with, AreWhole, AreLeft, AreaChange, IsOld, LogFits}
 use Rattle.pm_world.specs.Lawful.{MayStore, StoreFits, IsNext, Clears}
-use Rattle.pm_world.specs.Laws.{Turn}
+use Rattle.pm_world.specs.Laws.{KeepsAt, Turn}
 use Rattle.pm_world.specs.Memory.{Memory, PoolWord, Becomes, cells_of}
 use Rattle.pm_world.specs.World.{Opening, Views, Past, origin, ghost_of, settled_words, LaneFits, World}
 use Rattle.pm_world.specs.Course.{past_stored}
@@ -34,7 +34,6 @@ use Rattle.pm_world.proofs.Replays.{put1_here, put1_else}
 use Rattle.pm_world.proofs.StepDraw.{all_cons}
 use Rattle.pm_world.proofs.StepDrain.{and_false}
 use Rattle.pm_world.proofs.StoreArea.{area_apart, undrained_by, sight_logged, apart_in, Logged, area_world}
-use Rattle.pm_world.proofs.Stores.{KeepsAt}
 
 -- ---- which words these are
 abbrev tag : Part → ℕ
@@ -177,7 +176,7 @@ module _ (o : Opening) (mem new : Memory) (views views' : Views) (g : Past) (x :
 
     -- THE SEAL IS TO BE CLEARED
     pub clears : (views k).log.phase ≡ Applying [] → part_of o.shape k w ≡ SealPart → Clears (views k) n [] → Turn views views' k (after_store (views k) w n (record (views k).log { phase = Clearing })) → World o new views' g
-    clears e part c t = area_world o mem new views views' g x k ink w n 1 at (omega arith) m due b (record (views k).log { phase = Clearing }) (λ j q. absurd (subst (λ z. flies_at z j) e q)) (clears_sight e c.drained) (clears_log e part c) tt (λ _. (x.each_lane k ink).made (ap Rattle.pm_world.specs.Lanes.is_decided e)) t
+    clears e part c t = area_world o mem new views views' g x k ink w n 1 at (omega arith) m due b (record (views k).log { phase = Clearing }) (λ j q. absurd (subst (λ z. flies_at z j) e q)) (clears_sight e c.drained) (clears_log e part c) tt (λ _. (x.each_lane k ink).made (ap Rattle.pm_world.specs.Lanes.is_decided e)) (λ u. absurd (both_ways true u refl)) t
 
   -- the next generation is stored
   module _ (at : w ≡ word_of_generation o.shape k + 0) (e : Entry) (t : List Entry) (ph : (views k).log.phase ≡ Applying (e ∷ t)) (part : part_of o.shape k w ≡ GenerationPart) (word : e.word ≡ w) (value : e.value ≡ n) (known : value_in (views k) w ≡ Some (views k).log.generation) where
@@ -261,7 +260,7 @@ module _ (o : Opening) (mem new : Memory) (views views' : Views) (g : Past) (x :
 
     -- THE ENTRY THAT ENDS THE GENERATION IS APPLIED
     pub ends_generation : Turn views views' k (after_store (views k) w n (record (views k).log { phase = Applying t; bumped = true })) → World o new views' g
-    ends_generation y = area_world o mem new views views' g x k ink w n 0 at (omega arith) m due b (record (views k).log { phase = Applying t; bumped = true }) (λ j q. absurd (subst (λ z. flies_at z j) ph q)) ended_sight ended_log tt (λ _. (x.each_lane k ink).made (ap Rattle.pm_world.specs.Lanes.is_decided ph)) y
+    ends_generation y = area_world o mem new views views' g x k ink w n 0 at (omega arith) m due b (record (views k).log { phase = Applying t; bumped = true }) (λ j q. absurd (subst (λ z. flies_at z j) ph q)) ended_sight ended_log tt (λ _. (x.each_lane k ink).made (ap Rattle.pm_world.specs.Lanes.is_decided ph)) (λ u. absurd (both_ways true u refl)) y
 
 -- ---- a store, its phase and its part written out
 abbrev Stored : Views → Views → ℕ → ℕ → ℕ → Phase → Part → Type 0

@@ -18,6 +18,7 @@ use Rattle.pm_view.specs.View.{View}
 use Rattle.pm_view.specs.Steps.Step.{Drain}
 use Rattle.pm_view.specs.Views.{decided_by, drained_to}
 use Rattle.pm_view.specs.Counts.{IsAtStop}
+use Rattle.pm_view.specs.Counts.{MayCount}
 use Rattle.pm_world.specs.States.{State, Diff, diff, given, live, read, put1, Cells}
 use Rattle.pm_world.specs.Sights.{Sight, is_use, is_soiled, is_recorded, is_slot_drained, is_logged_from, is_logged, fresh, is_made, call_in, sight_of}
 use Rattle.pm_world.specs.Lanes.{Ghost, own, owns, has, left, is_decided, BitFits, TurnFlight, TurnFits, SightFits, settled, Flies, flies_at, Bits}
@@ -26,6 +27,7 @@ use Rattle.pm_world.specs.Memory.{Memory, PoolWord, CommitCounter, StopWord, bit
 use Rattle.pm_world.specs.World.{Opening, Views, Past, origin, ghost_of, settled_words, NumberFits, AreaFits, LaneFits, may_draw, may_draw_count, World}
 use Rattle.pm_world.specs.Course.{holder_after, past_made, past_decided, past_drained}
 use Rattle.pm_world.specs.Laws.{Turn, Keeps}
+use Rattle.pm_world.proofs.StepDrops.{dropped_world}
 use Rattle.pm_world.proofs.Counting.{count_same}
 use Rattle.pm_world.proofs.Decides.{decided_ghost, decided_sight, some_of, none_of, over_idle, over_open, owned_now, around, decides}
 use Rattle.pm_world.proofs.Frame.{Around, mine_own, found_has, own_has}
@@ -182,8 +184,9 @@ module _ (o : Opening) (mem : Memory) (views new : Views) (g : Past) (k : ℕ) (
       → Around k (sight_of (views k)).hold (λ j. (sight_of (views j)).hold) (cells_of o.shape mem) (cells_of o.shape mem) (settled_words o g) (settled_words o g') (ghost_of g) (ghost_of g')
       → Bits o.shape o.lanes (origin o) (cells_of o.shape mem) (λ j. sight_of (new j)) (ghost_of g') → AreaFits o mem g' k v → NumberFits log.phase (views k).number
       → ((w n : ℕ) → pictured (views k).fixed.shape claims w ≡ Some n → pictured (views k).fixed.shape (views k).claims w ≡ Some n)
-      → (is_decided log.phase ≡ true → (c : ℕ) → making (views k).fixed.shape claims c ≡ false) → World o mem new g'
-  world_now claims log decided holder t m bits area number known made = let v = record (views k) { claims = claims; log = log } in let g' = record g { decided = decided; holder = holder } in let f = lane_fits in world_after o mem views g x k ink mem new g' (settled_words o g') v refl m
+      → (is_decided log.phase ≡ true → (c : ℕ) → making (views k).fixed.shape claims c ≡ false)
+      → (is_decided log.phase ≡ false → (p : Place) → is_recorded log.records p ≡ false) → World o mem new g'
+  world_now claims log decided holder t m bits area number known made none_recorded = let v = record (views k) { claims = claims; log = log } in let g' = record g { decided = decided; holder = holder } in let f = lane_fits in world_after o mem views g x k ink mem new g' (settled_words o g') v refl m
       record { generation = λ j ne. refl; seal = λ j ne. refl; entry = λ j i q ne. refl; slot = λ j i q ne. refl; zone = λ z j ne. refl; entries = λ j ne. refl } t bits
       record {
         lane = f.lane;
@@ -191,6 +194,7 @@ module _ (o : Opening) (mem : Memory) (views new : Views) (g : Past) (k : ℕ) (
         lanes = f.lanes;
         log = area;
         made = made;
+        recorded = λ u p q. absurd (both_ways (is_recorded log.records p) (none_recorded u p) q);
         number = number;
         zones = f.zones;
         masks = f.masks;
@@ -234,7 +238,7 @@ module _ (o : Opening) (mem : Memory) (views new : Views) (g : Past) (k : ℕ) (
       (unchanged o.shape o.lanes (origin o) (cells_of o.shape mem) (λ j. sight_of (views j)) (ghost_of g) x.bits k ink (sight_of v) (λ j. sight_of (new j)) refl (λ n y. absurd (subst (λ z. flies_at z n) e y))
       (over_idle o.shape (cells_of o.shape mem) (settled_words o g) (Flies (ghost_of g) k) (ghost_of g) k (sight_of (views k)) (x.bits.each_lane k) (empty_fresh Idle) (nothing Idle) unsoiled (same_bit Clearing e refl (λ p b. refl))) (turned views new k v t))
       (ended o.shape k ((cells_of o.shape mem).generation k) ((cells_of o.shape mem).seal k) ((cells_of o.shape mem).entry k) ((cells_of o.shape mem).slot k) (settled_words o g) (settled_words o g) (owns g.geo (settled_words o g) (sight_of (views k)).hold) (owns g.geo (settled_words o g) (sight_of (views k)).hold) (sight_of (views k)).picture
-      (record (views k).log { phase = Clearing }) (views k).changes l clean l.bump l.sealed l.phase.1 Idle refl refl (refl, refl, refl, refl)) tt (λ w n q. q) (λ t. absurd (both_ways false refl t))
+      (record (views k).log { phase = Clearing }) (views k).changes l clean l.bump l.sealed l.phase.1 Idle refl refl (refl, refl, refl, refl)) tt (λ w n q. q) (λ t. absurd (both_ways false refl t)) (λ _ p. refl)
 
   -- AN ABORTED CALL'S RECORDS ARE VOIDED: each recorded word has its old value again, which is the settled one
   restored_bit : (views k).log.phase ≡ Voiding → (p : Place) (b : ℕ) → owns g.geo (settled_words o g) (sight_of (views k)).hold p b ≡ true → live (settled_words o g) g.geo g.runs p ≡ true → read (cells_of o.shape mem).pool p b ≡ settled_words o g p b
@@ -249,7 +253,7 @@ module _ (o : Opening) (mem : Memory) (views new : Views) (g : Past) (k : ℕ) (
       (unchanged o.shape o.lanes (origin o) (cells_of o.shape mem) (λ j. sight_of (views j)) (ghost_of g) x.bits k ink (sight_of v) (λ j. sight_of (new j)) refl (λ n y. absurd (subst (λ z. flies_at z n) e y))
       (over_open o.shape (cells_of o.shape mem) (settled_words o g) (Flies (ghost_of g) k) (ghost_of g) k (sight_of (views k)) (x.bits.each_lane k) (empty_fresh Open) (nothing Open) unsoiled (restored_bit e)) (turned views new k v t))
       (ended o.shape k ((cells_of o.shape mem).generation k) ((cells_of o.shape mem).seal k) ((cells_of o.shape mem).entry k) ((cells_of o.shape mem).slot k) (settled_words o g) (settled_words o g) (owns g.geo (settled_words o g) (sight_of (views k)).hold) (owns g.geo (settled_words o g) (sight_of (views k)).hold) (sight_of (views k)).picture
-      (record (views k).log { phase = Voiding }) (views k).changes l clean l.bump l.sealed l.phase.1 Open refl refl (omega arith, omega arith)) (subst (λ ph. NumberFits ph (views k).number) e lane_fits.number) (λ w n q. q) (λ t. absurd (both_ways false refl t))
+      (record (views k).log { phase = Voiding }) (views k).changes l clean l.bump l.sealed l.phase.1 Open refl refl (omega arith, omega arith)) (subst (λ ph. NumberFits ph (views k).number) e lane_fits.number) (λ w n q. q) (λ t. absurd (both_ways false refl t)) (λ _ p. refl)
 
   -- A CALL IS DECIDED by its seal, or by the next generation, where it has no entries
   data_only : (p : Place) (b : ℕ) → is_data p ≡ false → given ((sight_of (views k)).call.fresh p b) ≡ false
@@ -290,7 +294,7 @@ module _ (o : Opening) (mem : Memory) (views new : Views) (g : Past) (k : ℕ) (
       (record { here = a.here ∙ sealed_sight n e; else_ = a.else_ }))
       (sealed_log o.shape k ((cells_of o.shape mem).generation k) ((cells_of o.shape mem).seal k) ((cells_of o.shape mem).entry k) ((cells_of o.shape mem).slot k) (settled_words o g) (settled_words o g') (owns g.geo (settled_words o g) (sight_of (views k)).hold) (owns g.geo (settled_words o g') (sight_of v).hold) (sight_of (views k)).picture
       (views k).log (views k).changes lane_fits.log clean n e
-      (λ p b q. subst (λ y. owns g.geo (settled_words o g') y.hold p b ≡ true) (sym (sealed_sight n e)) (owned_now o.shape o.lanes (origin o) (cells_of o.shape mem) (λ j. sight_of (views j)) (ghost_of g) x.bits k ink (views k).fixed.lane lane_fits.lane n (views k).log.entries f only data_only high (λ p b. refl) p b q))) tt (λ w m q. q) (λ t. unmade)
+      (λ p b q. subst (λ y. owns g.geo (settled_words o g') y.hold p b ≡ true) (sym (sealed_sight n e)) (owned_now o.shape o.lanes (origin o) (cells_of o.shape mem) (λ j. sight_of (views j)) (ghost_of g) x.bits k ink (views k).fixed.lane lane_fits.lane n (views k).log.entries f only data_only high (λ p b. refl) p b q))) tt (λ w m q. q) (λ t. unmade) (λ u. absurd (both_ways true u refl))
 
   -- a call without entries, which the next generation decides: it is over at once
   module _ (n : ℕ) (e : (views k).log.phase ≡ Retiring n) where
@@ -364,7 +368,7 @@ module _ (o : Opening) (mem : Memory) (views new : Views) (g : Past) (k : ℕ) (
         (over_idle o.shape (cells_of o.shape mem) (settled (origin o) ghost) (Flies ghost k) ghost k kept kept_fits (empty_fresh Idle) (nothing Idle) unsoiled
         (λ p b q al. (kept_fits.bits p b q).0 al refl (and_false ((sight_of (views k)).logged p)))) (record { here = a.here; else_ = λ j ne. a.else_ j ne ∙ sym (between_else j ne) }))
         (ended o.shape k ((cells_of o.shape mem).generation k) ((cells_of o.shape mem).seal k) ((cells_of o.shape mem).entry k) ((cells_of o.shape mem).slot k) (settled_words o g) (settled_words o g') (owns g.geo (settled_words o g) (sight_of (views k)).hold) (owns g.geo (settled_words o g') (sight_of (views k)).hold) (sight_of (views k)).picture
-        (record (views k).log { phase = Retiring n }) (views k).changes l clean l.bump l.sealed l.phase.1 Idle refl refl (refl, refl, refl, refl)) tt (λ w m q. q) (λ t. absurd (both_ways false refl t))
+        (record (views k).log { phase = Retiring n }) (views k).changes l clean l.bump l.sealed l.phase.1 Idle refl refl (refl, refl, refl, refl)) tt (λ w m q. q) (λ t. absurd (both_ways false refl t)) (λ _ p. refl)
 
 pub goes_on_clearing : GoesOnAt Clearing
 goes_on_clearing = in_phase Clearing (λ o mem views new g k x ink clean unmade e t. cleared o mem views new g k x ink clean e t)
@@ -393,7 +397,7 @@ goes_on_in_each Voiding = goes_on_voiding
 abbrev drop_to : View → List Undrained → View
 drop_to v left = record v { claims = Drained left ∷ v.claims; changes = left; calls = v.calls + 1 }
 
-module _ (drop : Drops) (o : Opening) (mem : Memory) (views new : Views) (g : Past) (k : ℕ) (x : World o mem views g) (ink : k < o.lanes) where
+module _ (drop : Drops) (o : Opening) (mem : Memory) (views new : Views) (g : Past) (k : ℕ) (x : World o mem views g) (ink : k < o.lanes) (due : MayCount (views k)) where
   abbrev dropped : Views
   dropped j = cond (j == k) (drops (views k)) (views j)
 
@@ -415,13 +419,16 @@ module _ (drop : Drops) (o : Opening) (mem : Memory) (views new : Views) (g : Pa
 
   drained_all : drained (views k).changes ≡ [] → Turn views new k (drained_to (views k) []) → World o mem new (past_drained g (views k) [])
   drained_all e t = let here : dropped k ≡ drop_to (views k) [] = dropped_here ∙ ap (drop_to (views k)) e in
-      let w : World o mem dropped (past_made g (views k) []) = subst (λ l. World o mem dropped (past_made g (views k) l)) e (drop o mem views dropped g k x ink (record { here = dropped_here; else_ = dropped_else })) in
+      let w : World o mem dropped (past_made g (views k) []) = subst (λ l. World o mem dropped (past_made g (views k) l)) e (drop o mem views dropped g k x ink due (record { here = dropped_here; else_ = dropped_else })) in
       subst (World o mem new) (decided_drop (views k).log.phase (views k) (past_made g (views k) [])) (subst (λ v. World o mem new (past_decided v.log.phase v (past_made g (views k) []))) here
       (goes_on_in_each (dropped k).log.phase o mem dropped new (past_made g (views k) []) k w ink (ap (λ v. v.changes) here) (subst (λ v. (c : ℕ) → making v.fixed.shape v.claims c ≡ false) (sym here) (λ c. refl)) refl (record { here = t.here ∙ sym (ap goes_on_to here); else_ = λ j ne. t.else_ j ne ∙ sym (dropped_else j ne) })))
 
   drained_world : (left : List Undrained) → drained (views k).changes ≡ left → Turn views new k (drained_to (views k) left) → World o mem new (past_drained g (views k) left)
   drained_world [] e t = drained_all e t
-  drained_world (u ∷ left) e t = subst (λ l. World o mem new (past_made g (views k) l)) e (drop o mem views new g k x ink (subst (λ l. Turn views new k (drop_to (views k) l)) (sym e) t))
+  drained_world (u ∷ left) e t = subst (λ l. World o mem new (past_made g (views k) l)) e (drop o mem views new g k x ink due (subst (λ l. Turn views new k (drop_to (views k) l)) (sym e) t))
 
 pub drain_from : Drops → Keeps Drain
-drain_from drop o mem new views views' g k x ink law moves t = (subst (λ m. World o m views' (past_drained g (views k) (drained (views k).changes))) (λ i l. sym (moves l) i) (drained_world drop o mem views views' g k x ink (drained (views k).changes) refl t), tt)
+drain_from drop o mem new views views' g k x ink law moves t = (subst (λ m. World o m views' (past_drained g (views k) (drained (views k).changes))) (λ i l. sym (moves l) i) (drained_world drop o mem views views' g k x ink (law.due refl) (drained (views k).changes) refl t), tt)
+
+pub drain_keeps : Keeps Drain
+drain_keeps = drain_from (λ o mem views new g k x ink due t. dropped_world o mem views new g x k ink due t)
