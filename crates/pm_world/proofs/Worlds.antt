@@ -77,6 +77,7 @@ module _ (o : Opening) (mem : Memory) (views : Views) (g : Past) (x : World o me
     lanes = f.lanes;
     log = log_stays new g' S' e m a j ne f.log;
     made = f.made;
+    recorded = f.recorded;
     number = f.number;
     zones = λ z. a.zone z j ne ∙ f.zones z;
     masks = f.masks;

@@ -16,8 +16,8 @@ use Rattle.pm_view.specs.Steps.Step.{NumberSeen}
 use Rattle.pm_view.specs.View.{View, Numbered}
 use Rattle.pm_view.specs.Views.{occupancy_of}
 use Rattle.pm_world.specs.States.{State, Call}
-use Rattle.pm_world.specs.Sights.{call_in, sight_of}
-use Rattle.pm_world.specs.Lanes.{Ghost, owns, settled, is_decided, Bits}
+use Rattle.pm_world.specs.Sights.{is_recorded, call_in, sight_of}
+use Rattle.pm_world.specs.Lanes.{Ghost, owns, settled, is_in_making, is_decided, Bits}
 use Rattle.pm_world.specs.Logs.{LogFits}
 use Rattle.pm_world.specs.Memory.{Memory, PoolWord, ZoneLock, CommitCounter, StopWord, occ_at, bits_of, cells_of}
 
@@ -90,6 +90,8 @@ pub record LaneFits (o : Opening) (mem : Memory) (g : Past) (k : ℕ) (v : View)
       (settled_words o g) (owns g.geo (settled_words o g) (sight_of v).hold) (sight_of v).picture v.log v.changes
   -- once the call is decided the lane makes no run: what it made was drained before
   pub made : is_decided v.log.phase ≡ true → (c : ℕ) → making v.fixed.shape v.claims c ≡ false
+  -- and it makes none of a chunk of which it recorded words
+  pub recorded : is_decided v.log.phase ≡ false → (p : Place) → is_recorded v.log.records p ≡ true → is_in_making (sight_of v).hold p ≡ false
   pub number : NumberFits v.log.phase v.number
   pub zones : (z : ℕ) → (mem (ZoneLock z) == suc k) ≡ list_any (λ other. other == z) v.zones
   pub masks : All (λ (c : Undrained). (c.mask < 2 ^ 64) × (c.word < words_of o.shape)) v.changes
