@@ -21,3 +21,4 @@ pub mod EntriesAtPlaces
 pub mod RecordsAtPlaces
 pub mod ImageSays
 pub mod CrashLaw
+pub mod CrashDescriptors
