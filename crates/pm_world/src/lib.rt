@@ -5,9 +5,11 @@
 //!
 //! So far it is proved of three kinds of step that they keep the world: the draw of a number, of any call; a look at the stop word; and an
 //! operation that is told. Still to come: loads, stores, OR and AND, flush and drain; locks and zones' locks; occupancy; the number seen,
-//! the stop set; the opening of a world; crash images; the history.
+//! the stop set; the opening of a world; the history. The law of crash images is proved, of every world.
 #![tactic(auto)]
 
+mod crash_laws;
 mod laws;
 
+pub use crash_laws::crash_keeps_decided_calls;
 pub use laws::{lawful_steps_keep_the_world, no_bit_is_owned_twice};
