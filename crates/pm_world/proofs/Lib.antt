@@ -52,3 +52,4 @@ pub mod StoreEnd
 pub mod RecordBits
 pub mod StepVacate
 pub mod StepDrops
+pub mod CrashDescriptors

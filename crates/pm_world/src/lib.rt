@@ -12,6 +12,8 @@
 //! OR and AND; flush; the bits of chunks that are got; the opening of a world; the history.
 #![tactic(auto)]
 
+mod crash_laws;
 mod laws;
 
+pub use crash_laws::crash_keeps_decided_calls;
 pub use laws::{lawful_steps_keep_the_world, lawful_stores_keep_the_world, no_bit_is_owned_twice};
