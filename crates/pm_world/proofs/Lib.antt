@@ -19,6 +19,7 @@ pub mod AfterStore
 pub mod StoreArea
 pub mod StepChange
 pub mod Applies
+pub mod StepApply
 pub mod PlacesAt
 pub mod Entering
 pub mod Crashes

@@ -35,7 +35,7 @@ use Rattle.pm_world.proofs.Stores.{drops, Drops, goes_on_to, GoesOnAt}
 use Rattle.pm_world.proofs.Worlds.{Aside, turned, world_after, stops_stay}
 
 -- ---- numbers
-high_bit : (x b : ℕ) → x < 2 ^ 64 → 64 ≤ b → bit x b ≡ false
+pub high_bit : (x b : ℕ) → x < 2 ^ 64 → 64 ≤ b → bit x b ≡ false
 high_bit x b l q = ap (λ d. d == 1) (bit_at_above x 64 b l q)
 
 pub and_false : (t : Bool) → (t && false) ≡ false
