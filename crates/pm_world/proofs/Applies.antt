@@ -26,7 +26,7 @@ twin_twin (InHuge c w) = refl
 twin_twin (Descr c) = refl
 twin_twin RootWord = refl
 
-twin_making : (h : Hold) (p : Place) → is_in_making h (twin p) ≡ is_in_making h p
+pub twin_making : (h : Hold) (p : Place) → is_in_making h (twin p) ≡ is_in_making h p
 twin_making h (InRun c w) = refl
 twin_making h (InHuge c w) = refl
 twin_making h (Descr c) = refl

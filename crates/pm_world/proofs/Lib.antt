@@ -20,6 +20,7 @@ pub mod StoreArea
 pub mod StepChange
 pub mod Applies
 pub mod StepApply
+pub mod StepEntries
 pub mod PlacesAt
 pub mod Entering
 pub mod Crashes

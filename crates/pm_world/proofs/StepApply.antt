@@ -76,7 +76,7 @@ mask_given op value b l e = ⊎_elim (λ (q : b < 64). ap given (cond-true (nat_
     low And e q = ap given (cond-false (bit value b) None (Some false) (false_from_ne_true (bit value b) (λ z. let y = bit_at_not w64 value b l q in let u = one_bit value b z in let v = one_bit (bit_not w64 value) b e in omega arith)))
 
 -- ---- places in one word
-abbrev kind : Place → ℕ
+abbrev pub kind : Place → ℕ
 kind (InRun c w) = 0
 kind (InHuge c w) = 1
 kind (Descr c) = 2

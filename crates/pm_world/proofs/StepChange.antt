@@ -37,7 +37,7 @@ use Rattle.pm_world.proofs.StoreArea.{area_apart, undrained_by, sight_logged, ap
 use Rattle.pm_world.proofs.Stores.{KeepsAt}
 
 -- ---- which words these are
-abbrev tag : Part → ℕ
+abbrev pub tag : Part → ℕ
 tag GenerationPart = 1
 tag SealPart = 2
 tag part = 0
@@ -86,13 +86,13 @@ first_entry e d t u q = (ap (head e) q, ap tail q)
     tail (d ∷ t) = t
 
 -- an entry of no place, among entries of which the last alone is such
-last_one : (done front : List Entry) (e y : Entry) (t : List Entry) → (done ++ e ∷ t) ≡ (front ++ y ∷ []) → e.place ≡ None → All (λ (d : Entry). d.place ≢ None) front → (e ≡ y) × (t ≡ [])
+pub last_one : (done front : List Entry) (e y : Entry) (t : List Entry) → (done ++ e ∷ t) ≡ (front ++ y ∷ []) → e.place ≡ None → All (λ (d : Entry). d.place ≢ None) front → (e ≡ y) × (t ≡ [])
 last_one [] [] e y t q n a = first_entry e y t [] q
 last_one [] (d ∷ front) e y t q n a = absurd (a zero e (omega arith) (sym (ap (λ (z : Entry). z.place) (first_entry e d t (front ++ y ∷ []) q).0) ∙ n))
 last_one (d ∷ done) [] e y t q n a = let z = ap length (first_entry d y (done ++ e ∷ t) [] q).1 in absurd (omega (arith, Rattle.std.proofs.lemmas.List.length-append done (e ∷ t)))
 last_one (d ∷ done) (c ∷ front) e y t q n a = last_one done front e y t (first_entry d c (done ++ e ∷ t) (front ++ y ∷ []) q).1 n (λ i z l. a (suc i) z (omega arith))
 
-entry_at : (done : List Entry) (e : Entry) (t : List Entry) → slice_get (done ++ e ∷ t) (length done) ≡ Some e
+pub entry_at : (done : List Entry) (e : Entry) (t : List Entry) → slice_get (done ++ e ∷ t) (length done) ≡ Some e
 entry_at [] e t = refl
 entry_at (d ∷ done) e t = entry_at done e t
 

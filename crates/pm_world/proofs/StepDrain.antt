@@ -131,7 +131,7 @@ logged_recorded sh lane changes j (r ∷ rs) p e = ⊎_elim (λ (t : (given (old
     second None c t = t
     second (Some y) c t = refl
 
-old_some : (d : Option ℕ) → given d ≡ true → (y : ℕ) × (d ≡ Some y)
+pub old_some : (d : Option ℕ) → given d ≡ true → (y : ℕ) × (d ≡ Some y)
 old_some None e = absurd (both_ways false refl e)
 old_some (Some y) e = (y, refl)
 
