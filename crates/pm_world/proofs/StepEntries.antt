@@ -1,18 +1,20 @@
 -- THE ENTRIES OF A DECIDED CALL ARE APPLIED in their order, to words of the pool: whole words are stored, bits of shared words are ORed and ANDed.
-use Rattle.std.specs.Prelude.{List, [], ◌∷◌, All, length, slice_index, bit_and, bit_or, IfSome}
+use Rattle.std.specs.Prelude.{List, [], ◌∷◌, ◌++◌, All, Contains, length, slice_index, bit_and, bit_or, IfSome}
 use Rattle.std.specs.List.{list_any}
 use Rattle.std.specs.Int.{bit_at, bit_not, w64}
 use Rattle.std.specs.Option.{option_map}
-use Rattle.std.proofs.Common.{◌≡◌, ◌≢◌, ℕ, zero, suc, ◌+◌, ◌*◌, ◌-◌, ◌/◌, ◌%◌, ◌^◌, ◌<◌, ◌≤◌, ◌⊎◌, inl, inr, ⊎_elim, nat_le, nat_lt, Bool, true, false, cond, not, ◌==◌, ◌&&◌, ◌||◌, eqb, refl, sym, ap, ◌∙◌, subst, arith, eq-eqb, ne_eqb, Option, None, Some, if◌then◌else◌}
+use Rattle.std.proofs.Common.{◌≡◌, ◌≢◌, ℕ, zero, suc, ◌+◌, ◌*◌, ◌-◌, ◌/◌, ◌%◌, ◌^◌, ◌<◌, ◌≤◌, ◌⊎◌, inl, inr, ⊎_elim, nat_le, nat_lt, Bool, true, false, cond, not, ◌==◌, ◌&&◌, ◌||◌, eqb, refl, sym, ap, ◌∙◌, subst, arith, eq-eqb, ne_eqb, Option, None, Some, if◌then◌else◌, append_assoc}
 use Rattle.std.proofs.lemmas.Bool.{cases_eq, cases_Bool, both_ways, and_parts, and_from, or_cases, eqb-true, ltb-true, leb-true, lt-ltb, cond-true, cond-false, false_from_ne_true}
 use Rattle.pm_layout.specs.declared.shape.Shape.{Shape}
-use Rattle.pm_layout.specs.Areas.{word_of_generation}
+use Rattle.std.proofs.lemmas.Option.{slice_get_within}
+use Rattle.pm_layout.specs.Areas.{undo_slots, word_of_generation, word_of_seal, word_of_entry, line_of_slot}
 use Rattle.pm_layout.specs.Chunks.{chunks_of, words_of, word_of_chunk, word_of_descriptor}
 use Rattle.pm_record.specs.declared.redo.Op.{Op}
 use Rattle.pm_record.specs.declared.redo.Op.TheVariants.{Set, Or, And}
 use Rattle.pm_view.specs.Changes.{Undrained, is_dirty_bit}
 use Rattle.pm_view.specs.Claims.{Claim, Knows, class, first, span, first_in, geometry, pictured, is_run}
-use Rattle.pm_view.specs.Counts.{MayCount, HasRoom}
+use Rattle.pm_view.specs.Counts.{MayCount, HasRoom, IsAtStop}
+use Rattle.pm_view.specs.Parts.{Part, RootPart, DescriptorPart, ChunkPart, part_of}
 use Rattle.pm_view.specs.Entries.{Entry, Redo, given_bit, delta, latest, redos, with_redo, turn, first_of_two}
 use Rattle.pm_view.specs.Log.{Phase, Applying, Recorded, Log, old_of}
 use Rattle.pm_view.specs.Places.{Place, InRun, InHuge, Descr, RootWord, Block, Small, Big, Root, part, block_of, is_data, twin, same_place, word_of, is_place, in_span}
@@ -20,15 +22,22 @@ use Rattle.pm_view.specs.View.{View}
 use Rattle.pm_view.specs.Views.{value_in, changed}
 use Rattle.pm_world.specs.States.{State, Diff, given, there, read, put1, Cells}
 use Rattle.pm_world.specs.Sights.{Hold, Sight, hold_of, is_pictured, picture, is_use, is_soiled, is_made, is_recorded, fresh, call_in, sight_of}
-use Rattle.pm_world.specs.Lanes.{Ghost, own, has, owns, is_in_making, is_size, TurnAfter, SightFits, Flies}
+use Rattle.pm_world.specs.Lanes.{Ghost, own, has, owns, is_in_making, is_size, TurnAfter, SightFits, Flies, flies_at}
 use Rattle.pm_world.specs.Logs.{IsEntryAt, EntryOf, ends_with, LogFits}
-use Rattle.pm_world.specs.Memory.{Memory, PoolWord, LockWord, RunWord, ZoneWord, ZoneLock, CommitCounter, StopWord, Becomes, bit, run_told, bits_of, descriptor_told, cells_by, cells_of}
-use Rattle.pm_world.specs.World.{Opening, Views, Past, origin, ghost_of, settled_words, LaneFits, World}
+use Rattle.pm_world.specs.Memory.{Memory, PoolWord, LockWord, RunWord, ZoneWord, ZoneLock, CommitCounter, StopWord, occ_at, Becomes, bit, run_told, bits_of, descriptor_told, cells_by, cells_of}
+use Rattle.pm_world.specs.World.{Opening, Views, Past, origin, ghost_of, settled_words, AloneFits, LaneFits, is_header, World}
+use Rattle.pm_world.specs.Laws.{Turn}
+use Rattle.pm_world.proofs.AfterStore.{counts_on, stop_stays}
+use Rattle.pm_world.proofs.Counting.{count_same}
+use Rattle.pm_world.proofs.Replays.{put1_else}
+use Rattle.pm_world.proofs.StepDraw.{all_cons}
+use Rattle.pm_world.proofs.WordsApart.{no_area}
+use Rattle.pm_world.proofs.Worlds.{turned, world_with, stops_stay}
 use Rattle.pm_world.proofs.Applies.{same_place_refl, twin_twin, twin_making, Applied, delta_given, given_here, own_here, plain_here, applied_fits}
-use Rattle.pm_world.proofs.Cells.{cells_stored, descriptor_else}
+use Rattle.pm_world.proofs.Cells.{cells_stored, descriptor_else, other_number, other_sort, occ_sort}
 use Rattle.pm_world.proofs.Frame.{mine_own, here_own, own_has, found_has, big_valid, no_run, maker_owns, maker_no_run, small_run, small_cases, disjoint, some_first, fresh_given}
 use Rattle.pm_world.proofs.Going.{at_phase}
-use Rattle.pm_world.proofs.Stored.{OwnWords}
+use Rattle.pm_world.proofs.Stored.{OwnWords, around_own, stored}
 use Rattle.pm_world.proofs.StepApply.{made_word, mask_of, mask_given, OneWord, is_descr, read_in, new_words, one_word, word_now, read_else, applied_at}
 use Rattle.pm_world.proofs.StepDrain.{old_some}
 use Rattle.pm_world.proofs.StepChange.{tag, last_one, entry_at}
@@ -299,3 +308,120 @@ module _ (o : Opening) (mem : Memory) (views : Views) (g : Past) (x : World o me
   pub sight_now : SightFits o.shape cells' S (Flies G k) G k (sight_of (changed v w (mask_of d.op d.value) made v.claims (record v.log { phase = Applying todo })))
   sight_now = applied_fits o.shape cells cells' S (Flies G k) G x.bits.geo k (sight_of v) e₀ (d ∷ todo) todo f left_is own_words fresh' picture'
       (Rattle.pm_world.specs.Sights.is_logged v.fixed.shape v.fixed.lane (change ∷ v.changes) v.log.records) (is_soiled v.fixed.shape h (change ∷ v.changes)) applied_now
+
+  -- ---- the lane's log, and the world
+  abbrev View' : View
+  View' = changed v w (mask_of d.op d.value) made v.claims (record v.log { phase = Applying todo })
+
+  area_else : (lane i : ℕ) → lane < o.shape.lanes → i < 1024 → (u : ℕ) → u ≡ word_of_generation o.shape lane + i → put1 (λ u. mem (PoolWord u)) w made u ≡ mem (PoolWord u)
+  area_else lane i a b u e = put1_else (λ u. mem (PoolWord u)) w made u (λ q. no_area o.shape p₀ lane i a b pair.0 (at_word ∙ (sym q ∙ e)))
+
+  area : (Rattle.pm_world.specs.Logs.AreaChange (Applying todo) (length v.log.entries) v.log.generation (part_of o.shape k w) change)
+      → LogFits o.shape k (cells'.generation k) (cells'.seal k) (cells'.entry k) (cells'.slot k) S (owns g.geo S h) picture' (record v.log { phase = Applying todo }) (change ∷ v.changes)
+  area new_change = let l = log_then in let in_ : k < o.shape.lanes = let m = x.most_lanes in omega arith in record {
+    first = l.first;
+    last = l.last;
+    below = l.below;
+    stored = area_else k 0 in_ (omega arith) (word_of_generation o.shape k) (omega arith) ∙ l.stored;
+    bump = tt;
+    sealed = area_else k 1 in_ (omega arith) (word_of_seal o.shape k) (omega arith) ∙ l.sealed;
+    entries_most = l.entries_most;
+    records_most = l.records_most;
+    pairs = λ i y q. let z = l.pairs i y q in let r = slice_get_within v.log.entries i y q in let most = l.entries_most in
+        (area_else k (8 + 2 * i + 0) in_ (omega arith) (word_of_entry o.shape k i + 0) (omega arith) ∙ z.0, area_else k (8 + 2 * i + 1) in_ (omega arith) (word_of_entry o.shape k i + 1) (omega arith) ∙ z.1, z.2, z.3);
+    pair_part = λ i q. let r = ap length l.phase.3 in absurd (omega arith);
+    records = λ i r q. let z = l.records i r q in let n = slice_get_within v.log.records i r q in let most = l.records_most in (λ y s. area_else k (136 + 8 * i + y) in_ (omega arith) (8 * line_of_slot o.shape k i + y) (omega arith) ∙ z.0 y s, z.1, z.2, z.3, z.4, z.5);
+    once = l.once;
+    olds = l.olds;
+    slot_part = λ i q. let r = ap length l.phase.2 in absurd (omega arith);
+    stale = λ i u q z t. l.stale i u q z (sym (ap Rattle.pm_record.specs.Undo.undo_of (slots i in_ z)) ∙ t);
+    area_changes = all_cons (λ (u : Undrained). Rattle.pm_world.specs.Logs.AreaChange (Applying todo) (length v.log.entries) v.log.generation (part_of o.shape k u.word) u) change v.changes new_change l.area_changes;
+    phase = (
+      record { front = l.phase.0.front; are = l.phase.0.are; placed = l.phase.0.placed },
+      record { done = l.phase.1.done ++ d ∷ []; are = l.phase.1.are ∙ sym (append_assoc l.phase.1.done (d ∷ []) todo); ends = λ q i y s. l.phase.1.ends q (suc i) y (omega arith); to_end = λ q. later (l.phase.1.to_end q) },
+      l.phase.2,
+      l.phase.3,
+    );
+  }
+    where
+      slots : (i : ℕ) → k < o.shape.lanes → i < undo_slots o.shape → Rattle.pm_world.specs.Logs.slot_list (λ y. put1 (λ u. mem (PoolWord u)) w made (8 * line_of_slot o.shape k i + y)) ≡ Rattle.pm_world.specs.Logs.slot_list (λ y. mem (PoolWord (8 * line_of_slot o.shape k i + y)))
+      slots i in_ l = λ t. at 0 (omega arith) t ∷ at 1 (omega arith) t ∷ at 2 (omega arith) t ∷ at 3 (omega arith) t ∷ at 4 (omega arith) t ∷ at 5 (omega arith) t ∷ at 6 (omega arith) t ∷ at 7 (omega arith) t ∷ []
+        where
+          at : (y : ℕ) → y < 8 → put1 (λ u. mem (PoolWord u)) w made (8 * line_of_slot o.shape k i + y) ≡ mem (PoolWord (8 * line_of_slot o.shape k i + y))
+          at y q = area_else k (136 + 8 * i + y) in_ (omega arith) (8 * line_of_slot o.shape k i + y) (omega arith)
+
+      later : Contains (d ∷ todo) (ends_with o.shape k v.log.generation) → Contains todo (ends_with o.shape k v.log.generation)
+      later (zero, l, e) = absurd (both_ways false refl (sym (ap (λ (y : Entry). has_place y.place) e) ∙ ap has_place place))
+        where
+          has_place : Option Place → Bool
+          has_place None = false
+          has_place (Some q) = true
+      later (suc i, l, e) = (i, omega arith, e)
+
+  module _ (new : Memory) (views' : Views) (became : Becomes (PoolWord w) made mem new) (room : HasRoom v.changes) (due : MayCount v) (mask : mask_of d.op d.value < 2 ^ 64)
+      (new_change : Rattle.pm_world.specs.Logs.AreaChange (Applying todo) (length v.log.entries) v.log.generation (part_of o.shape k w) change) where
+    cells_now : cells_of o.shape new ≡ cells'
+    cells_now = cells_stored o.shape mem new w made became
+
+    other : (u : ℕ) → u ≢ w → new (PoolWord u) ≡ mem (PoolWord u)
+    other u ne = became.0 (PoolWord u) (other_number (PoolWord u) (PoolWord w) ne)
+
+    area_word : (j i : ℕ) → j < o.shape.lanes → i < 1024 → (u : ℕ) → u ≡ word_of_generation o.shape j + i → new (PoolWord u) ≡ mem (PoolWord u)
+    area_word j i a b u e = other u (λ q. no_area o.shape p₀ j i a b pair.0 (at_word ∙ (sym q ∙ e)))
+
+    alone_now : AloneFits mem v → AloneFits new View'
+    alone_now a = record {
+      words = λ u y e. ⊎_elim (λ (q : w ≡ u). ap (λ i. new (PoolWord i)) (sym q) ∙ (became.1 ∙ same_number made y (sym (cond-true (w == u) (Some made) (pictured v.fixed.shape v.claims u) (eq-eqb w u q)) ∙ e)))
+          (λ (ne : w ≢ u). other u (λ q. ne (sym q)) ∙ a.words u y (sym (cond-false (w == u) (Some made) (pictured v.fixed.shape v.claims u) (ne_eqb w u ne)) ∙ e)) (cases_eq w u);
+      occupancy = λ at y e. became.0 (occ_at at) (occ_sort at (PoolWord w) (λ q. omega arith) (λ q. omega arith)) ∙ a.occupancy at y e;
+    }
+      where
+        same_number : (a c : ℕ) → Some a ≡ Some c → a ≡ c
+        same_number a c e = ap value e
+          where
+            value : Option ℕ → ℕ
+            value None = 0
+            value (Some y) = y
+
+    lane_now : LaneFits o new g k View'
+    lane_now = let q = lane in record {
+      lane = q.lane;
+      shape = q.shape;
+      lanes = q.lanes;
+      log = subst (λ c. LogFits o.shape k (c.generation k) (c.seal k) (c.entry k) (c.slot k) S (owns g.geo S h) picture' (record v.log { phase = Applying todo }) (change ∷ v.changes)) (sym cells_now) (area new_change);
+      number = tt;
+      zones = λ z. ap (λ y. y == suc k) (became.0 (ZoneLock z) (other_sort (ZoneLock z) (PoolWord w) (λ q. omega arith))) ∙ q.zones z;
+      masks = all_cons (λ (c : Undrained). (c.mask < 2 ^ 64) × (c.word < words_of o.shape)) change v.changes (mask, inside) q.masks;
+      room = omega arith;
+      within = counts_on v.fixed.stop v.calls due;
+      alone = λ one. alone_now (q.alone one);
+      entries = q.entries;
+    }
+
+    header_word : (u : ℕ) → is_header o.shape u ≡ true → u ≢ w
+    header_word u t q = let z = and_parts (nat_lt u 512) (not (u == Rattle.pm_layout.specs.Chunks.word_of_root o.shape)) t in go p₀ (at_word ∙ sym q) (ltb-true u 512 z.0) z.1
+      where
+        go : (p : Place) → word_of o.shape p ≡ u → u < 512 → not (u == Rattle.pm_layout.specs.Chunks.word_of_root o.shape) ≡ true → ⊥
+        go (InRun c i) e l n = omega arith
+        go (InHuge c i) e l n = omega arith
+        go (Descr c) e l n = omega arith
+        go RootWord e l n = both_ways (not (u == Rattle.pm_layout.specs.Chunks.word_of_root o.shape)) (ap not (eq-eqb u (Rattle.pm_layout.specs.Chunks.word_of_root o.shape) (sym e))) n
+
+    -- THE WORLD AFTER IT
+    pub entry_applied : Turn views views' k View' → World o new views' g
+    entry_applied t = let own = subst (OwnWords S G h cells) (sym cells_now) own_words in world_with o mem views g x k ink new views' g S View' refl
+        (around_own S G k h (λ j. (sight_of (views j)).hold) cells (cells_of o.shape new) own)
+        record {
+          generation = λ j l ne. area_word j 0 l (omega arith) (word_of_generation o.shape j) (omega arith);
+          seal = λ j l ne. area_word j 1 l (omega arith) (word_of_seal o.shape j) (omega arith);
+          entry = λ j i a l r s ne. area_word j (8 + 2 * i + a) l (omega arith) (word_of_entry o.shape j i + a) (omega arith);
+          slot = λ j i y l r s ne. area_word j (136 + 8 * i + y) l (omega arith) (8 * line_of_slot o.shape j i + y) (omega arith);
+          zone = λ z j ne. ap (λ y. y == suc j) (became.0 (ZoneLock z) (other_sort (ZoneLock z) (PoolWord w) (λ q. omega arith)));
+          entries = λ j ne. refl;
+        } t (stored o.shape o.lanes (origin o) cells (cells_of o.shape new) (λ j. sight_of (views j)) G x.bits k ink own (sight_of View') (λ j. sight_of (views' j)) refl (λ i q. absurd (subst (λ z. flies_at z i) ph q))
+        (subst (λ c. SightFits o.shape c S (Flies G k) G k (sight_of View')) (sym cells_now) sight_now) (turned views views' k View' t))
+        lane_now x.of_lanes
+        (λ u. ⊎_elim (λ (q : u ≡ w). subst (λ y. y < 2 ^ 64) (sym (ap (λ i. new (PoolWord i)) q ∙ became.1)) small) (λ (ne : u ≢ w). subst (λ y. y < 2 ^ 64) (sym (other u ne)) (x.small u)) (cases_eq u w))
+        (λ u t. other u (header_word u t) ∙ x.header u t)
+        (let c = count_same views views' k View' t refl o.lanes in let r = x.counter_room in let e = became.0 CommitCounter (other_sort CommitCounter (PoolWord w) (λ q. omega arith)) in omega arith)
+        (⊎_elim (λ (q : mem StopWord ≡ 0). inl (became.0 StopWord (other_sort StopWord (PoolWord w) (λ z. omega arith)) ∙ q)) (λ (q : (j : ℕ) × (j < o.lanes) × IsAtStop (views j)). inr (q.0, q.1, stops_stay views views' k View' t (stop_stays v.fixed.stop v.calls) q.0 q.2)) x.stop_word)
