@@ -14,16 +14,19 @@ use Rattle.pm_record.specs.declared.redo.Op.TheVariants.{Set, Or, And}
 use Rattle.pm_view.specs.Changes.{Undrained, is_dirty_bit}
 use Rattle.pm_view.specs.Claims.{Claim, Knows, class, first, span, first_in, geometry, pictured, is_run}
 use Rattle.pm_view.specs.Counts.{MayCount, HasRoom, IsAtStop}
-use Rattle.pm_view.specs.Parts.{Part, RootPart, DescriptorPart, ChunkPart, part_of}
+use Rattle.pm_view.specs.Bits.{all_bits}
+use Rattle.pm_view.specs.Parts.{Part, GenerationPart, SealPart, EntryPart, SlotPart, RootPart, DescriptorPart, ChunkPart, is_entry_word, is_slot_word, pool_part, part_of}
 use Rattle.pm_view.specs.Entries.{Entry, Redo, given_bit, delta, latest, redos, with_redo, turn, first_of_two}
 use Rattle.pm_view.specs.Log.{Phase, Applying, Recorded, Log, old_of}
 use Rattle.pm_view.specs.Places.{Place, InRun, InHuge, Descr, RootWord, Block, Small, Big, Root, part, block_of, is_data, twin, same_place, word_of, is_place, in_span}
 use Rattle.pm_view.specs.View.{View}
-use Rattle.pm_view.specs.Views.{value_in, changed}
+use Rattle.pm_view.specs.Views.{value_in, part_in, changed}
 use Rattle.pm_world.specs.States.{State, Diff, given, there, read, put1, Cells}
 use Rattle.pm_world.specs.Sights.{Hold, Sight, hold_of, is_pictured, picture, is_use, is_soiled, is_made, is_recorded, fresh, call_in, sight_of}
 use Rattle.pm_world.specs.Lanes.{Ghost, own, has, owns, is_in_making, is_size, TurnAfter, SightFits, Flies, flies_at}
-use Rattle.pm_world.specs.Logs.{IsEntryAt, EntryOf, ends_with, LogFits}
+use Rattle.pm_world.specs.Lawful.{MayStore, IsNext}
+use Rattle.pm_world.proofs.Stores.{KeepsAt}
+use Rattle.pm_world.specs.Logs.{AreaChange, IsEntryAt, EntryOf, ends_with, LogFits}
 use Rattle.pm_world.specs.Memory.{Memory, PoolWord, LockWord, RunWord, ZoneWord, ZoneLock, CommitCounter, StopWord, occ_at, Becomes, bit, run_told, bits_of, descriptor_told, cells_by, cells_of}
 use Rattle.pm_world.specs.World.{Opening, Views, Past, origin, ghost_of, settled_words, AloneFits, LaneFits, is_header, World}
 use Rattle.pm_world.specs.Laws.{Turn}
@@ -40,7 +43,7 @@ use Rattle.pm_world.proofs.Going.{at_phase}
 use Rattle.pm_world.proofs.Stored.{OwnWords, around_own, stored}
 use Rattle.pm_world.proofs.StepApply.{made_word, mask_of, mask_given, OneWord, is_descr, read_in, new_words, one_word, word_now, read_else, applied_at}
 use Rattle.pm_world.proofs.StepDrain.{old_some}
-use Rattle.pm_world.proofs.StepChange.{tag, last_one, entry_at}
+use Rattle.pm_world.proofs.StepChange.{tag, last_one, entry_at, stores_at}
 
 given_cond : (t : Bool) (y : Option Bool) → given (cond t y None) ≡ true → (t ≡ true) × (given y ≡ true)
 given_cond true y e = (refl, e)
@@ -425,3 +428,43 @@ module _ (o : Opening) (mem : Memory) (views : Views) (g : Past) (x : World o me
         (λ u t. other u (header_word u t) ∙ x.header u t)
         (let c = count_same views views' k View' t refl o.lanes in let r = x.counter_room in let e = became.0 CommitCounter (other_sort CommitCounter (PoolWord w) (λ q. omega arith)) in omega arith)
         (⊎_elim (λ (q : mem StopWord ≡ 0). inl (became.0 StopWord (other_sort StopWord (PoolWord w) (λ z. omega arith)) ∙ q)) (λ (q : (j : ℕ) × (j < o.lanes) × IsAtStop (views j)). inr (q.0, q.1, stops_stay views views' k View' t (stop_stays v.fixed.stop v.calls) q.0 q.2)) x.stop_word)
+
+-- ---- THE NEXT ENTRY IS OF A PLACE, where its word is not the lane's generation
+module _ (o : Opening) (mem : Memory) (views : Views) (g : Past) (x : World o mem views g) (k : ℕ) (ink : k < o.lanes) (w : ℕ) (d : Entry) (todo : List Entry) (ph : (views k).log.phase ≡ Applying (d ∷ todo)) (word : d.word ≡ w) where
+  before : LogFits o.shape k ((cells_of o.shape mem).generation k) ((cells_of o.shape mem).seal k) ((cells_of o.shape mem).entry k) ((cells_of o.shape mem).slot k) (settled_words o g) (owns g.geo (settled_words o g) (sight_of (views k)).hold) (sight_of (views k)).picture (record (views k).log { phase = Applying (d ∷ todo) }) (views k).changes
+  before = subst (λ z. LogFits o.shape k ((cells_of o.shape mem).generation k) ((cells_of o.shape mem).seal k) ((cells_of o.shape mem).entry k) ((cells_of o.shape mem).slot k) (settled_words o g) (owns g.geo (settled_words o g) (sight_of (views k)).hold) (sight_of (views k)).picture (record (views k).log { phase = z }) (views k).changes) ph (x.each_lane k ink).log
+
+  generation_tag : w ≡ word_of_generation o.shape k → tag (part_of o.shape k w) ≡ 1
+  generation_tag e = ap (λ t. tag (if t then GenerationPart else if w == word_of_seal o.shape k then SealPart else if is_entry_word o.shape k w then EntryPart else if is_slot_word o.shape k w then SlotPart else pool_part o.shape w)) (eq-eqb w (word_of_generation o.shape k) e)
+
+  pub next_place : tag (part_of o.shape k w) ≡ 0 → (p : Place) × (d.place ≡ Some p)
+  next_place t = go d.place refl
+    where
+      go : (q : Option Place) → d.place ≡ q → (p : Place) × (d.place ≡ Some p)
+      go (Some p) e = (p, e)
+      go None e = let z = last_one before.phase.1.done before.phase.0.front d (ends_with o.shape k (views k).log.generation) todo (sym before.phase.1.are ∙ before.phase.0.are) e before.phase.0.placed in
+          let y = generation_tag (sym word ∙ ap (λ (c : Entry). c.word) z.0) in absurd (omega arith)
+
+-- ---- A WHOLE WORD IS STORED
+module _ (o : Opening) (mem new : Memory) (views views' : Views) (g : Past) (x : World o mem views g) (k : ℕ) (ink : k < o.lanes) (w n : ℕ) (m : MayStore (views k) w n) (due : MayCount (views k)) (became : Becomes (PoolWord w) n mem new) where
+  pub store_entry : (q : Part) → part_in (views k) w ≡ q → tag q ≡ 0 → (d : Entry) (todo : List Entry) → ((c : Undrained) → c.mask ≡ all_bits → AreaChange (Applying todo) (length (views k).log.entries) (views k).log.generation q c)
+      → (views k).log.phase ≡ Applying (d ∷ todo) → IsNext (d ∷ todo) w Set n → Turn views views' k (changed (views k) w all_bits n (views k).claims (record (views k).log { phase = Applying todo })) → World o new views' g
+  store_entry q part t d todo area ph next turn = let here : part_of o.shape k w ≡ q = subst (λ s. part_of s k w ≡ q) (x.each_lane k ink).shape (subst (λ l. part_of (views k).fixed.shape l w ≡ q) (x.each_lane k ink).lane part) in
+      let p = next_place o mem views g x k ink w d todo ph next.0 (ap tag here ∙ t) in
+      let made : made_word d.op d.value (mem (PoolWord w)) ≡ n = ap (λ z. made_word z d.value (mem (PoolWord w))) next.1 ∙ next.2 in
+      let whole : mask_of d.op d.value ≡ all_bits = ap (λ z. mask_of z d.value) next.1 in
+      entry_applied o mem views g x k ink w d todo ph next.0 (subst (λ s. w < words_of s) (x.each_lane k ink).shape m.inside) p.0 p.1 (subst (λ z. z < 2 ^ 64) (sym made) m.small) new views' (subst (λ z. Becomes (PoolWord w) z mem new) (sym made) became) m.room due
+      (subst (λ z. z < 2 ^ 64) (sym whole) (omega arith)) (subst (λ z. AreaChange (Applying todo) (length (views k).log.entries) (views k).log.generation z (change o mem views g x k ink w d todo ph next.0 (subst (λ s. w < words_of s) (x.each_lane k ink).shape m.inside) p.0 p.1 (subst (λ z. z < 2 ^ 64) (sym made) m.small))) (sym here) (area (change o mem views g x k ink w d todo ph next.0 (subst (λ s. w < words_of s) (x.each_lane k ink).shape m.inside) p.0 p.1 (subst (λ z. z < 2 ^ 64) (sym made) m.small)) whole))
+      (subst (λ z. Turn views views' k (changed (views k) w z (made_word d.op d.value (mem (PoolWord w))) (views k).claims (record (views k).log { phase = Applying todo }))) (sym whole) (subst (λ z. Turn views views' k (changed (views k) w all_bits z (views k).claims (record (views k).log { phase = Applying todo }))) (sym made) turn))
+
+pub applies_root : (todo : List Entry) → KeepsAt (Applying todo) RootPart
+applies_root [] = stores_at (Applying []) RootPart (λ w n o mem new views views' g k x ink m due e part c moves t. absurd c)
+applies_root (d ∷ todo) = stores_at (Applying (d ∷ todo)) RootPart (λ w n o mem new views views' g k x ink m due e part c moves t. store_entry o mem new views views' g x k ink w n m due moves RootPart part refl d todo (λ _ _. tt) e c t)
+
+pub applies_descriptor : (todo : List Entry) (c : ℕ) → KeepsAt (Applying todo) (DescriptorPart c)
+applies_descriptor [] c = stores_at (Applying []) (DescriptorPart c) (λ w n o mem new views views' g k x ink m due e part y moves t. absurd y)
+applies_descriptor (d ∷ todo) c = stores_at (Applying (d ∷ todo)) (DescriptorPart c) (λ w n o mem new views views' g k x ink m due e part y moves t. store_entry o mem new views views' g x k ink w n m due moves (DescriptorPart c) part refl d todo (λ _ q. q) e y t)
+
+pub applies_chunk : (todo : List Entry) (c i : ℕ) → KeepsAt (Applying todo) (ChunkPart c i)
+applies_chunk [] c i = stores_at (Applying []) (ChunkPart c i) (λ w n o mem new views views' g k x ink m due e part y moves t. absurd y)
+applies_chunk (d ∷ todo) c i = stores_at (Applying (d ∷ todo)) (ChunkPart c i) (λ w n o mem new views views' g k x ink m due e part y moves t. store_entry o mem new views views' g x k ink w n m due moves (ChunkPart c i) part refl d todo (λ _ _. tt) e y t)
