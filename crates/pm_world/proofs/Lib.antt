@@ -21,6 +21,7 @@ pub mod StepChange
 pub mod Applies
 pub mod StepApply
 pub mod StepEntries
+pub mod StepShared
 pub mod PlacesAt
 pub mod Entering
 pub mod Crashes

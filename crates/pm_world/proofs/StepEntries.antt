@@ -133,7 +133,7 @@ module _ (o : Opening) (mem : Memory) (views : Views) (g : Past) (x : World o me
   f : SightFits o.shape cells S (Flies G k) G k (record (sight_of v) { phase = Applying (d ∷ todo) })
   f = at_phase o.shape o.lanes (origin o) cells (λ j. sight_of (views j)) G x.bits k ink (Applying (d ∷ todo)) ph
 
-  pair : (is_place o.shape p₀ ≡ true) × (word_of o.shape p₀ ≡ d.word) × EntryOf p₀ d.op d.value
+  pub pair : (is_place o.shape p₀ ≡ true) × (word_of o.shape p₀ ≡ d.word) × EntryOf p₀ d.op d.value
   pair = let l = log_then in let q = ap (λ es. Rattle.std.specs.Prelude.slice_get es (length l.phase.1.done)) l.phase.1.are ∙ entry_at l.phase.1.done d todo in
       subst (λ z. IfSome z (λ p. (is_place o.shape p ≡ true) × (word_of o.shape p ≡ d.word) × EntryOf p d.op d.value)) place (l.pairs (length l.phase.1.done) d q).3
 
@@ -232,7 +232,7 @@ module _ (o : Opening) (mem : Memory) (views : Views) (g : Past) (x : World o me
   abbrev claims' : List Claim
   claims' = Knows w made ∷ v.claims
 
-  abbrev change : Undrained
+  abbrev pub change : Undrained
   change = record { word = w; mask = mask_of d.op d.value; old = option_map (λ old. bit_and old (mask_of d.op d.value)) (value_in v w); flushed = false }
 
   abbrev log' : Log
