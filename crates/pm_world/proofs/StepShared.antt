@@ -110,3 +110,33 @@ and_from known w bits found o mem new views views' g k x ink law moves t = let m
       change_entry o mem new views views' g x k ink op.And (not_set op.And (λ q. omega arith)) w bits (bit_and found bits) m (law.due refl) (ap (λ z. bit_and z bits) (sym moves.1)) (let z = and_le_l found bits in omega arith) (omega arith) moves.0 (next_at (views k) op.And w bits (views k).log.phase (part_in (views k) w) m.fits) t,
       subst (FindsKnown (views k) w) (sym moves.1) (known o mem views g k x ink w inside),
     )
+
+-- ---- THE STORES OF ALL PHASES: those of an open call and of one that takes its number are premises
+pub record OtherStores : Type 0 where
+  pub idle : (c i : ℕ) → KeepsAt Idle (ChunkPart c i)
+  pub slot : KeepsAt Open SlotPart
+  pub entry : KeepsAt Open EntryPart
+  pub chunk : (c i : ℕ) → KeepsAt Open (ChunkPart c i)
+  pub descriptor : (c : ℕ) → KeepsAt Open (DescriptorPart c)
+  pub generation : KeepsAt Open GenerationPart
+  pub drawn_generation : (n : ℕ) → KeepsAt (Drawn n) GenerationPart
+  pub drawn_seal : (n : ℕ) → KeepsAt (Drawn n) SealPart
+
+each_store : OtherStores → (ph : Phase) (q : Part) → KeepsAt ph q
+each_store s Idle (ChunkPart c i) = s.idle c i
+each_store s Open SlotPart = s.slot
+each_store s Open EntryPart = s.entry
+each_store s Open (ChunkPart c i) = s.chunk c i
+each_store s Open (DescriptorPart c) = s.descriptor c
+each_store s Open GenerationPart = s.generation
+each_store s (Drawn n) GenerationPart = s.drawn_generation n
+each_store s (Drawn n) SealPart = s.drawn_seal n
+each_store s (Applying todo) GenerationPart = applies_generation todo
+each_store s (Applying todo) RootPart = applies_root todo
+each_store s (Applying todo) (DescriptorPart c) = applies_descriptor todo c
+each_store s (Applying todo) (ChunkPart c i) = applies_chunk todo c i
+each_store s (Applying todo) SealPart = clears_seal todo
+each_store s ph q = stores_at ph q (λ w n o mem new views views' g k x ink m due e part c moves t. absurd c)
+
+pub store_from : OtherStores → (w n : ℕ) → Keeps (Store w n)
+store_from s w n o mem new views views' g k x ink law moves t = (each_store s (views k).log.phase (part_in (views k) w) w n o mem new views views' g k x ink law refl refl moves t, tt)
