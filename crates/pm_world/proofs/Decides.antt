@@ -329,8 +329,10 @@ module _ (sh : Shape) (L : ℕ) (o : State) (cells : Cells) (sights : ℕ → Si
   pub decides : (sights' : ℕ → Sight) → Turned sights sights' k x' → Bits sh L o cells sights' g'
   decides sights' t = goes_on sh L o cells sights g x k ink S' cells x' g' sights' refl around sight_now record {
     gone = λ p b q u e. absurd (both_ways (owns g.geo S' x'.hold p b) u (owned_now p b q));
-    back = λ p b u u' e. (sym (live_before p b u) ∙ e,
-      λ j ne y. false_from_ne_true (owns g.geo S (sights j).hold p b) (λ q. both_ways (owns g.geo S' (sights j).hold p b) y (owned_kept sh k (record (sights k) { phase = Sealing n }) (λ i. (sights i).hold) cells cells S S' g g' x.geo x.alone f around j ne (sights j) refl (x.each_lane j) p b q)));
+    back = λ p b u u' e. (
+      sym (live_before p b u) ∙ e,
+      λ j ne y. false_from_ne_true (owns g.geo S (sights j).hold p b) (λ q. both_ways (owns g.geo S' (sights j).hold p b) y (owned_kept sh k (record (sights k) { phase = Sealing n }) (λ i. (sights i).hold) cells cells S S' g g' x.geo x.alone f around j ne (sights j) refl (x.each_lane j) p b q)),
+    );
     made = same_made sh L o cells sights g x k ink x' (λ c. refl);
     occ = λ a e. x.occ a e ∙ occupied a;
     geo = geo_now;

@@ -20,6 +20,9 @@ use Rattle.pm_view.specs.Places.{Place, Descr, twin, same_place}
 use Rattle.pm_view.specs.Steps.Step.{Or, And, Store}
 use Rattle.pm_view.specs.View.{View}
 use Rattle.pm_view.specs.Views.{part_in, changed}
+use Rattle.pm_world.specs.Course.{past_after}
+use Rattle.pm_world.specs.Decisions.{DecidedStoresKeep}
+use Rattle.pm_world.specs.Lanes.{is_decided}
 use Rattle.pm_world.specs.Lawful.{MayChange, ChangeFits, IsNext}
 use Rattle.pm_world.specs.Laws.{Turn, Keeps}
 use Rattle.pm_world.specs.Logs.{AreaChange, EntryOf}
@@ -140,3 +143,24 @@ each_store s ph q = stores_at ph q (λ w n o mem new views views' g k x ink m du
 
 pub store_from : OtherStores → (w n : ℕ) → Keeps (Store w n)
 store_from s w n o mem new views views' g k x ink law moves t = (each_store s (views k).log.phase (part_in (views k) w) w n o mem new views views' g k x ink law refl refl moves t, tt)
+
+-- of a decided call none is a premise
+pub decided_stores : DecidedStoresKeep
+decided_stores w n o old mem views new g k x ink law e moves t = go (views k).log.phase (part_in (views k) w) refl refl e
+  where
+    go : (ph : Phase) (q : Part) → (views k).log.phase ≡ ph → part_in (views k) w ≡ q → is_decided ph ≡ true → World o mem new (past_after g (views k) (Store w n))
+    go Idle q a b d = absurd (both_ways false refl d)
+    go Open q a b d = absurd (both_ways false refl d)
+    go (Drawn m) q a b d = absurd (both_ways false refl d)
+    go (Sealing m) q a b d = absurd (both_ways false refl d)
+    go (Applying todo) GenerationPart a b d = applies_generation todo w n o old mem views new g k x ink law a b moves t
+    go (Applying todo) RootPart a b d = applies_root todo w n o old mem views new g k x ink law a b moves t
+    go (Applying todo) (DescriptorPart c) a b d = applies_descriptor todo c w n o old mem views new g k x ink law a b moves t
+    go (Applying todo) (ChunkPart c i) a b d = applies_chunk todo c i w n o old mem views new g k x ink law a b moves t
+    go (Applying todo) SealPart a b d = clears_seal todo w n o old mem views new g k x ink law a b moves t
+    go (Applying todo) EntryPart a b d = stores_at (Applying todo) EntryPart (λ w n o mem new views views' g k x ink m due e part c moves t. absurd c) w n o old mem views new g k x ink law a b moves t
+    go (Applying todo) SlotPart a b d = stores_at (Applying todo) SlotPart (λ w n o mem new views views' g k x ink m due e part c moves t. absurd c) w n o old mem views new g k x ink law a b moves t
+    go (Applying todo) OtherPart a b d = stores_at (Applying todo) OtherPart (λ w n o mem new views views' g k x ink m due e part c moves t. absurd c) w n o old mem views new g k x ink law a b moves t
+    go Clearing q a b d = stores_at Clearing q (λ w n o mem new views views' g k x ink m due e part c moves t. absurd c) w n o old mem views new g k x ink law a b moves t
+    go (Retiring m) q a b d = absurd (both_ways false refl d)
+    go Voiding q a b d = absurd (both_ways false refl d)

@@ -4,10 +4,12 @@
 //! It speaks of places and bits, and of the calls by what they make final; what they mean is said above. Docs/MODEL.md, "The world".
 //!
 //! So far it is proved of three kinds of step that they keep the world: the draw of a number, of any call; a look at the stop word; and an
-//! operation that is told. Still to come: loads, stores, OR and AND, flush and drain; locks and zones' locks; occupancy; the number seen,
+//! operation that is told; and of the drain that decides a call, and of each store of a decided one. Still to come: loads, stores, OR and AND, flush and drain; locks and zones' locks; occupancy; the number seen,
 //! the stop set; the opening of a world; crash images; the history.
 #![tactic(auto)]
 
+mod decisions;
 mod laws;
 
+pub use decisions::decisions_keep_the_world;
 pub use laws::{lawful_steps_keep_the_world, no_bit_is_owned_twice};
