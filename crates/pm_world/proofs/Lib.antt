@@ -23,4 +23,5 @@ pub mod EntryBits
 pub mod StoreEntry
 pub mod StoreEnd
 pub mod RecordBits
+pub mod Recording
 pub mod Crashes
