@@ -24,4 +24,5 @@ pub mod StoreEntry
 pub mod StoreEnd
 pub mod RecordBits
 pub mod Recording
+pub mod StoreRecord
 pub mod Crashes
