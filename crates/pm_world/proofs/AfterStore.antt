@@ -8,22 +8,25 @@ use Rattle.pm_layout.specs.Areas.{word_of_generation, word_of_seal, word_of_entr
 use Rattle.pm_layout.specs.Chunks.{words_of, word_of_root}
 use Rattle.pm_view.specs.Bits.{all_bits}
 use Rattle.pm_view.specs.Changes.{Undrained}
-use Rattle.pm_view.specs.Claims.{pictured}
+use Rattle.pm_view.specs.Claims.{class, pictured}
 use Rattle.pm_view.specs.Counts.{max_changes, MayCount, IsAtStop}
 use Rattle.pm_view.specs.Limits.{greatest_generation}
-use Rattle.pm_view.specs.Log.{Log}
+use Rattle.pm_view.specs.Log.{Phase, Log, log_stored}
+use Rattle.pm_view.specs.Parts.{Part}
 use Rattle.pm_view.specs.View.{View}
-use Rattle.pm_view.specs.Views.{value_in, changed}
+use Rattle.pm_view.specs.Views.{shape_of, part_in, value_in, marked_by, changed}
+use Rattle.pm_world.specs.Course.{past_stored}
 use Rattle.pm_world.specs.States.{State, Cells}
 use Rattle.pm_world.specs.Sights.{sight_of}
 use Rattle.pm_world.specs.Lanes.{Flies, flies_at, SightFits, Bits}
-use Rattle.pm_world.specs.Lawful.{MayStore}
+use Rattle.pm_world.specs.Lawful.{StoreFits, MayStore}
 use Rattle.pm_world.specs.Laws.{Turn}
 use Rattle.pm_world.specs.Memory.{Memory, PoolWord, ZoneLock, CommitCounter, StopWord, occ_at, Becomes, cells_of}
 use Rattle.pm_world.specs.World.{Opening, Views, Past, origin, ghost_of, settled_words, NumberFits, AloneFits, AreaFits, LaneFits, is_header, World}
 use Rattle.pm_world.proofs.Cells.{other_sort, other_number, occ_sort}
 use Rattle.pm_world.proofs.Counting.{count_same}
 use Rattle.pm_world.proofs.StepDraw.{all_cons}
+use Rattle.pm_world.proofs.Stores.{KeepsAt}
 use Rattle.pm_world.proofs.Stored.{OwnWords, around_own, stored}
 use Rattle.pm_world.proofs.Worlds.{AreasAside, turned, world_with, stops_stay}
 
@@ -99,3 +102,16 @@ module _ (o : Opening) (mem new : Memory) (views views' : Views) (g : Past) (x :
 
       header : (u : ℕ) → is_header o.shape u ≡ true → new (PoolWord u) ≡ slice_index o.words u
       header u h = let l = ltb-true u 512 (and_parts (nat_lt u 512) (not (u == word_of_root o.shape)) h).0 in other_word u (λ q. omega arith) ∙ x.header u h
+
+-- what is to be shown of a store in this phase into such a word, the phase and the word's part written out
+abbrev pub KeepsWith : Phase → Part → Type 0
+KeepsWith ph part = (w n : ℕ) (o : Opening) (mem new : Memory) (views views' : Views) (g : Past) (k : ℕ) → World o mem views g → k < o.lanes → MayStore (views k) w n → MayCount (views k) → StoreFits (views k) w n ph part
+    → (views k).log.phase ≡ ph → part_in (views k) w ≡ part → Becomes (PoolWord w) n mem new
+    → Turn views views' k (changed (views k) w all_bits n (marked_by ph part n (views k).claims) (log_stored (shape_of (views k)) (class (views k).claims) ph part n (views k).log)) → World o new views' (past_stored ph part n g)
+
+pub keeps_at : (ph : Phase) (part : Part) → KeepsWith ph part → KeepsAt ph part
+keeps_at ph part keeps w n o mem new views views' g k x ink law e p b t = let v = views k in
+    subst (λ z. World o new views' (past_stored z (part_in (views k) w) n g)) (sym e) (subst (λ q. World o new views' (past_stored ph q n g)) (sym p)
+    (keeps w n o mem new views views' g k x ink law.allowed (law.due refl) (subst (StoreFits (views k) w n ph) p (subst (λ z. StoreFits (views k) w n z (part_in (views k) w)) e law.allowed.fits)) e p b
+    (subst (λ q. Turn views views' k (changed (views k) w all_bits n (marked_by ph q n (views k).claims) (log_stored (shape_of (views k)) (class (views k).claims) ph q n (views k).log))) p
+    (subst (λ z. Turn views views' k (changed (views k) w all_bits n (marked_by z (part_in (views k) w) n (views k).claims) (log_stored (shape_of (views k)) (class (views k).claims) z (part_in (views k) w) n (views k).log))) e t))))

@@ -85,7 +85,7 @@ given_cases : (a c : Option Bool) → given (first_of_two a c) ≡ true → (giv
 given_cases None c e = inr e
 given_cases (Some y) c e = inl refl
 
-val_alike : (w y : ℕ → Bool) (i n : ℕ) → ((b : ℕ) → b < i + n → w b ≡ y b) → val w i n ≡ val y i n
+pub val_alike : (w y : ℕ → Bool) (i n : ℕ) → ((b : ℕ) → b < i + n → w b ≡ y b) → val w i n ≡ val y i n
 val_alike w y i zero h = refl
 val_alike w y i (suc n) h = ap (λ t. cond t 1 0 + 2 * val w (suc i) n) (h i (omega arith)) ∙ ap (λ t. cond (y i) 1 0 + 2 * t) (val_alike w y (suc i) n (λ b l. h b (omega arith)))
 

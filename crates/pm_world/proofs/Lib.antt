@@ -24,4 +24,10 @@ pub mod StepEntries
 pub mod StepShared
 pub mod PlacesAt
 pub mod Entering
+pub mod EntryBits
+pub mod StoreEntry
+pub mod StoreEnd
+pub mod RecordBits
+pub mod Recording
+pub mod StoreRecord
 pub mod Crashes

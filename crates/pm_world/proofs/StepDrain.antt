@@ -391,7 +391,7 @@ goes_on_in_each Voiding = goes_on_voiding
 abbrev drop_to : View → List Undrained → View
 drop_to v left = record v { claims = Drained left ∷ v.claims; changes = left; calls = v.calls + 1 }
 
-module _ (drop : Drops) (o : Opening) (mem : Memory) (views new : Views) (g : Past) (k : ℕ) (x : World o mem views g) (ink : k < o.lanes) where
+module _ (drop : Drops) (o : Opening) (mem : Memory) (views new : Views) (g : Past) (k : ℕ) (x : World o mem views g) (ink : k < o.lanes) (due : Rattle.pm_view.specs.Counts.MayCount (views k)) where
   abbrev dropped : Views
   dropped j = cond (j == k) (drops (views k)) (views j)
 
@@ -413,13 +413,13 @@ module _ (drop : Drops) (o : Opening) (mem : Memory) (views new : Views) (g : Pa
 
   drained_all : drained (views k).changes ≡ [] → Turn views new k (drained_to (views k) []) → World o mem new (past_drained g (views k) [])
   drained_all e t = let here : dropped k ≡ drop_to (views k) [] = dropped_here ∙ ap (drop_to (views k)) e in
-      let w : World o mem dropped (past_made g (views k) []) = subst (λ l. World o mem dropped (past_made g (views k) l)) e (drop o mem views dropped g k x ink (record { here = dropped_here; else_ = dropped_else })) in
+      let w : World o mem dropped (past_made g (views k) []) = subst (λ l. World o mem dropped (past_made g (views k) l)) e (drop o mem views dropped g k x ink due (record { here = dropped_here; else_ = dropped_else })) in
       subst (World o mem new) (decided_drop (views k).log.phase (views k) (past_made g (views k) [])) (subst (λ v. World o mem new (past_decided v.log.phase v (past_made g (views k) []))) here
       (goes_on_in_each (dropped k).log.phase o mem dropped new (past_made g (views k) []) k w ink (ap (λ v. v.changes) here) refl (record { here = t.here ∙ sym (ap goes_on_to here); else_ = λ j ne. t.else_ j ne ∙ sym (dropped_else j ne) })))
 
   drained_world : (left : List Undrained) → drained (views k).changes ≡ left → Turn views new k (drained_to (views k) left) → World o mem new (past_drained g (views k) left)
   drained_world [] e t = drained_all e t
-  drained_world (u ∷ left) e t = subst (λ l. World o mem new (past_made g (views k) l)) e (drop o mem views new g k x ink (subst (λ l. Turn views new k (drop_to (views k) l)) (sym e) t))
+  drained_world (u ∷ left) e t = subst (λ l. World o mem new (past_made g (views k) l)) e (drop o mem views new g k x ink due (subst (λ l. Turn views new k (drop_to (views k) l)) (sym e) t))
 
 pub drain_from : Drops → Keeps Drain
-drain_from drop o mem new views views' g k x ink law moves t = (subst (λ m. World o m views' (past_drained g (views k) (drained (views k).changes))) (λ i l. sym (moves l) i) (drained_world drop o mem views views' g k x ink (drained (views k).changes) refl t), tt)
+drain_from drop o mem new views views' g k x ink law moves t = (subst (λ m. World o m views' (past_drained g (views k) (drained (views k).changes))) (λ i l. sym (moves l) i) (drained_world drop o mem views views' g k x ink (law.due refl) (drained (views k).changes) refl t), tt)

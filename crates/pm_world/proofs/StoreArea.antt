@@ -1,22 +1,22 @@
 -- A STORE INTO THE LANE'S OWN AREA: no place is there, so the bits at places, the picture and what is soiled stay.
-use Rattle.std.specs.Prelude.{List, [], ◌∷◌, length, bit_and}
+use Rattle.std.specs.Prelude.{List, [], ◌∷◌, length, bit_and, not}
 use Rattle.std.specs.List.{list_any}
 use Rattle.std.specs.Int.{bit_at}
 use Rattle.std.specs.Option.{option_map}
 use Rattle.std.proofs.Common.{◌≡◌, ◌≢◌, ℕ, suc, ◌+◌, ◌*◌, ◌/◌, ◌<◌, ◌≤◌, Bool, true, false, cond, eqb, ◌==◌, ◌&&◌, ◌||◌, refl, sym, ap, ◌∙◌, subst, arith, ne_eqb, Option, None, Some}
 use Rattle.std.proofs.lemmas.Bool.{cond-false}
 use Rattle.pm_layout.specs.declared.shape.Shape.{Shape}
-use Rattle.pm_layout.specs.Areas.{word_of_generation}
+use Rattle.pm_layout.specs.Areas.{word_of_generation, line_of_slot}
 use Rattle.pm_view.specs.Bits.{all_bits}
-use Rattle.pm_view.specs.Changes.{Undrained, is_dirty_bit}
+use Rattle.pm_view.specs.Changes.{Undrained, is_in_line, is_dirty_bit}
 use Rattle.pm_view.specs.Claims.{Claim, Knows, pictured}
 use Rattle.pm_view.specs.Counts.{MayCount}
-use Rattle.pm_view.specs.Log.{Phase, Log}
+use Rattle.pm_view.specs.Log.{Phase, Recorded, Log, old_in}
 use Rattle.pm_view.specs.Places.{Place, InRun, InHuge, Descr, RootWord, Block, word_of, is_place, twin}
 use Rattle.pm_view.specs.View.{View}
 use Rattle.pm_view.specs.Views.{value_in}
-use Rattle.pm_world.specs.States.{State, Diff, Cells, read, put1}
-use Rattle.pm_world.specs.Sights.{Hold, Sight, hold_of, is_pictured, picture, is_use, is_soiled, is_logged, call_of, sight_of}
+use Rattle.pm_world.specs.States.{State, Diff, Cells, read, given, put1}
+use Rattle.pm_world.specs.Sights.{Hold, Sight, hold_of, is_pictured, picture, is_use, is_soiled, is_slot_drained, is_logged_from, is_logged, call_of, sight_of}
 use Rattle.pm_world.specs.Lanes.{Ghost, owns, Flies, flies_at, SightFits}
 use Rattle.pm_world.specs.Logs.{LogFits}
 use Rattle.pm_world.specs.Lawful.{MayStore}
@@ -70,6 +70,12 @@ module _ (v : View) (w n : ℕ) (apart : (p : Place) → w ≢ word_of v.fixed.s
     soiled = λ p b. same_soiled p b i;
   }
 
+-- a word in no slot's line leaves what is under a drained record
+pub logged_else : (sh : Shape) (lane : ℕ) (c : Undrained) (changes : List Undrained) (j : ℕ) (rs : List Recorded) (p : Place) → ((i : ℕ) → i < j + length rs → c.word / 8 ≢ line_of_slot sh lane i) → is_logged_from sh lane (c ∷ changes) j rs p ≡ is_logged_from sh lane changes j rs p
+logged_else sh lane c changes j [] p h = refl
+logged_else sh lane c changes j (r ∷ rs) p h = ap (λ t. (given (old_in r p) && not (t || list_any (is_in_line (line_of_slot sh lane j)) changes)) || is_logged_from sh lane (c ∷ changes) (suc j) rs p) (ne_eqb (c.word / 8) (line_of_slot sh lane j) (h j (omega arith)))
+    ∙ ap (λ t. (given (old_in r p) && is_slot_drained sh lane changes j) || t) (logged_else sh lane c changes (suc j) rs p (λ i l. h i (omega arith)))
+
 -- a lane's sight fits over words whose areas alone changed
 pub over_area : (sh : Shape) (cells : Cells) (S : State) (flies : ℕ → Diff → Type 0) (g : Ghost) (k : ℕ) (x : Sight) (generation seal : ℕ → ℕ) (entry slot : ℕ → ℕ → ℕ → ℕ) → SightFits sh cells S flies g k x → SightFits sh (record cells { generation = generation; seal = seal; entry = entry; slot = slot }) S flies g k x
 over_area sh cells S flies g k x generation seal entry slot f = record { hold = f.hold; bits = f.bits; picture = f.picture; turns = f.turns; call = f.call; reach = f.reach; plain = f.plain; logged = f.logged; stored = f.stored; fresh = f.fresh; sizes = f.sizes; born = f.born; guarded = f.guarded; soiled = f.soiled }
@@ -112,6 +118,14 @@ module _ (o : Opening) (mem new : Memory) (views views' : Views) (g : Past) (x :
   -- what is owed of the log, over the words after the store
   abbrev pub Logged : Log → Type 0
   Logged log = LogFits o.shape k (put_cells.generation k) (put_cells.seal k) (put_cells.entry k) (put_cells.slot k) (settled_words o g) (owns g.geo (settled_words o g) (sight_of (views k)).hold) (sight_of (views k)).picture log (undrained_by (views k) w ∷ (views k).changes)
+
+  -- a sight of the lane whose log this is, where the store is in no slot's line and the phase is this one
+  pub sight_from : (log : Log) (ph : Phase) → log.phase ≡ ph → ((p : Place) → is_logged (views k).fixed.shape (views k).fixed.lane (undrained_by (views k) w ∷ (views k).changes) log.records p ≡ is_logged (views k).fixed.shape (views k).fixed.lane (views k).changes log.records p)
+      → (logged : Place → Bool) → ((p : Place) → logged p ≡ is_logged (views k).fixed.shape (views k).fixed.lane (views k).changes log.records p)
+      → SightFits o.shape (cells_of o.shape mem) (settled_words o g) (Flies (ghost_of g) k) (ghost_of g) k (record (sight_of (views k)) { phase = ph; call = call_of (views k).fixed.shape (views k).claims log; logged = logged })
+      → SightFits o.shape (cells_of o.shape mem) (settled_words o g) (Flies (ghost_of g) k) (ghost_of g) k (sight_logged (views k) w n apart_in log)
+  sight_from log ph e same logged q f = subst (λ z. SightFits o.shape (cells_of o.shape mem) (settled_words o g) (Flies (ghost_of g) k) (ghost_of g) k (record (sight_logged (views k) w n apart_in log) { phase = z })) (sym e)
+      (subst (λ y. SightFits o.shape (cells_of o.shape mem) (settled_words o g) (Flies (ghost_of g) k) (ghost_of g) k (record (sight_logged (views k) w n apart_in log) { phase = ph; logged = y })) (λ i p. (q p ∙ sym (same p)) i) f)
 
   pub area_world : (log : Log) → ((j : ℕ) → flies_at (views k).log.phase j → flies_at log.phase j) → SightFits o.shape (cells_of o.shape mem) (settled_words o g) (Flies (ghost_of g) k) (ghost_of g) k (sight_logged (views k) w n apart_in log) → Logged log → NumberFits log.phase (views k).number
       → Turn views views' k (after_store (views k) w n log) → World o new views' g

@@ -46,6 +46,13 @@ offset_in v (InHuge c w) = 512 * (c - first_in v.fixed.shape v.claims c) + w
 offset_in v (Descr c) = 0
 offset_in v RootWord = 0
 
+-- the word that has the size of the object that a data word is in
+abbrev pub size_in : View → Place → ℕ
+size_in v (InRun c w) = word_of_chunk v.fixed.shape c + (8 * (1 + class v.claims c * ((w / 8 - 1) / class v.claims c)) + 1)
+size_in v (InHuge c w) = word_of_chunk v.fixed.shape (first_in v.fixed.shape v.claims c) + 1
+size_in v (Descr c) = 0
+size_in v RootWord = 0
+
 abbrev pub is_mine : View → Block → Bool
 is_mine v B = mine v.fixed.shape v.claims B
 
@@ -75,6 +82,10 @@ pub record CanRecordAt (v : View) (p : Place) (x : ℕ) : Type 0 where
   pub place : is_place v.fixed.shape p ≡ true
   pub present : knows v (word_of v.fixed.shape p) ≡ Some x
   pub small : x < 2 ^ 64
+  -- the word is in a line that its object has
+  pub size : ℕ
+  pub sized : knows v (size_in v p) ≡ Some size
+  pub within : offset_in v p / 8 ≤ (size + 63) / 64
   pub new : is_recorded v.log.records p ≡ false
 
 pub record CanRecord (v : View) (r : Recorded) : Type 0 where

@@ -1,0 +1,19 @@
+use Rattle.pm_world.proofs.StoreRecord as record_store
+use Rattle.pm_world.proofs.StoreEntry as entry_store
+use Rattle.pm_world.proofs.StoreEnd as end_store
+use Rattle.pm_world.proofs.log_stores.stores_into_a_log_keep_the_world.Goals as goal
+
+pub returns-clause-record_word : goal.returns-clause-record_word
+returns-clause-record_word _ = record_store.store_record
+
+pub returns-clause-entry_word : goal.returns-clause-entry_word
+returns-clause-entry_word _ = entry_store.store_entry
+
+pub returns-clause-seal : goal.returns-clause-seal
+returns-clause-seal _ = λ n. end_store.store_seal n
+
+pub returns-clause-generation : goal.returns-clause-generation
+returns-clause-generation _ = λ n. end_store.store_generation n
+
+pub returns-clause-abort : goal.returns-clause-abort
+returns-clause-abort _ = end_store.store_void
