@@ -1,25 +1,24 @@
 -- AN ENTRY IS STORED, or ORed or ANDed, in its word: what it makes of the bits of places.
-use Rattle.std.specs.Prelude.{List, [], ◌∷◌, length, bit_and, bit_or, min, max}
+use Rattle.std.specs.Prelude.{bit_and, bit_or, min, max}
 use Rattle.std.specs.Int.{bit_at, bit_not, w64}
-use Rattle.std.specs.Option.{option_map}
-use Rattle.std.proofs.Common.{◌≡◌, ◌≢◌, ℕ, zero, suc, ◌+◌, ◌*◌, ◌-◌, ◌/◌, ◌%◌, ◌^◌, ◌<◌, ◌≤◌, ◌⊎◌, inl, inr, ⊎_elim, nat_le, nat_lt, Bool, true, false, cond, not, ◌==◌, ◌&&◌, ◌||◌, eqb, refl, sym, ap, ◌∙◌, subst, arith, eq-eqb, ne_eqb, Option, None, Some}
-use Rattle.std.proofs.lemmas.Bool.{cases_eq, cases_Bool, cases_lt, both_ways, and_parts, and_from, or_cases, eqb-true, ltb-true, lt-ltb, cond-true, cond-false, false_from_ne_true}
-use Rattle.std.proofs.lemmas.Nat.Bits.{bit_at_and, bit_at_or, bit_at_not, bit_at-lt, bit_at_above}
+use Rattle.std.proofs.Common.{◌≡◌, ◌≢◌, ℕ, ◌^◌, ◌<◌, ◌≤◌, ◌⊎◌, inl, inr, ⊎_elim, nat_lt, Bool, true, false, cond, not, ◌==◌, ◌&&◌, refl, sym, ap, ◌∙◌, subst, arith, eq-eqb, ne_eqb, Option, None, Some}
+use Rattle.std.proofs.lemmas.Bool.{cases_eq, cases_Bool, cases_lt, both_ways, eqb-true, ltb-true, lt-ltb, cond-true, cond-false, false_from_ne_true}
+use Rattle.std.proofs.lemmas.Nat.Bits.{bit_at_and, bit_at_or, bit_at_not, bit_at-lt}
 use Rattle.pm_layout.specs.declared.shape.Shape.{Shape}
-use Rattle.pm_layout.specs.Chunks.{chunks_of, words_of, word_of_descriptor}
+use Rattle.pm_layout.specs.Chunks.{word_of_descriptor}
 use Rattle.pm_record.specs.declared.redo.Op.{Op}
 use Rattle.pm_record.specs.declared.redo.Op.TheVariants.{Set, Or, And}
 use Rattle.pm_view.specs.Bits.{all_bits}
 use Rattle.pm_view.specs.Claims.{is_run}
 use Rattle.pm_view.specs.Entries.{Redo, given_bit, op_bit, delta}
 use Rattle.pm_view.specs.Places.{Place, InRun, InHuge, Descr, RootWord, twin, same_place, word_of, is_place}
-use Rattle.pm_world.specs.States.{State, given, over, cell, read, put1}
+use Rattle.pm_world.specs.States.{given, over, cell, read, put1}
 use Rattle.pm_world.specs.Logs.{EntryOf}
 use Rattle.pm_world.specs.Memory.{bit, huge_told, bits_of}
-use Rattle.pm_world.proofs.Applies.{same_place_refl, AppliedAt}
+use Rattle.pm_world.proofs.Applies.{AppliedAt}
 use Rattle.pm_world.proofs.Cells.{bits_else}
 use Rattle.pm_world.proofs.PlacesAt.{same_place_true}
-use Rattle.pm_world.proofs.Replays.{put1_here, put1_else}
+use Rattle.pm_world.proofs.Replays.{put1_here}
 use Rattle.pm_world.proofs.StepDrain.{high_bit, and_false}
 use Rattle.pm_world.proofs.WordsApart.{one_cell}
 

@@ -3,31 +3,30 @@ use Rattle.std.specs.Prelude.{List, [], ◌∷◌, ◌++◌, All, Contains, leng
 use Rattle.std.specs.List.{list_any}
 use Rattle.std.specs.Int.{bit_at, bit_not, w64}
 use Rattle.std.specs.Option.{option_map}
-use Rattle.std.proofs.Common.{◌≡◌, ◌≢◌, ℕ, zero, suc, ◌+◌, ◌*◌, ◌-◌, ◌/◌, ◌%◌, ◌^◌, ◌<◌, ◌≤◌, ◌⊎◌, inl, inr, ⊎_elim, nat_le, nat_lt, Bool, true, false, cond, not, ◌==◌, ◌&&◌, ◌||◌, eqb, refl, sym, ap, ◌∙◌, subst, arith, eq-eqb, ne_eqb, Option, None, Some, if◌then◌else◌, append_assoc}
+use Rattle.std.proofs.Common.{◌≡◌, ◌≢◌, ℕ, zero, suc, ◌+◌, ◌*◌, ◌-◌, ◌/◌, ◌^◌, ◌<◌, ◌⊎◌, inl, inr, ⊎_elim, nat_le, nat_lt, Bool, true, false, cond, not, ◌==◌, ◌&&◌, ◌||◌, eqb, refl, sym, ap, ◌∙◌, subst, arith, eq-eqb, ne_eqb, Option, None, Some, if◌then◌else◌, append_assoc}
 use Rattle.std.proofs.lemmas.Bool.{cases_eq, cases_Bool, both_ways, and_parts, and_from, or_cases, eqb-true, ltb-true, leb-true, lt-ltb, cond-true, cond-false, false_from_ne_true}
 use Rattle.pm_layout.specs.declared.shape.Shape.{Shape}
 use Rattle.std.proofs.lemmas.Option.{slice_get_within}
 use Rattle.pm_layout.specs.Areas.{undo_slots, word_of_generation, word_of_seal, word_of_entry, line_of_slot}
 use Rattle.pm_layout.specs.Chunks.{chunks_of, words_of, word_of_chunk, word_of_descriptor}
-use Rattle.pm_record.specs.declared.redo.Op.{Op}
-use Rattle.pm_record.specs.declared.redo.Op.TheVariants.{Set, Or, And}
+use Rattle.pm_record.specs.declared.redo.Op.TheVariants.{Set}
 use Rattle.pm_view.specs.Changes.{Undrained, is_dirty_bit}
 use Rattle.pm_view.specs.Claims.{Claim, Knows, class, first, span, first_in, geometry, pictured, is_run}
 use Rattle.pm_view.specs.Counts.{MayCount, HasRoom, IsAtStop}
 use Rattle.pm_view.specs.Bits.{all_bits}
 use Rattle.pm_view.specs.Parts.{Part, GenerationPart, SealPart, EntryPart, SlotPart, RootPart, DescriptorPart, ChunkPart, is_entry_word, is_slot_word, pool_part, part_of}
 use Rattle.pm_view.specs.Entries.{Entry, Redo, given_bit, delta, latest, redos, with_redo, turn, first_of_two}
-use Rattle.pm_view.specs.Log.{Phase, Applying, Recorded, Log, old_of}
+use Rattle.pm_view.specs.Log.{Applying, Log, old_of}
 use Rattle.pm_view.specs.Places.{Place, InRun, InHuge, Descr, RootWord, Block, Small, Big, Root, part, block_of, is_data, twin, same_place, word_of, is_place, in_span}
 use Rattle.pm_view.specs.View.{View}
 use Rattle.pm_view.specs.Views.{value_in, part_in, changed}
-use Rattle.pm_world.specs.States.{State, Diff, given, there, read, put1, Cells}
+use Rattle.pm_world.specs.States.{State, Diff, given, read, put1, Cells}
 use Rattle.pm_world.specs.Sights.{Hold, Sight, hold_of, is_pictured, picture, is_use, is_soiled, is_made, is_recorded, fresh, call_in, sight_of}
-use Rattle.pm_world.specs.Lanes.{Ghost, own, has, owns, is_in_making, is_size, TurnAfter, SightFits, Flies, flies_at}
+use Rattle.pm_world.specs.Lanes.{Ghost, own, owns, is_in_making, TurnAfter, SightFits, Flies, flies_at}
 use Rattle.pm_world.specs.Lawful.{MayStore, IsNext}
 use Rattle.pm_world.proofs.Stores.{KeepsAt}
 use Rattle.pm_world.specs.Logs.{AreaChange, IsEntryAt, EntryOf, ends_with, LogFits}
-use Rattle.pm_world.specs.Memory.{Memory, PoolWord, LockWord, RunWord, ZoneWord, ZoneLock, CommitCounter, StopWord, occ_at, Becomes, bit, run_told, bits_of, descriptor_told, cells_by, cells_of}
+use Rattle.pm_world.specs.Memory.{Memory, PoolWord, LockWord, RunWord, ZoneWord, ZoneLock, CommitCounter, StopWord, occ_at, Becomes, bit, run_told, cells_by, cells_of}
 use Rattle.pm_world.specs.World.{Opening, Views, Past, origin, ghost_of, settled_words, AloneFits, LaneFits, is_header, World}
 use Rattle.pm_world.specs.Laws.{Turn}
 use Rattle.pm_world.proofs.AfterStore.{counts_on, stop_stays}
@@ -38,7 +37,7 @@ use Rattle.pm_world.proofs.WordsApart.{no_area}
 use Rattle.pm_world.proofs.Worlds.{turned, world_with, stops_stay}
 use Rattle.pm_world.proofs.Applies.{same_place_refl, twin_twin, twin_making, Applied, delta_given, given_here, own_here, plain_here, applied_fits}
 use Rattle.pm_world.proofs.Cells.{cells_stored, descriptor_else, other_number, other_sort, occ_sort}
-use Rattle.pm_world.proofs.Frame.{mine_own, here_own, own_has, found_has, big_valid, no_run, maker_owns, maker_no_run, small_run, small_cases, disjoint, some_first, fresh_given}
+use Rattle.pm_world.proofs.Frame.{here_own, own_has, found_has, no_run, maker_owns, small_cases, disjoint, fresh_given}
 use Rattle.pm_world.proofs.Going.{at_phase}
 use Rattle.pm_world.proofs.Stored.{OwnWords, around_own, stored}
 use Rattle.pm_world.proofs.StepApply.{made_word, mask_of, mask_given, OneWord, is_descr, read_in, new_words, one_word, word_now, read_else, applied_at}

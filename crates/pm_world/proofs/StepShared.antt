@@ -1,7 +1,6 @@
 -- ENTRIES THAT OR OR AND bits of a word that lanes share are applied; and the stores of all phases.
 use Rattle.std.specs.Prelude.{List, [], ◌∷◌, length, bit_and, bit_or, if◌then◌else◌}
-use Rattle.std.specs.Int.{bit_not, w64}
-use Rattle.std.proofs.Common.{◌≡◌, ◌≢◌, ℕ, zero, suc, ◌+◌, ◌*◌, ◌-◌, ◌/◌, ◌%◌, ◌^◌, ◌<◌, ◌≤◌, ◌⊎◌, inl, inr, ⊎_elim, Bool, true, false, cond, ◌==◌, refl, sym, ap, ◌∙◌, subst, arith, Option, None, Some}
+use Rattle.std.proofs.Common.{◌≡◌, ◌≢◌, ℕ, ◌^◌, ◌<◌, ◌⊎◌, inl, inr, ⊎_elim, true, false, ◌==◌, refl, sym, ap, ◌∙◌, subst, arith}
 use Rattle.std.proofs.lemmas.Bool.{both_ways, cond_both}
 use Rattle.std.proofs.lemmas.Nat.{and_le_l, or_lt}
 use Rattle.pm_layout.specs.declared.shape.Shape.{Shape}
@@ -10,7 +9,6 @@ use Rattle.pm_layout.specs.Chunks.{words_of}
 use Rattle.pm_record.specs.declared.redo.Op.{Op}
 use Rattle.pm_record.specs.declared.redo.Op.TheVariants as op
 use Rattle.pm_view.specs.Changes.{Undrained}
-use Rattle.pm_view.specs.Claims.{class}
 use Rattle.pm_view.specs.Counts.{MayCount}
 use Rattle.pm_view.specs.Entries.{Entry}
 use Rattle.pm_view.specs.Founds.{FindsKnown}

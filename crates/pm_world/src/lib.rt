@@ -14,5 +14,5 @@ mod laws;
 mod log_stores;
 
 pub use decisions::decisions_keep_the_world;
-pub use log_stores::stores_into_a_log_keep_the_world;
 pub use laws::{lawful_steps_keep_the_world, no_bit_is_owned_twice};
+pub use log_stores::stores_into_a_log_keep_the_world;
