@@ -39,10 +39,10 @@ still_given true true n a f q = refl
 still_given true false n a f q = q
 still_given false e n a f q = q
 
-counts_on : (s : Option ℕ) (c : ℕ) → ForSome s (λ stop. c < stop) → ForSome s (λ stop. c + 1 ≤ stop)
+pub counts_on : (s : Option ℕ) (c : ℕ) → ForSome s (λ stop. c < stop) → ForSome s (λ stop. c + 1 ≤ stop)
 counts_on s c e y q = let l = e y q in omega arith
 
-stop_stays : (s : Option ℕ) (c : ℕ) → IsSomeAnd s (λ stop. stop ≤ c) → IsSomeAnd s (λ stop. stop ≤ c + 1)
+pub stop_stays : (s : Option ℕ) (c : ℕ) → IsSomeAnd s (λ stop. stop ≤ c) → IsSomeAnd s (λ stop. stop ≤ c + 1)
 stop_stays None c e = e
 stop_stays (Some stop) c e = omega arith
 

@@ -44,6 +44,9 @@ pub mod AfterStore
 pub mod StoreArea
 pub mod StepChange
 pub mod Applies
+pub mod StepApply
+pub mod StepEntries
+pub mod StepShared
 pub mod PlacesAt
 pub mod Entering
 pub mod EntryBits
@@ -53,3 +56,5 @@ pub mod RecordBits
 pub mod StepVacate
 pub mod StepDrops
 pub mod CrashDescriptors
+pub mod Recording
+pub mod StoreRecord

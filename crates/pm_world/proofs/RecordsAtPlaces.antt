@@ -153,13 +153,13 @@ left_none Clearing p b e = refl
 left_none (Retiring n) p b e = refl
 left_none Voiding p b e = refl
 
-data_pictured : (sh : Shape) (p : Place) → is_data p ≡ true → is_place sh p ≡ true → is_pictured p ≡ true
+pub data_pictured : (sh : Shape) (p : Place) → is_data p ≡ true → is_place sh p ≡ true → is_pictured p ≡ true
 data_pictured sh (InRun c w) e i = and_from (nat_le 8 w) (nat_lt w 512) e (and_parts (nat_lt c (chunks_of sh)) (nat_lt w 512) i).1
 data_pictured sh (InHuge c w) e i = (and_parts (nat_lt c (chunks_of sh)) (nat_lt w 512) i).1
 data_pictured sh (Descr c) e i = absurd (both_ways false refl e)
 data_pictured sh RootWord e i = refl
 
-known_pictured : (t : Bool) (y : Option ℕ) (x : ℕ) → cond t y None ≡ Some x → y ≡ Some x
+pub known_pictured : (t : Bool) (y : Option ℕ) (x : ℕ) → cond t y None ≡ Some x → y ≡ Some x
 known_pictured true y x e = e
 known_pictured false y x e = absurd (none-some x e)
 

@@ -1,13 +1,13 @@
-ghost use Rattle.std.specs.Prelude.{ℕ, true, false, Bool, List, Option};
+ghost use Rattle.std.specs.Prelude.{ℕ, true, false, Bool, Option};
 ghost use Rattle.pm_objects.specs.declared.calls.Operation.{Operation};
 ghost use Rattle.pm_objects.specs.declared.history.Value.{Value};
 ghost use Rattle.pm_view.specs.declared.occ.Occ.{Occ};
 ghost use Rattle.pm_view.specs.declared.occ.Occ.TheVariants.{Run};
-ghost use Rattle.pm_view.specs.Entries.{Entry};
-ghost use Rattle.pm_view.specs.Log.{Open, Drawn, Applying};
-ghost use Rattle.pm_view.specs.Parts.{EntryPart, GenerationPart, SealPart};
+ghost use Rattle.pm_view.specs.Log.{Open, Drawn};
+ghost use Rattle.pm_view.specs.Parts.{SlotPart, EntryPart, GenerationPart, SealPart};
 ghost use Rattle.pm_view.specs.Steps.Step.{Drain, TakeWrite, TakeRead, Raise, Give, ZoneTry, ZoneGive};
 ghost use Rattle.pm_view.specs.Steps.Step.{Occupied, Occupy, Vacate, Draw, NumberSeen, StopSeen, SetStop, Tell};
+ghost use Rattle.pm_world.specs.Decisions.{DecidedStoresKeep};
 ghost use Rattle.pm_world.specs.Laws.{Keeps, KeepsAt, RightsApart};
 
 /// A law: each lawful step of a lane keeps the world, whatever the other lanes hold, and is answered as its view knows. No code runs.
@@ -30,16 +30,16 @@ pub fn lawful_steps_keep_the_world()
     ensures tell { (operation : Operation) (reply : Option Value) → Keeps (Tell operation reply) }
 {}
 
-/// A law: a lawful store keeps the world, whatever the other lanes hold: of a word of an entry; of the seal, once the number is drawn; of
-/// the next generation, which decides a call without entries, or aborts one; of the entry that ends the generation, as it is applied; and
-/// of the seal that is cleared. No code runs.
+/// A law: a lawful store keeps the world, whatever the other lanes hold: of a word of a record or of an entry; of the seal, once the
+/// number is drawn; of the next generation, which decides a call without entries, or aborts one; and each store of a decided call, of its
+/// entries in their order and of the seal that is cleared. No code runs.
 pub fn lawful_stores_keep_the_world()
+    ensures record { KeepsAt Open SlotPart }
     ensures entry { KeepsAt Open EntryPart }
     ensures seal { (number : ℕ) → KeepsAt (Drawn number) SealPart }
     ensures next_generation { (number : ℕ) → KeepsAt (Drawn number) GenerationPart }
     ensures aborted { KeepsAt Open GenerationPart }
-    ensures ended { (todo : List Entry) → KeepsAt (Applying todo) GenerationPart }
-    ensures cleared { (todo : List Entry) → KeepsAt (Applying todo) SealPart }
+    ensures decided { DecidedStoresKeep }
 {}
 
 /// A law: no two lanes of a world own one bit. No code runs.
