@@ -9,16 +9,17 @@ use Rattle.pm_layout.specs.Chunks.{chunks_of, line_of_chunk, word_of_chunk, word
 use Rattle.pm_view.specs.Changes.{is_dirty_bit}
 use Rattle.pm_view.specs.Places.{Place, InRun, InHuge, Descr, RootWord, Block, Small, Big, Root, part, block_of, header, is_data, is_place, word_of, in_span}
 use Rattle.pm_view.specs.Entries.{latest, redos, turn}
-use Rattle.pm_view.specs.Log.{is_early}
-use Rattle.pm_view.specs.Claims.{SawDescriptor, is_run, is_huge, locked, reads, holds, class, header_in, found, here, span, last_first, first, shown_by_descriptor}
-use Rattle.pm_world.specs.States.{val, read, there, cell}
-use Rattle.pm_world.specs.Sights.{sight_of, is_soiled, hold_of}
-use Rattle.pm_world.specs.Lanes.{own, owns, has, SightFits, Flies}
+use Rattle.pm_view.specs.Log.{Phase, Idle, Open, Drawn, Sealing, Applying, Clearing, Retiring, Voiding, is_early}
+use Rattle.pm_view.specs.Claims.{SawDescriptor, is_run, is_huge, locked, reads, holds, class, header_in, found, here, span, last_first, first, geometry, pictured, block_at, is_new, shown_by_descriptor}
+use Rattle.pm_world.specs.States.{val, given, read, there, cell}
+use Rattle.pm_world.specs.Sights.{is_pictured, is_recorded, is_made, picture, fresh, sight_of, sight_by, is_soiled, hold_of}
+use Rattle.pm_world.specs.Lanes.{own, owns, has, TurnFits, SightFits, Flies}
 use Rattle.pm_world.specs.Memory.{Memory, PoolWord, bit, run_told, huge_told, cells_of}
 use Rattle.pm_world.specs.World.{Opening, Views, Past, origin, ghost_of, settled_words, World}
-use Rattle.pm_world.proofs.Finds.{maker_of, Shows, shown_there, not_others, span_told}
-use Rattle.pm_world.proofs.Frame.{maker_owns, no_run, soiled_owned, disjoint, mine_own, found_has}
-use Rattle.pm_world.proofs.Looks.{unpictured}
+use Rattle.pm_world.proofs.Finds.{maker_of, Shows, shown_there, own_found, class_told, same_descr, span_told, finds}
+use Rattle.pm_world.proofs.StepLocks.{forgets, fresh_same, and_at, header_found}
+use Rattle.pm_world.proofs.Frame.{maker_owns, no_run, soiled_owned, disjoint, mine_own, own_has, found_has, small_cases}
+use Rattle.pm_world.proofs.Looks.{passed, block_at_huge, unpictured, made_data}
 use Rattle.pm_world.proofs.Values.{val_from}
 
 module _ (o : Opening) (mem : Memory) (views : Views) (g : Past) (x : World o mem views g) (k : ℕ) (ink : k < o.lanes) (early : is_early (views k).log.phase ≡ true) where
@@ -148,3 +149,99 @@ module _ (o : Opening) (mem : Memory) (views : Views) (g : Past) (x : World o me
         cond-false (in_span l (span' l) d) l d (sym (span_so l d (inl q)) ∙ ne_eqb f l ne)
         ∙ ⊎_elim (λ (z : in_span l (s l) d ≡ true). absurd (ne (sym was ∙ cond-true (in_span l (s l) d) l d z))) (λ (z : in_span l (s l) d ≡ false). sym (cond-false (in_span l (s l) d) l d z) ∙ was) (cases_Bool (in_span l (s l) d)))
         (λ (q : now (Big l) ≡ false). ap (λ m. cond (in_span l m d) l d) (span_old l (inl q)) ∙ was) (cases_Bool (now (Big l)))
+
+    -- ---- what the call made stays
+    mine_block : (B : Block) → is_made (turn (latest (redos (views k).log.entries)) B) ≡ true → (sight_of (views k)).hold.mine B ≡ true
+    mine_block B e = by_turn (views k).log.phase early (turn (latest (redos (views k).log.entries)) B) e ((fit k).turns B)
+      where
+        by_turn : (ph : Phase) → is_early ph ≡ true → (a : Option Bool) → is_made a ≡ true → TurnFits ph ((sight_of (views k)).hold.locked (header o.shape g.geo B)) ((sight_of (views k)).hold.mine B) ((sight_of (views k)).hold.here B) a → (sight_of (views k)).hold.mine B ≡ true
+        by_turn Idle z None s f = absurd (both_ways false refl s)
+        by_turn Idle z (Some y) s f = absurd (both_ways false refl (ap given (sym f)))
+        by_turn Open z None s f = absurd (both_ways false refl s)
+        by_turn Open z (Some true) s f = f
+        by_turn Open z (Some false) s f = absurd (both_ways false refl s)
+        by_turn (Drawn m) z a s f = absurd (both_ways false refl z)
+        by_turn (Sealing m) z a s f = absurd (both_ways false refl z)
+        by_turn (Applying es) z a s f = absurd (both_ways false refl z)
+        by_turn Clearing z a s f = absurd (both_ways false refl z)
+        by_turn (Retiring m) z a s f = absurd (both_ways false refl z)
+        by_turn Voiding z a s f = absurd (both_ways false refl z)
+
+    mine_has : (B : Block) → (sight_of (views k)).hold.mine B ≡ true → has (sight_of (views k)).hold B ≡ true
+    mine_has B m = own_has (sight_of (views k)).hold B (mine_own (sight_of (views k)).hold B m)
+
+    mine_hidden : (f : ℕ) → (sight_of (views k)).hold.mine (Big f) ≡ true → now (Big f) ≡ false
+    mine_hidden f m = false_from_ne_true (now (Big f)) (λ e. both_ways (there (settled_words o g) (Big f)) ((fit k).hold.mine (Big f) m).2 (shown_allocated f e))
+
+    class_same : (d i : ℕ) → (sight_of (views k)).hold.mine (Small d i) ≡ true → class (SawDescriptor c n ∷ (views k).claims) d ≡ class (views k).claims d
+    class_same d i m = ⊎_elim (λ (q : class (SawDescriptor c n ∷ (views k).claims) d ≡ class (views k).claims d). q)
+        (λ (q : class (SawDescriptor c n ∷ (views k).claims) d ≡ (cells_of o.shape mem).descr d). q ∙ (class_told o.shape o.lanes (origin o) (cells_of o.shape mem) (λ j. sight_of (views j)) (ghost_of g) x.bits k ink early (unpictured o mem views g x k ink early) d i (mine_has (Small d i) m) ∙ sym ((fit k).hold.class d i (mine_has (Small d i) m)))) (class_after d)
+
+    head_of : (f : ℕ) → (sight_of (views k)).hold.mine (Big f) ≡ true → g.geo.first f ≡ f
+    head_of f m = eqb-true (g.geo.first f) f ((fit k).hold.mine (Big f) m).1
+
+    same_first : (d : ℕ) → ((sight_of (views k)).hold.mine (Big (first' d)) ≡ true) ⊎ ((sight_of (views k)).hold.mine (Big ((sight_of (views k)).hold.first d)) ≡ true) → first' d ≡ (sight_of (views k)).hold.first d
+    same_first d u = ⊎_elim (λ (m : (sight_of (views k)).hold.mine (Big (first' d)) ≡ true). let e = first_back d (inr (mine_has (Big (first' d)) m)) (head_of (first' d) m) in
+        sym e ∙ sym ((fit k).hold.first d (subst (λ a. has (sight_of (views k)).hold (Big a) ≡ true) (sym e) (mine_has (Big (first' d)) m))))
+        (λ (m : (sight_of (views k)).hold.mine (Big ((sight_of (views k)).hold.first d)) ≡ true). let f = (sight_of (views k)).hold.first d in let e = old_back d (mine_has (Big f) m) (head_of f m) in
+        first_old d (ap (λ a. now (Big a)) e ∙ mine_hidden f m) (subst (λ a. has (sight_of (views k)).hold (Big a) ≡ true) (sym e) (mine_has (Big f) m)) ∙ e) u
+
+    either_way : (a b : Bool) → (a ≡ true → a ≡ b) → (b ≡ true → a ≡ b) → a ≡ b
+    either_way true b u v = u refl
+    either_way false true u v = v refl
+    either_way false false u v = refl
+
+    abbrev made_in : ℕ → ℕ → Bool
+    made_in d i = is_made (turn (latest (redos (views k).log.entries)) (Small d i))
+
+    abbrev made_big : ℕ → Bool
+    made_big f = is_made (turn (latest (redos (views k).log.entries)) (Big f))
+
+    made_same : (p : Place) (b : ℕ) → (is_data p && (is_made (turn (latest (redos (views k).log.entries)) (block_of (geometry (views k).fixed.shape (SawDescriptor c n ∷ (views k).claims)) p b)) || is_recorded (views k).log.records p))
+        ≡ (is_data p && (is_made (turn (latest (redos (views k).log.entries)) (block_of (geometry (views k).fixed.shape (views k).claims) p b)) || is_recorded (views k).log.records p))
+    made_same (InRun d a) b = let i = part (class (views k).claims d) a b in let i' = part (class (SawDescriptor c n ∷ (views k).claims) d) a b in
+        ap (λ q. is_data (InRun d a) && (q || is_recorded (views k).log.records (InRun d a))) (either_way (made_in d i') (made_in d i) (λ e. ap (λ m. made_in d (part m a b)) (class_same d i' (mine_block (Small d i') e))) (λ e. ap (λ m. made_in d (part m a b)) (class_same d i (mine_block (Small d i) e))))
+    made_same (InHuge d a) b = ap (λ q. q || is_recorded (views k).log.records (InHuge d a)) (either_way (made_big (first' d)) (made_big ((sight_of (views k)).hold.first d)) (λ e. ap made_big (same_first d (inl (mine_block (Big (first' d)) e)))) (λ e. ap made_big (same_first d (inr (mine_block (Big ((sight_of (views k)).hold.first d)) e)))))
+    made_same (Descr d) b = refl
+    made_same RootWord b = refl
+
+    -- ---- which words are forgotten
+    abbrev is_fresh_block : Block → Bool
+    is_fresh_block B = now B && not (found (views k).fixed.shape (views k).claims B)
+
+    abbrev forgotten : Place → Bool
+    forgotten p = is_new now (found (views k).fixed.shape (views k).claims) (block_at (views k).fixed.shape (SawDescriptor c n ∷ (views k).claims) (word_of (views k).fixed.shape p))
+
+    -- no run is where a block is shown, nor is a chunk made one
+    no_small : (d i : ℕ) → now (Big (g.geo.first d)) ≡ true → own (sight_of (views k)).hold (Small d i) ≡ true → ⊥
+    no_small d i e w = let th = shown_allocated (g.geo.first d) e in ⊎_elim (λ (r : g.runs d ≡ true). both_ways (g.runs d) (x.bits.geo.huge d th) r)
+        (λ (r : (sight_of (views k)).hold.making d ≡ true). let y = maker_owns o.shape (cells_of o.shape mem) (settled_words o g) (Flies (ghost_of g) k) (ghost_of g) x.bits.geo k (sight_of (views k)) (fit k) d r in
+        both_ways (there (settled_words o g) (Big d)) ((fit k).hold.mine (Big d) ((fit k).hold.making d r).0).2 (subst (λ a. there (settled_words o g) (Big a) ≡ true) y.1 th))
+        (small_cases o.shape (cells_of o.shape mem) (settled_words o g) (Flies (ghost_of g) k) (ghost_of g) x.bits.geo k (sight_of (views k)) (fit k) d i w)
+
+    kept_made : (p : Place) (b : ℕ) → given ((sight_of (views k)).call.fresh p b) ≡ true → forgotten p ≡ false
+    kept_made p b e = let y = made_data o mem views g x k ink early p b e in false_from_ne_true (forgotten p) (at p y.0 y.1 y.2)
+      where
+        chunk : (d a : ℕ) → a < 512 → forgotten (InHuge d a) ≡ true → (now (Big (g.geo.first d)) ≡ true) × (found (views k).fixed.shape (views k).claims (Big (g.geo.first d)) ≡ false)
+        chunk d a l q = ⊎_elim (λ (z : (class (SawDescriptor c n ∷ (views k).claims) d ≡ 0) × (is_fresh_block (Big (first' d)) ≡ true)). let s = and_parts (now (Big (first' d))) (not (found (views k).fixed.shape (views k).claims (Big (first' d)))) z.1 in
+            let e = first_back d (inl s.0) (x.bits.geo.head (first' d) (shown_allocated (first' d) s.0)) in
+            (ap (λ f. now (Big f)) e ∙ s.0, ap (λ f. found (views k).fixed.shape (views k).claims (Big f)) e ∙ false_from_ne_true (found (views k).fixed.shape (views k).claims (Big (first' d))) (λ y. both_ways false refl (sym (ap not y) ∙ s.1))))
+            (λ (z : (m : ℕ) × (class (SawDescriptor c n ∷ (views k).claims) d ≡ suc m) × (is_fresh_block (Small d (part (class (SawDescriptor c n ∷ (views k).claims) d) a 64)) ≡ true)). absurd (both_ways false refl z.2))
+            (passed (views k).fixed.shape (SawDescriptor c n ∷ (views k).claims) d a l is_fresh_block q).1
+
+        at : (p : Place) → is_data p ≡ true → is_pictured p ≡ true → owns g.geo (settled_words o g) (sight_of (views k)).hold p b ≡ true → forgotten p ≡ true → ⊥
+        at (InRun d a) dt pt w q = no_small d (part (g.geo.class d) a b) (chunk d a (ltb-true a 512 (and_parts (nat_le 8 a) (nat_lt a 512) pt).1) q).0 w
+        at (InHuge d a) dt pt w q = let s = chunk d a (ltb-true a 512 pt) q in both_ways (found (views k).fixed.shape (views k).claims (Big (g.geo.first d))) s.1
+            (own_found o.shape o.lanes (origin o) (cells_of o.shape mem) (λ j. sight_of (views j)) (ghost_of g) x.bits k ink early (unpictured o mem views g x k ink early) (Big (g.geo.first d)) (shown_allocated (g.geo.first d) s.0) w)
+        at (Descr d) dt pt w q = both_ways false refl dt
+        at RootWord dt pt w q = both_ways false refl dt
+
+    saw_less : (p : Place) (b : ℕ) (y : Bool) → picture (views k).fixed.shape (SawDescriptor c n ∷ (views k).claims) p b ≡ Some y → picture (views k).fixed.shape (views k).claims p b ≡ Some y
+    saw_less p b y e = forgets (is_pictured p) (forgotten p) (pictured (views k).fixed.shape (views k).claims (word_of (views k).fixed.shape p)) (λ z. bit_at z b == 1) y e
+
+    saw_same : (p : Place) (b : ℕ) → given ((sight_of (views k)).call.fresh p b) ≡ true → picture (views k).fixed.shape (SawDescriptor c n ∷ (views k).claims) p b ≡ picture (views k).fixed.shape (views k).claims p b
+    saw_same p b e = ap (λ q. cond (is_pictured p) (option_map (λ z. bit_at z b == 1) (cond q None (pictured (views k).fixed.shape (views k).claims (word_of (views k).fixed.shape p)))) None) (kept_made p b e)
+
+    saw_fresh : (p : Place) (b : ℕ) → fresh (views k).fixed.shape (SawDescriptor c n ∷ (views k).claims) (views k).log p b ≡ (sight_of (views k)).call.fresh p b
+    saw_fresh p b = let v = views k in ap (λ q. cond q (picture v.fixed.shape (SawDescriptor c n ∷ v.claims) p b) None) (made_same p b)
+        ∙ fresh_same (is_data p && (is_made (turn (latest (redos v.log.entries)) (block_of (geometry v.fixed.shape v.claims) p b)) || is_recorded v.log.records p)) (picture v.fixed.shape v.claims p b) (picture v.fixed.shape (SawDescriptor c n ∷ v.claims) p b) (saw_less p b) (saw_same p b)
