@@ -10,10 +10,11 @@ use Rattle.pm_view.specs.Changes.{is_dirty_bit}
 use Rattle.pm_view.specs.Places.{Place, InRun, InHuge, Descr, RootWord, Block, Small, Big, Root, part, block_of, header, is_data, is_place, word_of, in_span}
 use Rattle.pm_view.specs.Entries.{latest, redos, turn}
 use Rattle.pm_view.specs.Log.{Phase, Idle, Open, Drawn, Sealing, Applying, Clearing, Retiring, Voiding, is_early}
-use Rattle.pm_view.specs.Claims.{SawDescriptor, is_run, is_huge, locked, reads, holds, class, header_in, found, here, span, last_first, first, geometry, pictured, block_at, is_new, shown_by_descriptor}
+use Rattle.pm_view.specs.Claims.{SawDescriptor, is_run, is_huge, locked, reads, holds, class, header_in, found, here, span, last_first, first, geometry, pictured, block_at, passes, is_new, shown_by_descriptor}
 use Rattle.pm_world.specs.States.{val, given, read, there, cell}
-use Rattle.pm_world.specs.Sights.{is_pictured, is_recorded, is_made, picture, fresh, sight_of, sight_by, is_soiled, hold_of}
-use Rattle.pm_world.specs.Lanes.{own, owns, has, TurnFits, SightFits, Flies}
+use Rattle.pm_world.specs.Sights.{Sight, is_pictured, is_recorded, is_made, picture, fresh, sight_of, sight_by, is_soiled, hold_of}
+use Rattle.pm_world.specs.Lanes.{own, owns, has, TurnFits, SightFits, Flies, Bits}
+use Rattle.pm_world.proofs.Going.{Turned}
 use Rattle.pm_world.specs.Memory.{Memory, PoolWord, bit, run_told, huge_told, cells_of}
 use Rattle.pm_world.specs.World.{Opening, Views, Past, origin, ghost_of, settled_words, World}
 use Rattle.pm_world.proofs.Finds.{maker_of, Shows, shown_there, own_found, class_told, same_descr, span_told, finds}
@@ -245,3 +246,76 @@ module _ (o : Opening) (mem : Memory) (views : Views) (g : Past) (x : World o me
     saw_fresh : (p : Place) (b : ℕ) → fresh (views k).fixed.shape (SawDescriptor c n ∷ (views k).claims) (views k).log p b ≡ (sight_of (views k)).call.fresh p b
     saw_fresh p b = let v = views k in ap (λ q. cond q (picture v.fixed.shape (SawDescriptor c n ∷ v.claims) p b) None) (made_same p b)
         ∙ fresh_same (is_data p && (is_made (turn (latest (redos v.log.entries)) (block_of (geometry v.fixed.shape v.claims) p b)) || is_recorded v.log.records p)) (picture v.fixed.shape v.claims p b) (picture v.fixed.shape (SawDescriptor c n ∷ v.claims) p b) (saw_less p b) (saw_same p b)
+
+    -- the chunks of a block that is shown are the pool's
+    in_pool : (d : ℕ) → now (Big (g.geo.first d)) ≡ true → d < chunks_of o.shape
+    in_pool d e = let f = g.geo.first d in let y = shown_big f e in let th = shown_allocated f e in
+        let z : f % 64 + n / 256 ≤ 64 = subst (λ m. f % 64 + m ≤ 64) (ap (λ w. val w 8 56) (λ i b. sym (same_descr o.shape o.lanes (origin o) (cells_of o.shape mem) (λ j. sight_of (views j)) (ghost_of g) x.bits k ink early (unpictured o mem views g x k ink early) f (shown_held f e).0 th b) i)
+        ∙ (ap (λ a. val (read (cells_of o.shape mem).pool (Descr a)) 8 56) y.0 ∙ told_span y.1)) (x.bits.geo.in_zone f th) in
+        let s = and_parts (nat_le f d) (nat_lt d (f + n / 256)) (sym (shown_span f e d) ∙ eq-eqb f f refl) in let a = leb-true f d s.0 in let b = ltb-true d (f + n / 256) s.1 in let i : f < chunks_of o.shape = subst (λ m. m < chunks_of o.shape) (sym y.0) inside in omega arith
+
+    -- the words of a block that is newly found are known no more
+    saw_dark : (p : Place) (b : ℕ) → now (block_of g.geo p b) ≡ true → found (views k).fixed.shape (views k).claims (block_of g.geo p b) ≡ false → picture (views k).fixed.shape (SawDescriptor c n ∷ (views k).claims) p b ≡ None
+    saw_dark (InRun d a) b e u = absurd (both_ways false refl e)
+    saw_dark (InHuge d a) b e u = by_place (is_pictured (InHuge d a)) refl
+      where
+        dim : (q : Bool) (v : Option ℕ) → q ≡ true → option_map (λ z. bit_at z b == 1) (cond q None v) ≡ None
+        dim true v e = refl
+        dim false v e = absurd (both_ways false refl e)
+
+        by_place : (q : Bool) → is_pictured (InHuge d a) ≡ q → cond q (option_map (λ z. bit_at z b == 1) (cond (forgotten (InHuge d a)) None (pictured (views k).fixed.shape (views k).claims (word_of (views k).fixed.shape (InHuge d a))))) None ≡ None
+        by_place false z = refl
+        by_place true z = let f = g.geo.first d in dim (forgotten (InHuge d a)) (pictured (views k).fixed.shape (views k).claims (word_of (views k).fixed.shape (InHuge d a)))
+            (ap (passes is_fresh_block) (block_at_huge (views k).fixed.shape (SawDescriptor c n ∷ (views k).claims) d a (ltb-true a 512 z) (subst (λ h. d < chunks_of h) (sym shape_is) (in_pool d e)) (no_class d e))
+            ∙ (ap (λ m. is_fresh_block (Big m)) (first_in d e) ∙ and_from (now (Big f)) (not (found (views k).fixed.shape (views k).claims (Big f))) e (ap not u)))
+    saw_dark (Descr d) b e u = refl
+    saw_dark RootWord b e u = absurd (both_ways false refl e)
+
+    -- what is undrained is so in the use that it had
+    class_kept : (d a b : ℕ) → (nat_lt a 512 && is_dirty_bit (views k).changes (word_of (views k).fixed.shape (InHuge d a)) b) ≡ true → class (SawDescriptor c n ∷ (views k).claims) d ≡ class (views k).claims d
+    class_kept d a b e = ⊎_elim (λ (q : class (SawDescriptor c n ∷ (views k).claims) d ≡ class (views k).claims d). q) (λ (q : class (SawDescriptor c n ∷ (views k).claims) d ≡ (cells_of o.shape mem).descr d). by_class q (class (views k).claims d) refl (class (SawDescriptor c n ∷ (views k).claims) d) refl) (class_after d)
+      where
+        by_class : class (SawDescriptor c n ∷ (views k).claims) d ≡ (cells_of o.shape mem).descr d → (m : ℕ) → class (views k).claims d ≡ m → (m' : ℕ) → class (SawDescriptor c n ∷ (views k).claims) d ≡ m' → class (SawDescriptor c n ∷ (views k).claims) d ≡ class (views k).claims d
+        by_class q (suc m) r m' r' = q ∙ ((fit k).hold.seen d m r ∙ sym r)
+        by_class q zero r zero r' = r' ∙ sym r
+        by_class q zero r (suc m') r' = let y = and_parts (nat_lt a 512) (is_dirty_bit (views k).changes (word_of (views k).fixed.shape (InHuge d a)) b) e in
+            absurd (soiled_huge d a b m' (and_from (nat_lt a 512 && (class (views k).claims d == 0)) (is_dirty_bit (views k).changes (word_of (views k).fixed.shape (InHuge d a)) b) (and_from (nat_lt a 512) (class (views k).claims d == 0) y.0 (eq-eqb (class (views k).claims d) 0 r)) y.1) (sym q ∙ r'))
+
+    saw_soiled : (p : Place) (b : ℕ) → is_soiled (views k).fixed.shape (hold_of (views k).fixed.shape (SawDescriptor c n ∷ (views k).claims)) (views k).changes p b ≡ true → (sight_of (views k)).soiled p b ≡ true
+    saw_soiled (InRun d a) b e = let D = is_dirty_bit (views k).changes (word_of (views k).fixed.shape (InRun d a)) b in let y = and_parts (nat_lt a 512 && not (class (SawDescriptor c n ∷ (views k).claims) d == 0)) D e in
+        let z = and_parts (nat_lt a 512) (not (class (SawDescriptor c n ∷ (views k).claims) d == 0)) y.0 in ap (λ m. (nat_lt a 512 && not (m == 0)) && D) (sym (class_kept d a b (and_from (nat_lt a 512) D z.0 y.1))) ∙ e
+    saw_soiled (InHuge d a) b e = let D = is_dirty_bit (views k).changes (word_of (views k).fixed.shape (InHuge d a)) b in let y = and_parts (nat_lt a 512 && (class (SawDescriptor c n ∷ (views k).claims) d == 0)) D e in
+        let z = and_parts (nat_lt a 512) (class (SawDescriptor c n ∷ (views k).claims) d == 0) y.0 in ap (λ m. (nat_lt a 512 && (m == 0)) && D) (sym (class_kept d a b (and_from (nat_lt a 512) D z.0 y.1))) ∙ e
+    saw_soiled (Descr d) b e = e
+    saw_soiled RootWord b e = e
+
+    shows : (B : Block) → now B ≡ true → ((locked (views k).claims (header o.shape g.geo B) || reads (views k).claims (header o.shape g.geo B)) ≡ true) × Shows o.shape o.lanes (origin o) (cells_of o.shape mem) (λ j. sight_of (views j)) (ghost_of g) x.bits k ink early (unpictured o mem views g x k ink early) B
+    shows (Small d i) e = absurd (both_ways false refl e)
+    shows (Big f) e = shown_held f e
+    shows Root e = absurd (both_ways false refl e)
+
+    -- the header's line, as the lane then knows it, of a block that is found
+    header_then : (B : Block) → found (views k).fixed.shape (SawDescriptor c n ∷ (views k).claims) B ≡ true → header_in (views k).fixed.shape (SawDescriptor c n ∷ (views k).claims) B ≡ header o.shape g.geo B
+    header_then (Small d i) e = let h = found_has (sight_of (views k)).hold (Small d i) e in ap (λ s. line_of_chunk s d + (1 + class (SawDescriptor c n ∷ (views k).claims) d * i)) shape_is ∙ ap (λ m. line_of_chunk o.shape d + (1 + m * i))
+        (⊎_elim (λ (q : class (SawDescriptor c n ∷ (views k).claims) d ≡ class (views k).claims d). q ∙ (fit k).hold.class d i h) (λ (q : class (SawDescriptor c n ∷ (views k).claims) d ≡ (cells_of o.shape mem).descr d). q ∙ class_told o.shape o.lanes (origin o) (cells_of o.shape mem) (λ j. sight_of (views j)) (ghost_of g) x.bits k ink early (unpictured o mem views g x k ink early) d i h) (class_after d))
+    header_then (Big f) e = ap (λ s. line_of_chunk s f) shape_is
+    header_then Root e = refl
+
+    -- A LOAD OF A DESCRIPTOR keeps the world over bits
+    pub saw_descriptor : (sights' : ℕ → Sight) → Turned (λ j. sight_of (views j)) sights' k (sight_by (views k).fixed.shape (views k).fixed.lane (SawDescriptor c n ∷ (views k).claims) (views k).log (views k).changes) → Bits o.shape o.lanes (origin o) (cells_of o.shape mem) sights' (ghost_of g)
+    saw_descriptor sights' t = let v = views k in let t' = SawDescriptor c n ∷ v.claims in
+        finds o.shape o.lanes (origin o) (cells_of o.shape mem) (λ j. sight_of (views j)) (ghost_of g) x.bits k ink early (unpictured o mem views g x k ink early) now (found v.fixed.shape t') (here v.fixed.shape t') (class t') (span v.fixed.shape t') (first v.fixed.shape t') (picture v.fixed.shape t') (is_soiled v.fixed.shape (hold_of v.fixed.shape t') v.changes) record {
+          shows = shows;
+          found = λ B. refl;
+          here = λ B. and_at (found v.fixed.shape t' B) (locked v.claims (header_in v.fixed.shape t' B)) (locked v.claims (header o.shape g.geo B)) (λ e. ap (locked v.claims) (header_then B e));
+          class = class_after;
+          knows = λ d i e. absurd (both_ways false refl e);
+          span_new = λ f e u. span_new f e u ∙ sym (ap (λ a. val (read (cells_of o.shape mem).pool (Descr a)) 8 56) (shown_big f e).0 ∙ told_span (shown_big f e).1);
+          span_old = span_old;
+          first_in = first_in;
+          first_old = first_old;
+          less = saw_less;
+          dark = saw_dark;
+          fresh = λ p b y e. saw_same p b (ap given e) ∙ (fit k).fresh p b y e;
+          soiled = saw_soiled;
+        } sights' record { here = t.here ∙ (λ i. record (sight_by v.fixed.shape v.fixed.lane t' v.log v.changes) { call = record { entries = redos v.log.entries; fresh = λ p b. saw_fresh p b i } }); else_ = t.else_ }
