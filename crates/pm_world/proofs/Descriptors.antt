@@ -1,24 +1,23 @@
 -- LOOKS: what a load of a descriptor shows of a huge block, to a lane that holds its lock, and of a run.
-use Rattle.std.specs.Prelude.{List, [], ◌∷◌}
+use Rattle.std.specs.Prelude.{◌∷◌}
 use Rattle.std.specs.Option.{option_map}
 use Rattle.std.specs.Int.{bit_at}
-use Rattle.std.proofs.Common.{◌≡◌, ◌≢◌, ℕ, zero, suc, ◌+◌, ◌-◌, ◌*◌, ◌/◌, ◌%◌, ◌^◌, ◌<◌, ◌≤◌, nat_le, nat_lt, ◌⊎◌, inl, inr, ⊎_elim, Bool, true, false, cond, not, ◌&&◌, ◌||◌, eqb, ◌==◌, refl, sym, ap, ◌∙◌, subst, arith, eq-eqb, ne_eqb, Option, None, Some}
+use Rattle.std.proofs.Common.{◌≡◌, ◌≢◌, ℕ, zero, suc, ◌+◌, ◌*◌, ◌/◌, ◌%◌, ◌^◌, ◌<◌, ◌≤◌, nat_le, nat_lt, ◌⊎◌, inl, inr, ⊎_elim, Bool, true, false, cond, not, ◌&&◌, ◌||◌, ◌==◌, refl, sym, ap, ◌∙◌, subst, arith, eq-eqb, ne_eqb, Option, None, Some}
 use Rattle.std.proofs.lemmas.Bool.{cases_eq, cases_lt, cases_Bool, eqb-true, lt-ltb, ltb-true, leb-true, both_ways, and_parts, and_from, or_cases, or_left, cond-true, cond-false, false_from_ne_true}
-use Rattle.pm_layout.specs.declared.shape.Shape.{Shape}
-use Rattle.pm_layout.specs.Chunks.{chunks_of, line_of_chunk, word_of_chunk, word_of_descriptor}
+use Rattle.pm_layout.specs.Chunks.{chunks_of, line_of_chunk, word_of_descriptor}
 use Rattle.pm_view.specs.Changes.{is_dirty_bit}
 use Rattle.pm_view.specs.Places.{Place, InRun, InHuge, Descr, RootWord, Block, Small, Big, Root, part, block_of, header, is_data, is_place, word_of, in_span}
 use Rattle.pm_view.specs.Entries.{latest, redos, turn}
 use Rattle.pm_view.specs.Log.{Phase, Idle, Open, Drawn, Sealing, Applying, Clearing, Retiring, Voiding, is_early}
 use Rattle.pm_view.specs.Claims.{SawDescriptor, is_run, is_huge, locked, reads, holds, class, header_in, found, here, span, last_first, first, geometry, pictured, block_at, passes, is_new, shown_by_descriptor}
-use Rattle.pm_world.specs.States.{val, given, read, there, cell}
+use Rattle.pm_world.specs.States.{val, given, read, there}
 use Rattle.pm_world.specs.Sights.{Sight, is_pictured, is_recorded, is_made, picture, fresh, sight_of, sight_by, is_soiled, hold_of}
 use Rattle.pm_world.specs.Lanes.{own, owns, has, TurnFits, SightFits, Flies, Bits}
 use Rattle.pm_world.proofs.Going.{Turned}
 use Rattle.pm_world.specs.Memory.{Memory, PoolWord, bit, run_told, huge_told, cells_of}
 use Rattle.pm_world.specs.World.{Opening, Views, Past, origin, ghost_of, settled_words, World}
 use Rattle.pm_world.proofs.Finds.{maker_of, Shows, shown_there, own_found, class_told, same_descr, span_told, finds}
-use Rattle.pm_world.proofs.StepLocks.{forgets, fresh_same, and_at, header_found}
+use Rattle.pm_world.proofs.StepLocks.{forgets, fresh_same, and_at}
 use Rattle.pm_world.proofs.Frame.{maker_owns, no_run, soiled_owned, disjoint, mine_own, own_has, found_has, small_cases}
 use Rattle.pm_world.proofs.Looks.{passed, block_at_huge, unpictured, made_data}
 use Rattle.pm_world.proofs.Values.{val_from}

@@ -1,13 +1,13 @@
 -- A load of a word that a lane has, or found, before its number is drawn: its picture grows by what memory has.
-use Rattle.std.proofs.Common.{◌≡◌, ◌≢◌, ℕ, ◌<◌, ◌⊎◌, inl, inr, ⊎_elim, Bool, true, false, ◌&&◌, ◌||◌, refl, sym, ap, ◌∙◌, subst, Option, None, Some}
+use Rattle.std.proofs.Common.{◌≡◌, ℕ, ◌<◌, ◌⊎◌, inl, inr, ⊎_elim, Bool, true, false, ◌||◌, refl, sym, subst, Option, None, Some}
 use Rattle.std.proofs.lemmas.Bool.{both_ways, or_left, or_right}
 use Rattle.pm_layout.specs.declared.shape.Shape.{Shape}
-use Rattle.pm_view.specs.Places.{Place, Descr, Block, Big, block_of}
+use Rattle.pm_view.specs.Places.{Place, Descr, Big, block_of}
 use Rattle.pm_view.specs.Entries.{latest, first_of_two, turn}
 use Rattle.pm_view.specs.Log.{Phase, Idle, Open, Drawn, Sealing, Applying, Clearing, Retiring, Voiding, is_early}
 use Rattle.pm_world.specs.States.{State, Diff, diff, given, read, Cells}
-use Rattle.pm_world.specs.Sights.{Hold, Sight}
-use Rattle.pm_world.specs.Lanes.{Ghost, owns, sees, in_flight, is_in_making, settled, DescrFits, FlightFits, SightFits, Flies, Bits}
+use Rattle.pm_world.specs.Sights.{Sight}
+use Rattle.pm_world.specs.Lanes.{Ghost, owns, sees, in_flight, is_in_making, settled, DescrFits, FlightFits, Flies, Bits}
 use Rattle.pm_world.proofs.Frame.{some_first, fresh_given}
 use Rattle.pm_world.proofs.Going.{Turned, own_fits, unchanged}
 use Rattle.pm_world.proofs.Locks.{early_grounded}
