@@ -152,6 +152,7 @@ pub record MayFill (v : View) (w : ℕ) : Type 0 where
   pub at : place_in v w ≡ Some place
   pub plain : is_data place ≡ true
   pub own : is_mine v (block_in v place 64) ≡ true
+  pub unrecorded : is_recorded v.log.records place ≡ false
   pub unentered : v.log.entries ≡ []
 
 -- ---- A CHUNK IS MADE A RUN of a class: it is one chunk of the lane's own, its bitmap is 0 and nothing of it is undrained, and no entry is stored
