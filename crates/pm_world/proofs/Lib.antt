@@ -25,4 +25,5 @@ pub mod StoreEnd
 pub mod RecordBits
 pub mod Recording
 pub mod StoreRecord
+pub mod Writing
 pub mod Crashes
