@@ -26,4 +26,5 @@ pub mod RecordBits
 pub mod Recording
 pub mod StoreRecord
 pub mod Writing
+pub mod StoreWord
 pub mod Crashes
