@@ -4,7 +4,7 @@
 //! It speaks of places and bits, and of the calls by what they make final; what they mean is said above. Docs/MODEL.md, "The world".
 //!
 //! So far it is proved of these kinds of step that they keep the world: the draw of a number, of any call; a look at the stop word; an
-//! operation that is told; and stores into a lane's own log, but for the end of a generation and of a seal as entries are applied. Still to come: loads, stores, OR and AND, flush and drain; locks and zones' locks; occupancy; the number seen,
+//! operation that is told; stores of user words; and stores into a lane's own log, but for those that apply entries. Still to come: loads, stores, OR and AND, flush and drain; locks and zones' locks; occupancy; the number seen,
 //! the stop set; the opening of a world; crash images; the history.
 #![tactic(auto)]
 
