@@ -5,8 +5,8 @@
 //!
 //! So far it is proved of these kinds of step that they keep the world: the draw of a number, of any call; a look at the stop word; an
 //! operation that is told; stores into a lane's own log; the drain that decides a call, and each store of a decided one. Still to come:
-//! loads, other stores, OR and AND, flush and drain; locks and zones' locks; occupancy; the number seen,
-//! the stop set; the opening of a world; crash images; the history.
+//! loads, other stores, OR and AND, flush and drain; locks and zones' locks; occupancy; the number seen, the stop set; the opening of a
+//! world; crash images; the history.
 #![tactic(auto)]
 
 mod decisions;
