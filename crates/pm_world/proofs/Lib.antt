@@ -17,6 +17,11 @@ pub mod StepDrain
 pub mod Stored
 pub mod AfterStore
 pub mod StoreArea
+pub mod StepChange
+pub mod Applies
+pub mod StepApply
+pub mod StepEntries
+pub mod StepShared
 pub mod PlacesAt
 pub mod Entering
 pub mod EntryBits

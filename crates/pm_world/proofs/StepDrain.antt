@@ -1,16 +1,15 @@
 -- ONCE NOTHING IS UNDRAINED the log goes on: a call is decided, or aborted, or its seal is cleared.
 use Rattle.std.specs.Prelude.{List, [], ◌∷◌, ◌++◌, length, slice_get, slice_index, Contains}
-use Rattle.std.proofs.Common.{◌≡◌, ◌≢◌, ℕ, zero, suc, ◌+◌, ◌*◌, ◌/◌, ◌%◌, ◌^◌, ◌<◌, ◌≤◌, ◌⊎◌, inl, inr, ⊎_elim, Bool, true, false, cond, not, ◌&&◌, ◌||◌, eqb, ◌==◌, refl, sym, ap, ◌∙◌, subst, arith, eq-eqb, ne_eqb, Option, None, Some}
-use Rattle.std.proofs.lemmas.Bool.{cond-true, cond-false, cases_eq, cases_Bool, cases_lt, both_ways, and_parts, or_cases, false_from_ne_true}
+use Rattle.std.proofs.Common.{◌≡◌, ◌≢◌, ℕ, suc, ◌+◌, ◌*◌, ◌^◌, ◌<◌, ◌≤◌, inl, inr, ⊎_elim, Bool, true, false, cond, not, ◌&&◌, ◌||◌, ◌==◌, refl, sym, ap, ◌∙◌, subst, arith, eq-eqb, ne_eqb, Option, None, Some}
+use Rattle.std.proofs.lemmas.Bool.{cond-true, cond-false, cases_Bool, cases_lt, both_ways, and_parts, or_cases}
 use Rattle.std.proofs.lemmas.Option.{slice_get-get_or}
 use Rattle.std.proofs.lemmas.Nat.Bits.{bit_at_above}
 use Rattle.pm_layout.specs.declared.shape.Shape.{Shape}
 use Rattle.pm_view.specs.Limits.{greatest_generation}
-use Rattle.pm_layout.specs.Areas.{undo_slots}
 use Rattle.pm_record.specs.Undo.{is_record, undo_in, undo_of}
 use Rattle.pm_record.specs.declared.undo.Undo.{Undo}
 use Rattle.pm_view.specs.Changes.{Undrained, drained}
-use Rattle.pm_view.specs.Places.{Place, InRun, InHuge, Descr, RootWord, Block, Small, Big, Root, block_of, header, is_data, is_place}
+use Rattle.pm_view.specs.Places.{Place, Descr, RootWord, Block, Small, Big, Root, block_of, header, is_data, is_place}
 use Rattle.pm_view.specs.Entries.{Entry, latest, redos, turn, first_of_two}
 use Rattle.pm_view.specs.Log.{Phase, Idle, Open, Drawn, Sealing, Applying, Clearing, Retiring, Voiding, Recorded, Log, old_in, old_of, next_log, log_drained}
 use Rattle.pm_view.specs.Claims.{Claim, Decided, Drained, class, locked, found, here, header_in, found_after, pictured}
@@ -18,27 +17,27 @@ use Rattle.pm_view.specs.View.{View}
 use Rattle.pm_view.specs.Steps.Step.{Drain}
 use Rattle.pm_view.specs.Views.{decided_by, drained_to}
 use Rattle.pm_view.specs.Counts.{IsAtStop}
-use Rattle.pm_world.specs.States.{State, Diff, diff, given, live, read, put1, Cells}
-use Rattle.pm_world.specs.Sights.{Sight, is_use, is_soiled, is_recorded, is_slot_drained, is_logged_from, is_logged, fresh, is_made, call_in, sight_of}
-use Rattle.pm_world.specs.Lanes.{Ghost, own, owns, has, left, is_decided, BitFits, TurnFlight, TurnFits, SightFits, settled, Flies, flies_at, Bits}
-use Rattle.pm_world.specs.Logs.{IsRecordAt, slot_list, spelled, ends_with, used_slots, seal_in, BumpFits, PhaseFits, AreWhole, AreLeft, OldFits, AreRestored, LogFits}
+use Rattle.pm_world.specs.States.{State, Diff, given, live, read, put1, Cells}
+use Rattle.pm_world.specs.Sights.{Sight, is_use, is_soiled, is_recorded, is_slot_drained, is_logged_from, fresh, is_made, sight_of}
+use Rattle.pm_world.specs.Lanes.{Ghost, owns, left, is_decided, TurnFlight, SightFits, settled, Flies, flies_at, Bits}
+use Rattle.pm_world.specs.Logs.{slot_list, ends_with, used_slots, seal_in, BumpFits, PhaseFits, AreWhole, LogFits}
 use Rattle.pm_world.specs.Memory.{Memory, PoolWord, CommitCounter, StopWord, bit, cells_of}
-use Rattle.pm_world.specs.World.{Opening, Views, Past, origin, ghost_of, settled_words, NumberFits, AreaFits, LaneFits, may_draw, may_draw_count, World}
+use Rattle.pm_world.specs.World.{Opening, Views, Past, origin, ghost_of, settled_words, NumberFits, AreaFits, LaneFits, World}
 use Rattle.pm_world.specs.Course.{holder_after, past_made, past_decided, past_drained}
 use Rattle.pm_world.specs.Laws.{Turn, Keeps}
 use Rattle.pm_world.proofs.Counting.{count_same}
-use Rattle.pm_world.proofs.Decides.{decided_ghost, decided_sight, some_of, none_of, over_idle, over_open, owned_now, around, decides}
-use Rattle.pm_world.proofs.Frame.{Around, mine_own, found_has, own_has}
-use Rattle.pm_world.proofs.Going.{Turned, at_phase, unchanged}
+use Rattle.pm_world.proofs.Decides.{decided_ghost, decided_sight, over_idle, over_open, owned_now, around, decides}
+use Rattle.pm_world.proofs.Frame.{Around, mine_own, own_has}
+use Rattle.pm_world.proofs.Going.{at_phase, unchanged}
 use Rattle.pm_world.proofs.StepPlain.{plain_step}
 use Rattle.pm_world.proofs.Stores.{drops, Drops, goes_on_to, GoesOnAt}
-use Rattle.pm_world.proofs.Worlds.{Aside, turned, world_after, stops_stay}
+use Rattle.pm_world.proofs.Worlds.{turned, world_after, stops_stay}
 
 -- ---- numbers
-high_bit : (x b : ℕ) → x < 2 ^ 64 → 64 ≤ b → bit x b ≡ false
+pub high_bit : (x b : ℕ) → x < 2 ^ 64 → 64 ≤ b → bit x b ≡ false
 high_bit x b l q = ap (λ d. d == 1) (bit_at_above x 64 b l q)
 
-and_false : (t : Bool) → (t && false) ≡ false
+pub and_false : (t : Bool) → (t && false) ≡ false
 and_false true = refl
 and_false false = refl
 
@@ -131,7 +130,7 @@ logged_recorded sh lane changes j (r ∷ rs) p e = ⊎_elim (λ (t : (given (old
     second None c t = t
     second (Some y) c t = refl
 
-old_some : (d : Option ℕ) → given d ≡ true → (y : ℕ) × (d ≡ Some y)
+pub old_some : (d : Option ℕ) → given d ≡ true → (y : ℕ) × (d ≡ Some y)
 old_some None e = absurd (both_ways false refl e)
 old_some (Some y) e = (y, refl)
 
@@ -391,7 +390,7 @@ goes_on_in_each Voiding = goes_on_voiding
 abbrev drop_to : View → List Undrained → View
 drop_to v left = record v { claims = Drained left ∷ v.claims; changes = left; calls = v.calls + 1 }
 
-module _ (drop : Drops) (o : Opening) (mem : Memory) (views new : Views) (g : Past) (k : ℕ) (x : World o mem views g) (ink : k < o.lanes) where
+module _ (drop : Drops) (o : Opening) (mem : Memory) (views new : Views) (g : Past) (k : ℕ) (x : World o mem views g) (ink : k < o.lanes) (due : Rattle.pm_view.specs.Counts.MayCount (views k)) where
   abbrev dropped : Views
   dropped j = cond (j == k) (drops (views k)) (views j)
 
@@ -413,13 +412,13 @@ module _ (drop : Drops) (o : Opening) (mem : Memory) (views new : Views) (g : Pa
 
   drained_all : drained (views k).changes ≡ [] → Turn views new k (drained_to (views k) []) → World o mem new (past_drained g (views k) [])
   drained_all e t = let here : dropped k ≡ drop_to (views k) [] = dropped_here ∙ ap (drop_to (views k)) e in
-      let w : World o mem dropped (past_made g (views k) []) = subst (λ l. World o mem dropped (past_made g (views k) l)) e (drop o mem views dropped g k x ink (record { here = dropped_here; else_ = dropped_else })) in
+      let w : World o mem dropped (past_made g (views k) []) = subst (λ l. World o mem dropped (past_made g (views k) l)) e (drop o mem views dropped g k x ink due (record { here = dropped_here; else_ = dropped_else })) in
       subst (World o mem new) (decided_drop (views k).log.phase (views k) (past_made g (views k) [])) (subst (λ v. World o mem new (past_decided v.log.phase v (past_made g (views k) []))) here
       (goes_on_in_each (dropped k).log.phase o mem dropped new (past_made g (views k) []) k w ink (ap (λ v. v.changes) here) refl (record { here = t.here ∙ sym (ap goes_on_to here); else_ = λ j ne. t.else_ j ne ∙ sym (dropped_else j ne) })))
 
   drained_world : (left : List Undrained) → drained (views k).changes ≡ left → Turn views new k (drained_to (views k) left) → World o mem new (past_drained g (views k) left)
   drained_world [] e t = drained_all e t
-  drained_world (u ∷ left) e t = subst (λ l. World o mem new (past_made g (views k) l)) e (drop o mem views new g k x ink (subst (λ l. Turn views new k (drop_to (views k) l)) (sym e) t))
+  drained_world (u ∷ left) e t = subst (λ l. World o mem new (past_made g (views k) l)) e (drop o mem views new g k x ink due (subst (λ l. Turn views new k (drop_to (views k) l)) (sym e) t))
 
 pub drain_from : Drops → Keeps Drain
-drain_from drop o mem new views views' g k x ink law moves t = (subst (λ m. World o m views' (past_drained g (views k) (drained (views k).changes))) (λ i l. sym (moves l) i) (drained_world drop o mem views views' g k x ink (drained (views k).changes) refl t), tt)
+drain_from drop o mem new views views' g k x ink law moves t = (subst (λ m. World o m views' (past_drained g (views k) (drained (views k).changes))) (λ i l. sym (moves l) i) (drained_world drop o mem views views' g k x ink (law.due refl) (drained (views k).changes) refl t), tt)

@@ -255,8 +255,13 @@ module _ (w n : ℕ) (o : Opening) (mem new : Memory) (views views' : Views) (g 
         × (is_place o.shape r.place ≡ true) × (is_data r.place ≡ true) × ((i : ℕ) → i < length r.old → is_place o.shape (place_after r.place i) ≡ true)
     next_record j r z q = subst (λ r. ((y : ℕ) → y < 8 → put1 (λ u. mem (PoolWord u)) w n (8 * line_of_slot o.shape k j + y) ≡ slice_index (spelled o.shape (views k).log.generation r) y) × (1 ≤ length r.old) × (length r.old ≤ 4)
         × (is_place o.shape r.place ≡ true) × (is_data r.place ≡ true) × ((i : ℕ) → i < length r.old → is_place o.shape (place_after r.place i) ≡ true)) q (
-        λ y s. ap (λ i. put1 (λ u. mem (PoolWord u)) w n (8 * line_of_slot o.shape k i + y)) z ∙ (stored_part y (let e = seven in omega arith) ∙ (ap (λ t. slice_index t y) (eight ∙ spelled_.1) ∙ ap (λ h. slice_index (spelled h (views k).log.generation a.next) y) (x.each_lane k ink).shape)),
-        a.can.some, a.can.most, inside a.next.place use_at.inside, subst (λ p. is_data p ≡ true) (place_zero a.next.place) (a.can.each 0 (let e = a.can.some in omega arith)).plain, λ i s. inside (place_after a.next.place i) (a.can.each i s).place)
+          λ y s. ap (λ i. put1 (λ u. mem (PoolWord u)) w n (8 * line_of_slot o.shape k i + y)) z ∙ (stored_part y (let e = seven in omega arith) ∙ (ap (λ t. slice_index t y) (eight ∙ spelled_.1) ∙ ap (λ h. slice_index (spelled h (views k).log.generation a.next) y) (x.each_lane k ink).shape)),
+          a.can.some,
+          a.can.most,
+          inside a.next.place use_at.inside,
+          subst (λ p. is_data p ≡ true) (place_zero a.next.place) (a.can.each 0 (let e = a.can.some in omega arith)).plain,
+          λ i s. inside (place_after a.next.place i) (a.can.each i s).place,
+        )
 
     next_once : (j i : ℕ) (r q : Recorded) (p : Place) (y z : ℕ) → slice_get ((views k).log.records ++ a.next ∷ []) j ≡ Some r → slice_get ((views k).log.records ++ a.next ∷ []) i ≡ Some q → old_in r p ≡ Some y → old_in q p ≡ Some z → j ≡ i
     next_once j i r q p y z e d s t = ⊎_elim (λ (u : slice_get (views k).log.records j ≡ Some r). ⊎_elim (λ (v : slice_get (views k).log.records i ≡ Some q). l.once j i r q p y z u v s t)

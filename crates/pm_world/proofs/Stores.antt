@@ -3,6 +3,7 @@ use Rattle.std.specs.Prelude.{[], ◌∷◌}
 use Rattle.std.proofs.Common.{◌≡◌, ℕ, ◌+◌, ◌<◌}
 use Rattle.pm_view.specs.Changes.{Undrained, drained}
 use Rattle.pm_view.specs.Claims.{Drained}
+use Rattle.pm_view.specs.Counts.{MayCount}
 use Rattle.pm_view.specs.Log.{Phase, log_drained}
 use Rattle.pm_view.specs.Parts.{Part}
 use Rattle.pm_view.specs.Steps.Step.{Store}
@@ -25,7 +26,7 @@ abbrev pub drops : View → View
 drops v = record v { claims = Drained (drained v.changes) ∷ v.claims; changes = drained v.changes; calls = v.calls + 1 }
 
 abbrev pub Drops : Type 0
-Drops = (o : Opening) (mem : Memory) (views new : Views) (g : Past) (k : ℕ) → World o mem views g → k < o.lanes → Turn views new k (drops (views k)) → World o mem new (past_made g (views k) (drained (views k).changes))
+Drops = (o : Opening) (mem : Memory) (views new : Views) (g : Past) (k : ℕ) → World o mem views g → k < o.lanes → MayCount (views k) → Turn views new k (drops (views k)) → World o mem new (past_made g (views k) (drained (views k).changes))
 
 -- and, with nothing undrained any more, the log goes on
 abbrev pub goes_on_to : View → View

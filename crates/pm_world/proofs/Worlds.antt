@@ -68,24 +68,24 @@ module _ (o : Opening) (mem : Memory) (views : Views) (g : Past) (x : World o me
   pub log_stays : (new : Memory) (g' : Past) (S' : State) → settled_words o g' ≡ S' → Around k (sight_of (views k)).hold (λ j. (sight_of (views j)).hold) (cells_of o.shape mem) (cells_of o.shape new) (settled_words o g) S' (ghost_of g) (ghost_of g') → AreasAside o k mem new g g'
       → (j : ℕ) → j ≢ k → j < o.shape.lanes → AreaFits o mem g j (views j) → AreaFits o new g' j (views j)
   log_stays new g' S' e m a j ne most_ l = subst (λ s. LogFits o.shape j ((cells_of o.shape new).generation j) ((cells_of o.shape new).seal j) ((cells_of o.shape new).entry j) ((cells_of o.shape new).slot j) s (owns g'.geo s (sight_of (views j)).hold) (sight_of (views j)).picture (views j).log (views j).changes) (sym e) record {
-      first = l.first;
-      last = l.last;
-      below = l.below;
-      stored = a.generation j most_ ne ∙ l.stored;
-      bump = l.bump;
-      sealed = a.seal j most_ ne ∙ l.sealed;
-      entries_most = l.entries_most;
-      records_most = l.records_most;
-      pairs = λ i y q. let t = l.pairs i y q in let r = slice_get_within (views j).log.entries i y q in let most = l.entries_most in (a.entry j i 0 most_ (omega arith) (omega arith) ne ∙ t.0, a.entry j i 1 most_ (omega arith) (omega arith) ne ∙ t.1, t.2, t.3);
-      pair_part = λ i q. let r = parts_short o.shape j (sight_of (views j)).picture (views j).log (views j).changes (views j).log.phase l.phase in let most = l.entries_most in a.entry j (length (views j).log.entries) i most_ (omega arith) (omega arith) ne ∙ l.pair_part i q;
-      records = λ i r q. let t = l.records i r q in let n = slice_get_within (views j).log.records i r q in let most = l.records_most in (λ y z. a.slot j i y most_ (omega arith) z ne ∙ t.0 y z, t.1, t.2, t.3, t.4, t.5);
-      once = l.once;
-      olds = λ p y q b. let t = l.olds p y q b in (owned p b t.0, λ u. m.set p b (away p b t.0) ∙ t.1 u);
-      slot_part = λ i q. let r = parts_short o.shape j (sight_of (views j)).picture (views j).log (views j).changes (views j).log.phase l.phase in let most = slot_taken (views j).log i q in let n = l.records_most in a.slot j (length (views j).log.records) i most_ (omega arith) (omega arith) ne ∙ l.slot_part i q;
-      stale = λ i u q z t. l.stale i u q z (sym (ap undo_of (slots i z)) ∙ t);
-      area_changes = l.area_changes;
-      phase = l.phase;
-    }
+    first = l.first;
+    last = l.last;
+    below = l.below;
+    stored = a.generation j most_ ne ∙ l.stored;
+    bump = l.bump;
+    sealed = a.seal j most_ ne ∙ l.sealed;
+    entries_most = l.entries_most;
+    records_most = l.records_most;
+    pairs = λ i y q. let t = l.pairs i y q in let r = slice_get_within (views j).log.entries i y q in let most = l.entries_most in (a.entry j i 0 most_ (omega arith) (omega arith) ne ∙ t.0, a.entry j i 1 most_ (omega arith) (omega arith) ne ∙ t.1, t.2, t.3);
+    pair_part = λ i q. let r = parts_short o.shape j (sight_of (views j)).picture (views j).log (views j).changes (views j).log.phase l.phase in let most = l.entries_most in a.entry j (length (views j).log.entries) i most_ (omega arith) (omega arith) ne ∙ l.pair_part i q;
+    records = λ i r q. let t = l.records i r q in let n = slice_get_within (views j).log.records i r q in let most = l.records_most in (λ y z. a.slot j i y most_ (omega arith) z ne ∙ t.0 y z, t.1, t.2, t.3, t.4, t.5);
+    once = l.once;
+    olds = λ p y q b. let t = l.olds p y q b in (owned p b t.0, λ u. m.set p b (away p b t.0) ∙ t.1 u);
+    slot_part = λ i q. let r = parts_short o.shape j (sight_of (views j)).picture (views j).log (views j).changes (views j).log.phase l.phase in let most = slot_taken (views j).log i q in let n = l.records_most in a.slot j (length (views j).log.records) i most_ (omega arith) (omega arith) ne ∙ l.slot_part i q;
+    stale = λ i u q z t. l.stale i u q z (sym (ap undo_of (slots i z)) ∙ t);
+    area_changes = l.area_changes;
+    phase = l.phase;
+  }
     where
       fit : (i : ℕ) → SightFits o.shape (cells_of o.shape mem) (settled_words o g) (Flies (ghost_of g) i) (ghost_of g) i (sight_of (views i))
       fit i = x.bits.each_lane i

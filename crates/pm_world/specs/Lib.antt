@@ -9,4 +9,5 @@ pub mod Lawful
 pub mod Course
 pub mod Crash
 pub mod Laws
+pub mod Decisions
 pub mod StoreLaws

@@ -4,12 +4,15 @@
 //! It speaks of places and bits, and of the calls by what they make final; what they mean is said above. Docs/MODEL.md, "The world".
 //!
 //! So far it is proved of these kinds of step that they keep the world: the draw of a number, of any call; a look at the stop word; an
-//! operation that is told; stores of user words; and stores into a lane's own log, but for those that apply entries. Still to come: loads, stores, OR and AND, flush and drain; locks and zones' locks; occupancy; the number seen,
-//! the stop set; the opening of a world; crash images; the history.
+//! operation that is told; stores of user words, and into a lane's own log; the drain that decides a call, and each store of a decided
+//! one. Still to come: loads, the store of a run's descriptor, OR and AND, flush and drain; locks and zones' locks; occupancy; the number
+//! seen, the stop set; the opening of a world; crash images; the history.
 #![tactic(auto)]
 
+mod decisions;
 mod laws;
 mod log_stores;
 
-pub use log_stores::stores_into_a_log_keep_the_world;
+pub use decisions::decisions_keep_the_world;
 pub use laws::{lawful_steps_keep_the_world, no_bit_is_owned_twice};
+pub use log_stores::stores_into_a_log_keep_the_world;
