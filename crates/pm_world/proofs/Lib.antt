@@ -59,3 +59,5 @@ pub mod StepDrops
 pub mod CrashDescriptors
 pub mod Recording
 pub mod StoreRecord
+pub mod Writing
+pub mod StoreWord

@@ -31,6 +31,9 @@ use Rattle.pm_world.proofs.StepApply.{made_word, mask_of, OneWord, same_cell}
 use Rattle.pm_world.proofs.StepChange.{tag, stores_at, clears_seal, applies_generation}
 use Rattle.pm_world.proofs.StepEntries.{pair, change, next_place, entry_applied, applies_root, applies_descriptor, applies_chunk}
 use Rattle.pm_world.specs.Laws.{KeepsAt}
+use Rattle.pm_world.proofs.StoreEnd.{store_seal, store_generation, store_void}
+use Rattle.pm_world.proofs.StoreEntry.{store_entry}
+use Rattle.pm_world.proofs.StoreRecord.{store_record}
 use Rattle.pm_world.proofs.WordsApart.{one_cell}
 
 -- what a lane knows of a word is so
@@ -112,26 +115,21 @@ and_from known w bits found o mem new views views' g k x ink law moves t = let m
       subst (FindsKnown (views k) w) (sym moves.1) (known o mem views g k x ink w inside),
     )
 
--- ---- THE STORES OF ALL PHASES: those of an open call and of one that takes its number are premises
+-- ---- THE STORES OF ALL PHASES: those of an open call's words of blocks, and that of a run's descriptor, are premises
 pub record OtherStores : Type 0 where
   pub idle : (c i : ℕ) → KeepsAt Idle (ChunkPart c i)
-  pub slot : KeepsAt Open SlotPart
-  pub entry : KeepsAt Open EntryPart
   pub chunk : (c i : ℕ) → KeepsAt Open (ChunkPart c i)
   pub descriptor : (c : ℕ) → KeepsAt Open (DescriptorPart c)
-  pub generation : KeepsAt Open GenerationPart
-  pub drawn_generation : (n : ℕ) → KeepsAt (Drawn n) GenerationPart
-  pub drawn_seal : (n : ℕ) → KeepsAt (Drawn n) SealPart
 
 each_store : OtherStores → (ph : Phase) (q : Part) → KeepsAt ph q
 each_store s Idle (ChunkPart c i) = s.idle c i
-each_store s Open SlotPart = s.slot
-each_store s Open EntryPart = s.entry
+each_store s Open SlotPart = store_record
+each_store s Open EntryPart = store_entry
 each_store s Open (ChunkPart c i) = s.chunk c i
 each_store s Open (DescriptorPart c) = s.descriptor c
-each_store s Open GenerationPart = s.generation
-each_store s (Drawn n) GenerationPart = s.drawn_generation n
-each_store s (Drawn n) SealPart = s.drawn_seal n
+each_store s Open GenerationPart = store_void
+each_store s (Drawn n) GenerationPart = store_generation n
+each_store s (Drawn n) SealPart = store_seal n
 each_store s (Applying todo) GenerationPart = applies_generation todo
 each_store s (Applying todo) RootPart = applies_root todo
 each_store s (Applying todo) (DescriptorPart c) = applies_descriptor todo c
