@@ -1,0 +1,14 @@
+pub mod Bits
+pub mod Changes
+pub mod Places
+pub mod Entries
+pub mod Parts
+pub mod Log
+pub mod Claims
+pub mod Steps
+pub mod View
+pub mod Counts
+pub mod Views
+pub mod Founds
+pub mod LockWords
+pub mod Limits

@@ -1,0 +1,73 @@
+-- What one lane knows of the memory and of itself: plain data, in parts.
+use Rattle.std.specs.Prelude.{ℕ, zero, Bool, ◌==◌, List, [], Option, None}
+use Rattle.pm_layout.specs.declared.shape.Shape.{Shape}
+use Rattle.pm_objects.specs.declared.calls.Operation.{Operation}
+use Rattle.pm_objects.specs.declared.history.Value.{Value}
+use Rattle.pm_view.specs.declared.occ.Occ.{Occ}
+use Rattle.pm_view.specs.Changes.{Undrained}
+use Rattle.pm_view.specs.Claims.{Claim}
+use Rattle.pm_view.specs.Log.{Log, Idle, new_log}
+use Rattle.pm_view.specs.Steps.{Step}
+
+-- what stays: the pool's shape and id, the lane's number, its stop number, and how many lanes run
+pub record Constants : Type 0 where
+  pub shape : Shape
+  pub pool : ℕ
+  pub lane : ℕ
+  pub stop : Option ℕ
+  pub lanes : ℕ
+
+-- an occupancy word with the value that the lane last saw or made
+pub record Seen : Type 0 where
+  pub at : Occ
+  pub bits : ℕ
+
+-- an operation with its reply
+pub record Told : Type 0 where
+  pub operation : Operation
+  pub reply : Option Value
+
+-- a call that took a number: an entry of the history
+pub record Numbered : Type 0 where
+  pub number : ℕ
+  pub call : List Told
+
+pub record View : Type 0 where
+  pub fixed : Constants
+  -- what it took, found, knows and gave up, the latest first
+  pub claims : List Claim
+  -- the occupancy words that it saw or changed, and the zones whose lock it holds, the latest first
+  pub occupancy : List Seen
+  pub zones : List ℕ
+  -- its undrained changes, the latest first, and how many counted calls it made
+  pub changes : List Undrained
+  pub calls : ℕ
+  pub log : Log
+  -- the open call: what its steps told that is no value of a word, the latest first; its operations with their replies; its number
+  pub seen : List Step
+  pub call : List Told
+  pub number : Option ℕ
+  -- its entries of the history, the latest first, and its pending actions: what was reserved, is to be freed, or is to be set
+  pub entries : List Numbered
+  pub actions : List Told
+
+-- one lane runs
+abbrev pub runs_one : View → Bool
+runs_one v = v.fixed.lanes == 1
+
+-- the view of a lane of which nothing was asked, with this generation
+abbrev pub idle : Constants → ℕ → View
+idle fixed generation = record {
+  fixed = fixed;
+  claims = [];
+  occupancy = [];
+  zones = [];
+  changes = [];
+  calls = 0;
+  log = new_log Idle generation;
+  seen = [];
+  call = [];
+  number = None;
+  entries = [];
+  actions = [];
+}

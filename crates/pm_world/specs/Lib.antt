@@ -1,0 +1,12 @@
+pub mod States
+pub mod Sights
+pub mod Lanes
+pub mod Logs
+pub mod Memory
+pub mod World
+pub mod Moves
+pub mod Lawful
+pub mod Course
+pub mod Crash
+pub mod Laws
+pub mod Decisions
