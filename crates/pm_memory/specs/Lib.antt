@@ -1,0 +1,5 @@
+pub mod Changes
+pub mod Calls
+pub mod Keep
+pub mod Keeping
+pub mod Survivors
