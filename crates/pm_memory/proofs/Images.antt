@@ -1,16 +1,16 @@
 -- What taking a change back does to a word, and what an image has: what was there, or what a change of some lane found.
-use Rattle.std.proofs.Common.{◌≡◌, ⊎_elim, ℕ, ◌-◌, ◌^◌, ◌<◌, cond, eqb, min, max, bit_and, sym, ap, ◌∙◌, arith, eq-eqb, ne_eqb, ◌≢◌, ◌⊎◌, inl, inr, suc, zero, bit_or, List, [], ◌∷◌, drop, Some, refl, length, slice_index, subst}
+use Rattle.std.proofs.Common.{◌≡◌, ⊎_elim, ℕ, ◌-◌, ◌^◌, ◌<◌, cond, eqb, min, max, bit_and, sym, ap, ◌∙◌, arith, eq-eqb, ne_eqb, ◌≢◌, ◌⊎◌, inl, inr, suc, zero, bit_or, List, [], ◌∷◌, drop, Some, refl, length, slice_index, subst, ◌++◌, Bool, true}
 use Rattle.std.specs.Int.{bit_at, bit_not, w64}
 use Rattle.std.specs.Int.Bits.{and_zero_l, and_zero_r, or_zero_l}
-use Rattle.std.proofs.lemmas.Bool.{cases_eq, cond-true, cond-false}
+use Rattle.std.proofs.lemmas.Bool.{cases_eq, cond-true, cond-false, eqb-true}
 use Rattle.std.proofs.lemmas.Nat.Bits.{bit_at_and, bit_at_or, bit_at_not, bit_at-lt, same_from_bits}
 use Rattle.pm_view.specs.declared.change.Change.{Change}
 use Rattle.pm_view.specs.Changes.{IsFormed, or_change, and_change, taken_back}
-use Rattle.std.specs.List.{All, Any, slice_get}
-use Rattle.std.proofs.lemmas.List.Elements.{All-head, All-tail, All-drop, All-filter}
+use Rattle.std.specs.List.{All, Any, slice_get, Contains}
+use Rattle.std.proofs.lemmas.List.Elements.{All-head, All-tail, All-drop, All-filter, All-nil, All-append, All-weaker, All-contains_itself, filter_passes}
 use Rattle.pm_view.specs.Bits.{all_bits, with_bits}
 use Rattle.pm_memory.specs.Changes.{changes_of}
-use Rattle.pm_memory.specs.Survivors.{all_taken_back, survivor, Choice, IsImage, survivor_of_all}
+use Rattle.pm_memory.specs.Survivors.{all_taken_back, survivor, Choice, IsImage, survivor_of_all, IsTakenFrom}
 use Rattle.std.proofs.lemmas.List.{drop_all, nil_from_length}
 
 -- a mask twice is the mask once
@@ -130,3 +130,36 @@ survivor_of_all-untouched choice lane (changes ∷ lanes) w x none =
 
 pub image-untouched : (choice : Choice) (words image : List ℕ) (lanes : List (List Change)) (w : ℕ) → IsImage choice words lanes image → All (λ (changes : List Change). length (changes_of w changes) ≡ 0) lanes → w < length words → slice_index image w ≡ slice_index words w
 image-untouched choice words image lanes w is none inside = is.each w inside ∙ survivor_of_all-untouched choice 0 lanes w (slice_index words w) none
+
+-- ---- an image has lost changes
+
+all_taken_back-append : (lost more : List Change) (x : ℕ) → all_taken_back (lost ++ more) x ≡ all_taken_back lost (all_taken_back more x)
+all_taken_back-append [] more x = refl
+all_taken_back-append (c ∷ lost) more x = ap (taken_back c) (all_taken_back-append lost more x)
+
+abbrev IsOfSome : List (List Change) → Change → Type 0
+IsOfSome lanes c = Any (λ (changes : List Change). Contains changes c) lanes
+
+of_later : (changes : List Change) (lanes : List (List Change)) (c : Change) → IsOfSome lanes c → IsOfSome (changes ∷ lanes) c
+of_later changes lanes c some = (suc some.0, some.1, omega (arith, some.2), some.3, some.4)
+
+survivor_of_all-taken : (choice : Choice) (lane : ℕ) (lanes : List (List Change)) (w x : ℕ) → IsTakenFrom lanes w x (survivor_of_all choice lane lanes w x)
+survivor_of_all-taken choice lane [] w x = record { lost = []; of_word = All-nil (λ (c : Change). c.word ≡ w); of_lanes = All-nil (IsOfSome []); is = refl }
+survivor_of_all-taken choice lane (changes ∷ lanes) w x =
+    let kept : ℕ = choice lane w in
+    let first : List Change = drop kept (changes_of w changes) in
+    let rest = survivor_of_all-taken choice (suc lane) lanes w (survivor kept changes w x) in
+    let test : Change → Bool = λ c. eqb c.word w in
+    let passes : All (λ (c : Change). test c ≡ true) (changes_of w changes) = filter_passes test changes in
+    let words : All (λ (c : Change). c.word ≡ w) first = All-drop (λ (c : Change). c.word ≡ w) kept (changes_of w changes) (All-weaker (λ (c : Change). test c ≡ true) (λ (c : Change). c.word ≡ w) (λ c is. eqb-true c.word w is) (changes_of w changes) passes) in
+    let own : All (IsOfSome (changes ∷ lanes)) first =
+    All-drop (IsOfSome (changes ∷ lanes)) kept (changes_of w changes) (All-filter test (IsOfSome (changes ∷ lanes)) changes (All-weaker (Contains changes) (IsOfSome (changes ∷ lanes)) (λ c among. (0, changes, omega arith, refl, among)) changes (All-contains_itself changes))) in
+    record {
+      lost = rest.lost ++ first;
+      of_word = All-append (λ (c : Change). c.word ≡ w) rest.lost first rest.of_word words;
+      of_lanes = All-append (IsOfSome (changes ∷ lanes)) rest.lost first (All-weaker (IsOfSome lanes) (IsOfSome (changes ∷ lanes)) (of_later changes lanes) rest.lost rest.of_lanes) own;
+      is = rest.is ∙ sym (all_taken_back-append rest.lost first x);
+    }
+
+pub image-taken : (choice : Choice) (words image : List ℕ) (lanes : List (List Change)) (w : ℕ) → IsImage choice words lanes image → w < length words → IsTakenFrom lanes w (slice_index words w) (slice_index image w)
+image-taken choice words image lanes w is inside = subst (λ x. IsTakenFrom lanes w (slice_index words w) x) (sym (is.each w inside)) (survivor_of_all-taken choice 0 lanes w (slice_index words w))

@@ -4,9 +4,9 @@ use Rattle.std.proofs.lemmas.List.{take_more, take_all}
 use Rattle.std.proofs.lemmas.List.Sums.{sum_by-append}
 use Rattle.pm_view.specs.declared.change.Change.{Change}
 use Rattle.pm_memory.specs.declared.survivors.Kept.{Kept}
-use Rattle.pm_memory.specs.Keep.{kept, touched_below}
+use Rattle.pm_memory.specs.Keep.{kept, touched_below, IsKeptImage}
 use Rattle.pm_memory.specs.Keeping.{kept_after, kept_by, IsTakenBack}
-use Rattle.pm_memory.specs.Survivors.{Choice, IsImage, survivor, survivor_of_all}
+use Rattle.pm_memory.specs.Survivors.{Choice, IsImage, Survives, survivor, survivor_of_all}
 
 pub survivor_of_all-append : (choice : Choice) (lane : ℕ) (lanes : List (List Change)) (changes : List Change) (w x : ℕ) → survivor_of_all choice lane (lanes ++ changes ∷ []) w x ≡ survivor (choice (lane + length lanes) w) changes w (survivor_of_all choice lane lanes w x)
 survivor_of_all-append choice lane [] changes w x = let e : lane ≡ lane + 0 = omega arith in ap (λ k. survivor (choice k w) changes w x) e
@@ -54,3 +54,7 @@ image_all keep words left lanes i now all is = subst (λ (ls : List (List Change
 -- one lane alone
 pub image_of_one : (keep : ℕ) (words left : List ℕ) (changes : List Change) → IsTakenBack keep 0 changes words left → IsImage (kept keep (length words) (changes ∷ [])) words (changes ∷ []) left
 image_of_one keep words left changes back = record { size = back.size; each = λ w inside. back.each w inside }
+
+-- the image of a keep number is one that may survive
+pub kept_survives : (keep : ℕ) (words : List ℕ) (lanes : List (List Change)) (image : List ℕ) → IsKeptImage keep words lanes image → Survives words lanes image
+kept_survives keep words lanes image is = record { choice = kept keep (length words) lanes; is = is }

@@ -1,7 +1,14 @@
 pub mod Choosing
+pub mod Growing
 pub mod Images
 pub mod Imaging
 pub mod Leasts
+pub mod Occupying
+pub mod Opening
 pub mod Passing
+pub mod Runs
+pub mod Seeing
 pub mod TakingBack
 pub mod Touching
+pub mod Undrained
+pub mod Volatile

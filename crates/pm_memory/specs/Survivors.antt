@@ -1,5 +1,5 @@
 -- What a power failure may leave of the words.
-use Rattle.std.specs.Prelude.{◌≡◌, ℕ, suc, ◌<◌, List, [], ◌∷◌, length, drop, slice_index, Any, All}
+use Rattle.std.specs.Prelude.{◌≡◌, ℕ, suc, ◌<◌, List, [], ◌∷◌, length, drop, slice_index, Any, All, Contains}
 use Rattle.std.specs.Int.{bit_at}
 use Rattle.pm_view.specs.declared.change.Change.{Change}
 use Rattle.pm_view.specs.Changes.{taken_back}
@@ -41,5 +41,5 @@ FoundBit i word changes = Any (λ (c : Change). (bit_at c.mask i ≡ 1) × (bit_
 pub record IsTakenFrom (lanes : List (List Change)) (w old x : ℕ) : Type 0 where
   pub lost : List Change
   pub of_word : All (λ (c : Change). c.word ≡ w) lost
-  pub of_lanes : All (λ (c : Change). Any (λ (changes : List Change). Any (λ (d : Change). c ≡ d) changes) lanes) lost
+  pub of_lanes : All (λ (c : Change). Any (λ (changes : List Change). Contains changes c) lanes) lost
   pub is : x ≡ all_taken_back lost old

@@ -26,6 +26,7 @@ impl Model for Memory {
 impl Memory {
     ghost use Rattle.pm_memory.specs.Calls.{Contents, changes_by, after_store, after_or, after_and, after_flush, after_drain};
     ghost use Rattle.pm_memory.specs.Keep.{IsKeptImage};
+    ghost use Rattle.pm_memory.specs.Survivors.{Survives};
 
     /// A memory of these words and so many lanes, 1 to 32, with nothing undrained. It takes the room of every change.
     pub fn new(alloc: Global, words: Vec<u64>, lanes: u64) -> Result<Memory, AllocError>
@@ -111,7 +112,8 @@ impl Memory {
     /// The words that a power failure leaves, where of each lane's changes of a word as many are kept as `keep` says: 0 none, 1 all, else by
     /// numbers that follow it.
     pub fn survive(&self, alloc: Global, keep: u64) -> Result<Vec<u64>, AllocError>
-        ensures { IfOk result (λ image. IsKeptImage keep self.now.words self.now.changes image.items) }
+        ensures kept { IfOk result (λ image. IsKeptImage keep self.now.words self.now.changes image.items) }
+        ensures survives { IfOk result (λ image. Survives self.now.words self.now.changes image.items) }
     {
         let mut left = self.words.to_vec(alloc)?;
         let mut kept = Kept::of(keep);
