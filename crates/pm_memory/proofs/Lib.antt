@@ -3,6 +3,7 @@ pub mod Growing
 pub mod Images
 pub mod Imaging
 pub mod Leasts
+pub mod Meeting
 pub mod Occupying
 pub mod Opening
 pub mod Passing

@@ -18,7 +18,7 @@ use Rattle.pm_view.specs.Steps.Step.{Load, Store, Or, And, Flush, Drain}
 use Rattle.pm_view.specs.View.{View, runs_one}
 use Rattle.pm_view.specs.Views.{after, changed, learned, part_in, value_in, shape_of, marked_by, claims_drained, log_left}
 use Rattle.pm_memory.specs.Changes.{changes_flushed, changes_drained, AreUndrained}
-use Rattle.pm_memory.specs.Runs.{MadeOrStopped}
+use Rattle.pm_memory.specs.Runs.{AnyStep, MadeOrStopped}
 use Rattle.pm_memory.specs.Solo.{Solo, Sees, AreKnown, AreLocked, IsLockWord, IsCount, IsDue, IsSpent, counted, with_change, says_stopped}
 use Rattle.pm_memory.specs.declared.lane_mem.Stopped.{Stopped}
 use Rattle.pm_memory.proofs.Growing.{Grows, grows_none, grows_seen, grows_marked, grows_drained, known_loaded, known_stored, known_grown}
@@ -125,7 +125,7 @@ sees_stopped m v sees = record {
   sizes = sees.sizes;
 }
 
-pub stopped_instead : {T : Type 0} (m n : Solo) (s : T → Step) (result : Result T Stopped) → IsErr result → n ≡ says_stopped m → IsSpent m → MadeOrStopped (Sees m) (Sees n) s result
+pub stopped_instead : {T : Type 0} (m n : Solo) (s : T → Step) (result : Result T Stopped) → IsErr result → n ≡ says_stopped m → IsSpent m → MadeOrStopped AnyStep (Sees m) (Sees n) s result
 stopped_instead m n s (Ok answer) error is spent = absurd (search rules)
 stopped_instead m n s (Err stopped) error is spent = λ v sees. (subst (λ (k : Solo). Sees k v) (sym is) (sees_stopped m v sees), is_at_stop m v sees spent)
 

@@ -10,8 +10,8 @@ ghost use Rattle.pm_memory.specs.Runs.{Made, MadeOrStopped};
 #[derive(Clone, Copy, Debug, PartialEq, Eq)]
 pub struct Stopped;
 
-/// A lane's memory. Each call is one step of the lane: whatever view the memory may be seen as, it is then seen as that view after the
-/// step. A counted call, any but a load, answers `Stopped` exactly at the lane's stop number; the stop word is then set in its place.
+/// A lane's memory. Each call is one step of the lane: whatever view the memory may be seen as that allows the step, it is then seen as that
+/// view after the step. A counted call, any but a load, answers `Stopped` exactly at the lane's stop number; the stop word is then set in its place.
 /// Words and lines are given by their numbers.
 pub trait LaneMem {
     /// The memory may be seen so.
@@ -19,6 +19,9 @@ pub trait LaneMem {
 
     /// What the memory asks of a step.
     ghost can: { Self → Step → Type 0 };
+
+    /// The view allows the step, so that what is promised of the step holds.
+    ghost may: { View → Step → Type 0 };
 
     /// The lane's number.
     fn lane(&self) -> u64
@@ -43,30 +46,30 @@ pub trait LaneMem {
     /// The word's value.
     fn load(&mut self, word: u64) -> u64
         requires { (found : ℕ) → can self.old (Load word found) }
-        ensures { Made (at self.old) (at self.new) (Load word result) };
+        ensures { Made may (at self.old) (at self.new) (Load word result) };
 
     /// Makes the word this value.
     fn store(&mut self, word: u64, value: u64) -> Result<(), Stopped>
         requires { can self.old (Store word value) }
-        ensures { MadeOrStopped (at self.old) (at self.new) (λ _. Store word value) result };
+        ensures { MadeOrStopped may (at self.old) (at self.new) (λ _. Store word value) result };
 
     /// Sets these bits of the word, and tells the word before.
     fn or(&mut self, word: u64, bits: u64) -> Result<u64, Stopped>
         requires { (found : ℕ) → can self.old (Or word bits found) }
-        ensures { MadeOrStopped (at self.old) (at self.new) (Or word bits) result };
+        ensures { MadeOrStopped may (at self.old) (at self.new) (Or word bits) result };
 
     /// Clears the other bits of the word, and tells the word before.
     fn and(&mut self, word: u64, bits: u64) -> Result<u64, Stopped>
         requires { (found : ℕ) → can self.old (And word bits found) }
-        ensures { MadeOrStopped (at self.old) (at self.new) (And word bits) result };
+        ensures { MadeOrStopped may (at self.old) (at self.new) (And word bits) result };
 
     /// Begins the writing back of a line.
     fn flush(&mut self, line: u64) -> Result<(), Stopped>
         requires { can self.old (Flush line) }
-        ensures { MadeOrStopped (at self.old) (at self.new) (λ _. Flush line) result };
+        ensures { MadeOrStopped may (at self.old) (at self.new) (λ _. Flush line) result };
 
     /// Waits until flushed lines are persistent.
     fn drain(&mut self) -> Result<(), Stopped>
         requires { can self.old Drain }
-        ensures { MadeOrStopped (at self.old) (at self.new) (λ _. Drain) result };
+        ensures { MadeOrStopped may (at self.old) (at self.new) (λ _. Drain) result };
 }

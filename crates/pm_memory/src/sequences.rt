@@ -12,8 +12,10 @@ pub fn persist<M: LaneMem>(mem: &mut M, line: u64) -> Result<(), Stopped>
     requires flush { M.can mem.old (Flush line) }
     requires drain { (m : M) (v : View)
         → M.at mem.old v → M.at m (after v (Flush line)) → M.can m Drain }
-    requires seen { (v : View) × M.at mem.old v }
-    ensures { (v : View) → M.at mem.old v → Ran (M.at mem.new) v (Flush line ∷ Drain ∷ []) result }
+    requires seen { (v : View) × M.at mem.old v × M.may v (Flush line) }
+    ensures { (v : View)
+        → M.at mem.old v → M.may v (Flush line) → M.may (after v (Flush line)) Drain
+        → Ran (M.at mem.new) v (Flush line ∷ Drain ∷ []) result }
 {
     mem.flush(line)?;
     Ok(mem.drain()?)

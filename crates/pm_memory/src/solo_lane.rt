@@ -54,12 +54,14 @@ impl LaneMem for SoloMem {
     ghost use Rattle.pm_memory.specs.Changes.{CanFlush, CanDrain, IsLeastUnflushed};
     ghost use Rattle.pm_view.specs.View.{View};
     ghost use Rattle.pm_view.specs.Steps.Step.{Load, Store, Or, And, Flush, Drain};
-    ghost use Rattle.pm_memory.specs.Runs.{Made, MadeOrStopped};
+    ghost use Rattle.pm_memory.specs.Runs.{AnyStep, Made, MadeOrStopped};
     ghost use Rattle.pm_memory.specs.Solo.{Sees, CanStep, after_store, after_or, after_and, after_flush, after_drain};
 
     ghost at = { Sees };
 
     ghost can = { CanStep };
+
+    ghost may = { AnyStep };
 
     fn lane(&self) -> u64
         ensures seen { (v : View) → Sees self.now v → result ≡ v.fixed.lane }
@@ -98,7 +100,7 @@ impl LaneMem for SoloMem {
 
     fn load(&mut self, word: u64) -> u64
         requires { word < length self.old.words }
-        ensures made { Made (Sees self.old) (Sees self.new) (Load word result) }
+        ensures made { Made AnyStep (Sees self.old) (Sees self.new) (Load word result) }
         ensures found { result ≡ slice_index self.old.words word }
         ensures same { self.new ≡ self.old }
     {
@@ -108,7 +110,7 @@ impl LaneMem for SoloMem {
     fn store(&mut self, word: u64, value: u64) -> Result<(), Stopped>
         requires word { word < length self.old.words }
         requires room { CanAdd self.old.changes }
-        ensures made { MadeOrStopped (Sees self.old) (Sees self.new) (λ _. Store word value) result }
+        ensures made { MadeOrStopped AnyStep (Sees self.old) (Sees self.new) (λ _. Store word value) result }
         ensures done { OnOk result (self.new ≡ after_store self.old word value) }
         ensures due { OnOk result (IsDue self.old) }
         ensures said { OnErr result (self.new ≡ says_stopped self.old) }
@@ -122,7 +124,7 @@ impl LaneMem for SoloMem {
     fn or(&mut self, word: u64, bits: u64) -> Result<u64, Stopped>
         requires word { word < length self.old.words }
         requires room { CanAdd self.old.changes }
-        ensures made { MadeOrStopped (Sees self.old) (Sees self.new) (Or word bits) result }
+        ensures made { MadeOrStopped AnyStep (Sees self.old) (Sees self.new) (Or word bits) result }
         ensures found { IfOk result (λ found. found ≡ slice_index self.old.words word) }
         ensures done { OnOk result (self.new ≡ after_or self.old word bits) }
         ensures due { OnOk result (IsDue self.old) }
@@ -138,7 +140,7 @@ impl LaneMem for SoloMem {
     fn and(&mut self, word: u64, bits: u64) -> Result<u64, Stopped>
         requires word { word < length self.old.words }
         requires room { CanAdd self.old.changes }
-        ensures made { MadeOrStopped (Sees self.old) (Sees self.new) (And word bits) result }
+        ensures made { MadeOrStopped AnyStep (Sees self.old) (Sees self.new) (And word bits) result }
         ensures found { IfOk result (λ found. found ≡ slice_index self.old.words word) }
         ensures done { OnOk result (self.new ≡ after_and self.old word bits) }
         ensures due { OnOk result (IsDue self.old) }
@@ -153,7 +155,7 @@ impl LaneMem for SoloMem {
 
     fn flush(&mut self, line: u64) -> Result<(), Stopped>
         requires { CanFlush line self.old.changes }
-        ensures made { MadeOrStopped (Sees self.old) (Sees self.new) (λ _. Flush line) result }
+        ensures made { MadeOrStopped AnyStep (Sees self.old) (Sees self.new) (λ _. Flush line) result }
         ensures done { OnOk result (self.new ≡ after_flush self.old line) }
         ensures due { OnOk result (IsDue self.old) }
         ensures said { OnErr result (self.new ≡ says_stopped self.old) }
@@ -166,7 +168,7 @@ impl LaneMem for SoloMem {
 
     fn drain(&mut self) -> Result<(), Stopped>
         requires { CanDrain self.old.changes }
-        ensures made { MadeOrStopped (Sees self.old) (Sees self.new) (λ _. Drain) result }
+        ensures made { MadeOrStopped AnyStep (Sees self.old) (Sees self.new) (λ _. Drain) result }
         ensures done { OnOk result (self.new ≡ after_drain self.old) }
         ensures due { OnOk result (IsDue self.old) }
         ensures said { OnErr result (self.new ≡ says_stopped self.old) }

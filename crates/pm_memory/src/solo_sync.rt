@@ -85,13 +85,13 @@ impl LaneSync for SoloMem {
     ghost use Rattle.std.specs.Int.{bit_not, w64};
     ghost use Rattle.pm_view.specs.Steps.Step.{TakeWrite, TakeRead, Raise, Give, ZoneTry, ZoneGive, Occupied, Occupy, Vacate, Draw, NumberSeen, StopSeen, SetStop};
     ghost use Rattle.pm_view.specs.LockWords.{reader_bit, writer_bit, without_lane};
-    ghost use Rattle.pm_memory.specs.Runs.{Made};
+    ghost use Rattle.pm_memory.specs.Runs.{AnyStep, Made};
     ghost use Rattle.pm_memory.specs.Solo.{Sees, says_stopped};
 
     fn take_write(&mut self, line: u64) -> bool
         requires line { line < length self.old.locks }
         requires free { slice_index self.old.locks line ≡ 0 }
-        ensures made { Made (Sees self.old) (Sees self.new) (TakeWrite line result) }
+        ensures made { Made AnyStep (Sees self.old) (Sees self.new) (TakeWrite line result) }
         ensures won { IsTrue result }
         ensures taken { self.new ≡ with_lock self.old line (writer_bit 0) }
     {
@@ -101,7 +101,7 @@ impl LaneSync for SoloMem {
     fn take_read(&mut self, line: u64) -> bool
         requires line { line < length self.old.locks }
         requires free { slice_index self.old.locks line ≡ 0 }
-        ensures made { Made (Sees self.old) (Sees self.new) (TakeRead line result) }
+        ensures made { Made AnyStep (Sees self.old) (Sees self.new) (TakeRead line result) }
         ensures won { IsTrue result }
         ensures taken { self.new ≡ with_lock self.old line (reader_bit 0) }
     {
@@ -111,7 +111,7 @@ impl LaneSync for SoloMem {
     fn raise(&mut self, line: u64) -> bool
         requires line { line < length self.old.locks }
         requires reads { slice_index self.old.locks line ≡ reader_bit 0 }
-        ensures made { Made (Sees self.old) (Sees self.new) (Raise line result) }
+        ensures made { Made AnyStep (Sees self.old) (Sees self.new) (Raise line result) }
         ensures won { IsTrue result }
         ensures taken { self.new ≡ with_lock self.old line (writer_bit 0) }
     {
@@ -120,7 +120,7 @@ impl LaneSync for SoloMem {
 
     fn give(&mut self, line: u64)
         requires { line < length self.old.locks }
-        ensures made { Made (Sees self.old) (Sees self.new) (Give line) }
+        ensures made { Made AnyStep (Sees self.old) (Sees self.new) (Give line) }
         ensures given { self.new
             ≡ with_lock self.old line (without_lane 0 (slice_index self.old.locks line)) }
     {
@@ -130,7 +130,7 @@ impl LaneSync for SoloMem {
     fn zone_try(&mut self, zone: u64) -> bool
         requires zone { zone < length self.old.zone_locks }
         requires free { slice_index_or self.old.zone_locks zone false ≡ false }
-        ensures made { Made (Sees self.old) (Sees self.new) (ZoneTry zone result) }
+        ensures made { Made AnyStep (Sees self.old) (Sees self.new) (ZoneTry zone result) }
         ensures won { IsTrue result }
         ensures taken { self.new ≡ with_zone_lock self.old zone true }
     {
@@ -141,7 +141,7 @@ impl LaneSync for SoloMem {
 
     fn zone_give(&mut self, zone: u64)
         requires { zone < length self.old.zone_locks }
-        ensures made { Made (Sees self.old) (Sees self.new) (ZoneGive zone) }
+        ensures made { Made AnyStep (Sees self.old) (Sees self.new) (ZoneGive zone) }
         ensures given { self.new ≡ with_zone_lock self.old zone false }
     {
         self.set_zone_lock(zone, false);
@@ -149,7 +149,7 @@ impl LaneSync for SoloMem {
 
     fn occupied(&mut self, at: Occ) -> u64
         requires { HasWord self.old.runs self.old.zones at }
-        ensures made { Made (Sees self.old) (Sees self.new) (Occupied at result) }
+        ensures made { Made AnyStep (Sees self.old) (Sees self.new) (Occupied at result) }
         ensures found { result ≡ occ_word self.old.runs self.old.zones at }
         ensures same { self.new ≡ self.old }
     {
@@ -158,7 +158,7 @@ impl LaneSync for SoloMem {
 
     fn occupy(&mut self, at: Occ, bits: u64) -> bool
         requires { HasWord self.old.runs self.old.zones at }
-        ensures made { Made (Sees self.old) (Sees self.new) (Occupy at bits result) }
+        ensures made { Made AnyStep (Sees self.old) (Sees self.new) (Occupy at bits result) }
         ensures won { IsTrue result ↔ (bit_and (occ_word self.old.runs self.old.zones at) bits ≡ 0) }
         ensures taken { OnTrue result
             (self.new ≡ with_occ self.old at (bit_or (occ_word self.old.runs self.old.zones at) bits)) }
@@ -174,7 +174,7 @@ impl LaneSync for SoloMem {
 
     fn vacate(&mut self, at: Occ, bits: u64)
         requires { HasWord self.old.runs self.old.zones at }
-        ensures made { Made (Sees self.old) (Sees self.new) (Vacate at bits) }
+        ensures made { Made AnyStep (Sees self.old) (Sees self.new) (Vacate at bits) }
         ensures given { self.new
             ≡ with_occ self.old at (bit_and (occ_word self.old.runs self.old.zones at) (bit_not w64 bits)) }
     {
@@ -184,7 +184,7 @@ impl LaneSync for SoloMem {
 
     fn draw(&mut self) -> u64
         requires { self.old.number < 2 ^ 62 + 32 }
-        ensures made { Made (Sees self.old) (Sees self.new) (Draw result) }
+        ensures made { Made AnyStep (Sees self.old) (Sees self.new) (Draw result) }
         ensures before { result ≡ self.old.number }
         ensures counted { self.new ≡ record self.old { number = self.old.number + 1 } }
     {
@@ -194,7 +194,7 @@ impl LaneSync for SoloMem {
     }
 
     fn number_seen(&mut self) -> u64
-        ensures made { Made (Sees self.old) (Sees self.new) (NumberSeen result) }
+        ensures made { Made AnyStep (Sees self.old) (Sees self.new) (NumberSeen result) }
         ensures drawn { result ≡ self.old.number }
         ensures same { self.new ≡ self.old }
     {
@@ -202,7 +202,7 @@ impl LaneSync for SoloMem {
     }
 
     fn stop_seen(&mut self) -> bool
-        ensures made { Made (Sees self.old) (Sees self.new) (StopSeen result) }
+        ensures made { Made AnyStep (Sees self.old) (Sees self.new) (StopSeen result) }
         ensures said { result ≡ self.old.stopped }
         ensures same { self.new ≡ self.old }
     {
@@ -210,7 +210,7 @@ impl LaneSync for SoloMem {
     }
 
     fn set_stop(&mut self)
-        ensures made { Made (Sees self.old) (Sees self.new) SetStop }
+        ensures made { Made AnyStep (Sees self.old) (Sees self.new) SetStop }
         ensures said { self.new ≡ says_stopped self.old }
     {
         self.stopped = true;
