@@ -20,10 +20,11 @@ mod survivors;
 
 pub use lane_mem::{LaneMem, Stopped};
 pub use lane_sync::LaneSync;
-pub use laws::{
-    images_are_found, opened_memory_is_seen, seen_memory_can, survivors_lose_changes,
-};
+pub use laws::{images_are_found, opened_memory_is_seen, seen_memory_can, survivors_lose_changes};
 pub use memory::Memory;
 pub use pm_view::{Change, MAX_CHANGES, Occ};
 pub use sequences::persist;
 pub use solo::SoloMem;
+
+#[cfg(test)]
+mod tests;

@@ -3,9 +3,6 @@ use crate::lock_word::{given, raised, read_taken, write_taken};
 use std::alloc::Global;
 use std::test::Fail;
 
-/// The words of a pool of one lane and one zone.
-const POOL_WORDS: usize = 34816;
-
 /// A memory of sixteen words and two lanes. Lane 0 stores 1, 2 and 3 in word 9 and two bits of word 2; lane 1 clears a bit of word 2 and
 /// stores in word 5. Word 2 was 0b1100, the others 0.
 fn two_lanes(alloc: Global) -> Result<Memory, Fail> {
@@ -64,19 +61,19 @@ fn survivors(rt: HostRuntime) -> Result<(), Fail> {
     Ok(())
 }
 
-/// What was flushed and drained stays; what was not, is told and goes with `--keep 0`.
+/// A flushed and drained line survives; a change that is not drained is lost where none is kept.
 #[test]
 fn persists(rt: HostRuntime) -> Result<(), Fail> {
-    let words = vec![in rt.alloc(); 0; POOL_WORDS]?;
+    let words = vec![in rt.alloc(); 0; 16]?;
     let mut memory = SoloMem::new(rt.alloc(), words, None)?;
-    assert_eq!(rt; memory.store(3, 1), Ok(()));
     assert_eq!(rt; memory.store(11, 2), Ok(()));
+    assert_eq!(rt; memory.flush(1), Ok(()));
+    assert_eq!(rt; memory.store(3, 1), Ok(()));
     assert_eq!(rt; memory.unflushed(), Some(0));
-    assert_eq!(rt; persist(&mut memory, 1), Ok(()));
+    assert_eq!(rt; memory.drain(), Ok(()));
     assert_eq!(rt; memory.undrained(), 1);
-    assert_eq!(rt; memory.unflushed(), Some(0));
     let image = memory.survive(rt.alloc(), 0)?;
-    assert_eq!(rt; image.len(), POOL_WORDS);
+    assert_eq!(rt; image.len(), 16);
     assert_eq!(rt; [image[3], image[11]], [0, 2]);
     Ok(())
 }
@@ -146,6 +143,19 @@ fn locks(rt: HostRuntime) -> Result<(), Fail> {
     Ok(())
 }
 
+/// The occupancy word of the run at byte 4096.
+#[test]
+fn run_words(rt: HostRuntime) -> Result<(), Fail> {
+    let words = vec![in rt.alloc(); 0; 1024]?;
+    let mut memory = SoloMem::new(rt.alloc(), words, None)?;
+    let run = Occ::Run(4096);
+    assert_eq!(rt; memory.occupy(run, 0b1110), true);
+    memory.vacate(run, 0b0101);
+    assert_eq!(rt; memory.occupied(run), 0b1010);
+    assert_eq!(rt; memory.occupy(run, 0b1100), false, "a bit is taken");
+    Ok(())
+}
+
 /// A memory of two pages that is given its occupancy words: page 1 has blocks 0 and 2, zone 3 chunk 63.
 #[test]
 fn given_occupancy(rt: HostRuntime) -> Result<(), Fail> {
@@ -163,9 +173,6 @@ fn given_occupancy(rt: HostRuntime) -> Result<(), Fail> {
         false,
         "block 2 is taken"
     );
-    assert_eq!(rt; memory.occupy(Occ::Run(4096), 0b1010), true);
-    memory.vacate(Occ::Run(4096), 0b11);
-    assert_eq!(rt; memory.occupied(Occ::Run(4096)), 0b1100);
     Ok(())
 }
 
