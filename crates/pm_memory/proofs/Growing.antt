@@ -1,13 +1,13 @@
 -- Claims that say no more of a word, and nothing of a lock, than those before.
-use Rattle.std.proofs.Common.{◌≡◌, ◌≢◌, ⊎_elim, ℕ, zero, suc, ◌<◌, Bool, true, false, cond, eqb, List, [], ◌∷◌, length, set, slice_index, Option, Some, None, refl, sym, ap, ◌∙◌, subst, eq-eqb, ne_eqb, get_or-set_same, get_or-set_other}
+use Rattle.std.proofs.Common.{◌≡◌, ◌≢◌, ⊎_elim, ℕ, zero, suc, ◌<◌, Bool, true, false, cond, List, [], ◌∷◌, length, set, slice_index, Option, Some, None, refl, sym, ap, ◌∙◌, eq-eqb, ne_eqb, get_or-set_same, get_or-set_other}
 use Rattle.std.proofs.lemmas.Bool.{cases_eq, cond-true, cond-false}
 use Rattle.pm_layout.specs.declared.shape.Shape.{Shape}
 use Rattle.pm_view.specs.Changes.{Undrained}
-use Rattle.pm_view.specs.Claims.{Claim, Took, Raised, Gave, SawDescriptor, SawBitmap, Reserved, Released, Marked, Drained, Decided, Knows, locked, reads, pictured}
+use Rattle.pm_view.specs.Claims.{Claim, SawDescriptor, SawBitmap, Drained, Knows, locked, reads, pictured}
 use Rattle.pm_view.specs.Entries.{Entry}
 use Rattle.pm_view.specs.Log.{Log, Phase, Idle, Open, Drawn, Sealing, Applying, Clearing, Retiring, Voiding}
 use Rattle.pm_view.specs.Parts.{Part, GenerationPart, SealPart, EntryPart, SlotPart, RootPart, DescriptorPart, ChunkPart, OtherPart}
-use Rattle.pm_view.specs.Views.{seen_by, learned, marked_by, decided_by, claims_drained}
+use Rattle.pm_view.specs.Views.{seen_by, marked_by, decided_by, claims_drained}
 use Rattle.pm_memory.specs.Solo.{AreKnown}
 
 pub record Grows (sh : Shape) (old new : List Claim) : Type 0 where

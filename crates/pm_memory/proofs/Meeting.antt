@@ -1,5 +1,5 @@
 -- What a view allows of its own, the memory that is seen so can do.
-use Rattle.std.proofs.Common.{IsTrue, ◌≡◌, ℕ, ◌+◌, ◌*◌, ◌/◌, ◌%◌, ◌^◌, ◌<◌, Bool, true, false, not, ◌&&◌, ◌||◌, List, eqb, length, slice_index, get_or, Option, None, refl, sym, ap, ◌∙◌, subst, arith, rules}
+use Rattle.std.proofs.Common.{IsTrue, ◌≡◌, ℕ, ◌+◌, ◌*◌, ◌/◌, ◌^◌, ◌<◌, Bool, true, false, not, ◌&&◌, ◌||◌, eqb, length, slice_index, get_or, None, refl, sym, ap, ◌∙◌, subst, arith, rules}
 use Rattle.std.specs.List.{list_any, Any, Contains}
 use Rattle.std.proofs.lemmas.Bool.{false≢true}
 use Rattle.std.proofs.lemmas.List.Folds.{list_any_at, Any-from_list_any}
@@ -12,7 +12,7 @@ use Rattle.pm_view.specs.Counts.{HasRoom, FlushesSome, DropsSome, is_unflushed}
 use Rattle.pm_view.specs.LockWords.{reader_bit}
 use Rattle.pm_view.specs.Steps.Step.{NumberSeen}
 use Rattle.pm_view.specs.View.{View}
-use Rattle.pm_memory.specs.Changes.{CanAdd, CanFlush, CanDrain, lies_in, has_unflushed, AreUndrained}
+use Rattle.pm_memory.specs.Changes.{CanAdd, CanFlush, CanDrain, lies_in}
 use Rattle.pm_memory.specs.Solo.{Solo, Sees, IsLockWord, HasWord}
 use Rattle.pm_memory.proofs.Undrained.{undrained-length, undrained-unflushed}
 

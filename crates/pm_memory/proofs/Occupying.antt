@@ -1,8 +1,8 @@
 -- How the view of lane 0 follows its memory, a call on an occupancy word, the commit counter or the stop word at a time: `m` is the memory before,
 -- `n` the memory after.
-use Rattle.std.proofs.Common.{IsTrue, ◌≡◌, ◌≢◌, ◌↔◌, ⊎_elim, ℕ, suc, ◌+◌, ◌/◌, ◌%◌, ◌^◌, ◌<◌, ◌≤◌, bit_and, bit_or, Bool, true, false, cond, eqb, List, [], ◌∷◌, length, slice_index, set, Option, Some, None, IfSome, refl, sym, ap, ◌∙◌, subst, arith, eq-eqb, length-set, get_or-set_same, get_or-set_other}
+use Rattle.std.proofs.Common.{IsTrue, ◌≡◌, ◌≢◌, ◌↔◌, ℕ, suc, ◌+◌, ◌/◌, ◌%◌, ◌<◌, ◌≤◌, bit_and, bit_or, Bool, true, false, cond, eqb, List, [], ◌∷◌, length, slice_index, set, Option, Some, None, IfSome, refl, sym, ap, ◌∙◌, subst, arith, eq-eqb, length-set, get_or-set_same, get_or-set_other}
 use Rattle.std.specs.Int.{bit_not, w64}
-use Rattle.std.specs.List.{All, Contains}
+use Rattle.std.specs.List.{All}
 use Rattle.std.specs.Option.{option_map}
 use Rattle.std.proofs.lemmas.Bool.{eqb-true, false≢true}
 use Rattle.std.proofs.lemmas.List.Elements.{All-cons, All-nil}
@@ -13,9 +13,8 @@ use Rattle.pm_view.specs.declared.occ.Occ.TheVariants.{Run, Zone}
 use Rattle.pm_view.specs.Claims.{Claim, Reserved, Released, pictured}
 use Rattle.pm_view.specs.Founds.{Found}
 use Rattle.pm_view.specs.Log.{Phase, Idle, Open, Drawn, Sealing, Applying, Clearing, Retiring, Voiding}
-use Rattle.pm_view.specs.Steps.{Step}
 use Rattle.pm_view.specs.Steps.Step.{Occupied, Occupy, Vacate, Draw, NumberSeen, StopSeen, Tell}
-use Rattle.pm_view.specs.View.{View, Seen, Numbered, runs_one}
+use Rattle.pm_view.specs.View.{View, Seen, Numbered}
 use Rattle.pm_view.specs.Views.{after, begun, occupancy_of, occupancy_with, is_same_occ}
 use Rattle.pm_memory.specs.Solo.{Solo, Sees, AreSeen, AreNumbered, IsCounter, HasWord, occ_word, with_occ}
 use Rattle.pm_memory.proofs.Growing.{Grows, forgets, known_grown}

@@ -1,11 +1,11 @@
 -- The memory of a pool's words is seen by the view of lane 0 of which nothing was asked.
-use Rattle.std.proofs.Common.{◌≡◌, ℕ, ◌+◌, ◌/◌, ◌%◌, ◌^◌, ◌<◌, ◌≤◌, Bool, false, List, [], replicate, length, slice_index, get_or, Option, Some, None, refl, arith}
+use Rattle.std.proofs.Common.{◌≡◌, ℕ, ◌/◌, Bool, false, List, replicate, length, refl, arith}
 use Rattle.std.specs.List.{All}
 use Rattle.std.proofs.lemmas.List.{length-replicate}
 use Rattle.std.proofs.lemmas.List.Elements.{All-replicate}
 use Rattle.pm_layout.specs.Chunks.{words_of}
-use Rattle.pm_view.specs.View.{View, Constants, idle}
-use Rattle.pm_memory.specs.Solo.{Solo, Sees, AreNumbered, opened, opened_with}
+use Rattle.pm_view.specs.View.{Constants, idle}
+use Rattle.pm_memory.specs.Solo.{Sees, AreNumbered, opened, opened_with}
 
 pub sees_opened_with : (words runs zones : List ℕ) (fixed : Constants) (generation : ℕ) → fixed.lane ≡ 0 → fixed.lanes ≡ 1 → length words ≡ words_of fixed.shape → length runs ≡ length words / 512 → length zones ≡ 32
     → Sees (opened_with words fixed.stop runs zones) (idle fixed generation)

@@ -1,6 +1,6 @@
 -- How the view of lane 0 follows its memory, a memory call at a time: `m` is the memory before, `k` the memory with the call counted, `n` the
 -- memory after.
-use Rattle.std.proofs.Common.{◌≡◌, ⊎_elim, ℕ, ◌+◌, ◌-◌, ◌/◌, ◌%◌, ◌^◌, ◌<◌, ◌≤◌, bit_and, bit_or, Bool, true, false, cond, List, [], ◌∷◌, ◌++◌, length, length-set, slice_index, set, Option, Some, None, IsSomeAnd, IfSome, Result, Ok, Err, IsErr, refl, sym, ap, ◌∙◌, subst, arith, rules}
+use Rattle.std.proofs.Common.{◌≡◌, ℕ, ◌+◌, ◌-◌, ◌/◌, ◌%◌, ◌^◌, ◌<◌, ◌≤◌, bit_and, bit_or, Bool, true, false, cond, List, ◌∷◌, length, length-set, slice_index, set, Option, Some, None, IsSomeAnd, IfSome, Result, Ok, Err, IsErr, refl, sym, ap, ◌∙◌, subst, arith, rules}
 use Rattle.std.specs.Option.{ForSome, option_map}
 use Rattle.std.specs.Int.{bit_not, w64}
 use Rattle.std.proofs.lemmas.Nat.{and_mask}
@@ -15,7 +15,7 @@ use Rattle.pm_view.specs.Log.{Log, Phase, Idle, Open, Drawn, Sealing, Applying, 
 use Rattle.pm_view.specs.Parts.{Part}
 use Rattle.pm_view.specs.Steps.{Step}
 use Rattle.pm_view.specs.Steps.Step.{Load, Store, Or, And, Flush, Drain}
-use Rattle.pm_view.specs.View.{View, runs_one}
+use Rattle.pm_view.specs.View.{View}
 use Rattle.pm_view.specs.Views.{after, changed, learned, part_in, value_in, shape_of, marked_by, claims_drained, log_left}
 use Rattle.pm_memory.specs.Changes.{changes_flushed, changes_drained, AreUndrained}
 use Rattle.pm_memory.specs.Runs.{AnyStep, MadeOrStopped}

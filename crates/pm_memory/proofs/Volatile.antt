@@ -1,24 +1,17 @@
 -- How the view of lane 0 follows its memory, a call on a volatile word at a time: `m` is the memory before, `n` the memory after.
-use Rattle.std.proofs.Common.{IsTrue, ◌≡◌, ◌≢◌, ◌⊎◌, ◌↔◌, inl, inr, ⊎_elim, ℕ, suc, ◌+◌, ◌/◌, ◌%◌, ◌^◌, ◌<◌, ◌≤◌, bit_and, bit_or, Bool, true, false, not, ◌&&◌, ◌||◌, cond, eqb, List, [], ◌∷◌, ◌++◌, length, slice_index, get_or, set, Option, Some, None, IfSome, refl, sym, ap, ◌∙◌, subst, arith, eq-eqb, ne_eqb, length-set, get_or-set_same, get_or-set_other, rules}
-use Rattle.std.specs.Int.{bit_not, w64}
-use Rattle.std.specs.List.{filter, list_any, All, Contains}
-use Rattle.std.specs.Option.{option_map}
-use Rattle.std.proofs.lemmas.Bool.{cases_eq, cond-true, cond-false, false≢true}
-use Rattle.std.proofs.lemmas.List.Elements.{All-cons, All-nil, Contains-append_cases, Contains-push_cases}
-use Rattle.pm_layout.specs.declared.shape.Shape.{Shape}
-use Rattle.pm_view.specs.declared.occ.Occ.{Occ}
-use Rattle.pm_view.specs.declared.occ.Occ.TheVariants.{Run, Zone}
-use Rattle.pm_view.specs.Claims.{Claim, Took, Raised, Gave, Reserved, Released, locked, reads, pictured}
+use Rattle.std.proofs.Common.{IsTrue, ◌≡◌, ◌≢◌, ⊎_elim, ℕ, ◌<◌, Bool, true, false, not, ◌&&◌, ◌||◌, cond, eqb, List, [], ◌∷◌, length, slice_index, get_or, set, Option, Some, refl, sym, ap, ◌∙◌, subst, arith, eq-eqb, ne_eqb, length-set, get_or-set_same, get_or-set_other, rules}
+use Rattle.std.specs.List.{filter, list_any, Contains}
+use Rattle.std.proofs.lemmas.Bool.{cases_eq}
+use Rattle.std.proofs.lemmas.List.Elements.{Contains-append_cases, Contains-push_cases}
+use Rattle.pm_view.specs.Claims.{Claim, Took, Raised, Gave, locked, reads, pictured}
 use Rattle.pm_view.specs.Founds.{IsWonAlone}
 use Rattle.pm_view.specs.LockWords.{reader_bit, writer_bit, with_writer, with_reader, with_raised, without_lane}
-use Rattle.pm_view.specs.Log.{Phase, Idle, Open, Drawn, Sealing, Applying, Clearing, Retiring, Voiding}
 use Rattle.pm_view.specs.Steps.{Step}
-use Rattle.pm_view.specs.Steps.Step.{TakeWrite, TakeRead, Raise, Give, ZoneTry, ZoneGive, Occupied, Occupy, Vacate, Draw, NumberSeen, StopSeen, Tell}
-use Rattle.pm_view.specs.View.{View, Seen, Numbered, runs_one}
-use Rattle.pm_view.specs.Views.{after, begun, with_seen, occupancy_of, occupancy_with}
-use Rattle.pm_memory.specs.Solo.{Solo, Sees, AreKnown, AreLocked, AreSeen, AreZonesLocked, AreNumbered, IsCounter, IsLockWord, SetsLock, HasWord, occ_word, with_occ}
-use Rattle.pm_memory.proofs.Growing.{Grows, forgets, known_grown}
-use Rattle.pm_memory.proofs.Seeing.{locks_same}
+use Rattle.pm_view.specs.Steps.Step.{TakeWrite, TakeRead, Raise, Give, ZoneTry, ZoneGive, NumberSeen}
+use Rattle.pm_view.specs.View.{View, Numbered}
+use Rattle.pm_view.specs.Views.{after, with_seen}
+use Rattle.pm_memory.specs.Solo.{Solo, Sees, AreLocked, IsCounter, IsLockWord, SetsLock}
+use Rattle.pm_memory.proofs.Growing.{forgets}
 
 -- ---- what was told
 

@@ -1,4 +1,3 @@
-use Rattle.std.proofs.Common.{◌≡◌, ℕ, length, ◌∙◌, rules}
 use Rattle.pm_memory.proofs.Undrained.{undrained-length}
 use Rattle.pm_memory.proofs.solo_lane.SoloMemLaneMem.undrained.Goals as goal
 

@@ -1,4 +1,4 @@
-use Rattle.std.proofs.Common.{List, Option, subst, sym, ap}
+use Rattle.std.proofs.Common.{List, subst, ap}
 use Rattle.pm_view.specs.declared.change.Change.{Change}
 use Rattle.pm_memory.specs.Changes.{IsLeastUnflushed}
 use Rattle.pm_memory.specs.Solo.{Solo}

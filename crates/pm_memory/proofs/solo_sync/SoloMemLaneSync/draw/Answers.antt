@@ -1,4 +1,4 @@
-use Rattle.std.proofs.Common.{◌+◌, ap, arith}
+use Rattle.std.proofs.Common.{◌+◌, ap}
 use Rattle.pm_memory.specs.Solo.{Solo}
 use Rattle.pm_memory.proofs.Occupying.{draw_made}
 use Rattle.pm_memory.proofs.solo_sync.SoloMemLaneSync.draw.Goals as goal
