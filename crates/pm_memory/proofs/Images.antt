@@ -1,4 +1,5 @@
--- What taking a change back does to a word, and what an image has: what was there, or what a change of some lane found.
+-- What taking a change back does to a word, and what an image has: what was there, or what a
+-- change of some lane found.
 use Rattle.std.proofs.Common.{◌≡◌, ⊎_elim, ℕ, ◌-◌, ◌^◌, ◌<◌, cond, eqb, min, max, bit_and, sym, ap, ◌∙◌, arith, eq-eqb, ne_eqb, ◌≢◌, ◌⊎◌, inl, inr, suc, zero, bit_or, List, [], ◌∷◌, drop, Some, refl, length, slice_index, subst, ◌++◌, Bool, true}
 use Rattle.std.specs.Int.{bit_at, bit_not, w64}
 use Rattle.std.specs.Int.Bits.{and_zero_l, and_zero_r, or_zero_l}

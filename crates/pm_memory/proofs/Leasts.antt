@@ -5,7 +5,8 @@ use Rattle.std.proofs.lemmas.List.{take_all, get_or_default}
 use Rattle.std.proofs.lemmas.List.Elements.{All-more, All-weaker}
 use Rattle.pm_view.specs.declared.change.Change.{Change}
 
--- of the first so many changes none is of a word from `from` on and below `least`, which is changed or `end`
+-- of the first so many changes none is of a word from `from` on and below `least`, which is
+-- changed or `end`
 pub record IsLeast (changes : List Change) (from end i least : ℕ) : Type 0 where
   pub low : from ≤ least
   pub most : least ≤ end

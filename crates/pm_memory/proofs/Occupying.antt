@@ -1,5 +1,5 @@
--- How the view of lane 0 follows its memory, a call on an occupancy word, the commit counter or the stop word at a time: `m` is the memory before,
--- `n` the memory after.
+-- How the view of lane 0 follows its memory, a call on an occupancy word, the commit counter or
+-- the stop word at a time: `m` is the memory before, `n` the memory after.
 use Rattle.std.proofs.Common.{IsTrue, ◌≡◌, ◌≢◌, ◌↔◌, ℕ, suc, ◌+◌, ◌/◌, ◌%◌, ◌<◌, ◌≤◌, bit_and, bit_or, Bool, true, false, cond, eqb, List, [], ◌∷◌, length, slice_index, set, Option, Some, None, IfSome, refl, sym, ap, ◌∙◌, subst, arith, eq-eqb, length-set, get_or-set_same, get_or-set_other}
 use Rattle.std.specs.Int.{bit_not, w64}
 use Rattle.std.specs.List.{All}

@@ -10,7 +10,8 @@ use Rattle.pm_memory.specs.Keeping.{kept_after, kept_by, IsTakenBack}
 use Rattle.pm_memory.specs.Survivors.{survivor}
 use Rattle.pm_memory.proofs.Touching.{is_touched, touched_below-none, touched_below-next, touched_below-gap, untouched, is_touched-changed, survivor-untouched}
 
--- the words below this one are done, and as many pairs drawn; it is the next that is touched, or the end
+-- the words below this one are done, and as many pairs drawn; it is the next that is touched, or
+-- the end
 pub record IsPassed (changes : List Change) (words left : List ℕ) (old new : Kept) (word : ℕ) : Type 0 where
   pub within : word ≤ length words
   pub size : length left ≡ length words

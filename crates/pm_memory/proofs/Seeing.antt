@@ -1,5 +1,5 @@
--- How the view of lane 0 follows its memory, a memory call at a time: `m` is the memory before, `k` the memory with the call counted, `n` the
--- memory after.
+-- How the view of lane 0 follows its memory, a memory call at a time: `m` is the memory before,
+-- `k` the memory with the call counted, `n` the memory after.
 use Rattle.std.proofs.Common.{◌≡◌, ℕ, ◌+◌, ◌-◌, ◌/◌, ◌%◌, ◌^◌, ◌<◌, ◌≤◌, bit_and, bit_or, Bool, true, false, cond, List, ◌∷◌, length, length-set, slice_index, set, Option, Some, None, IsSomeAnd, IfSome, Result, Ok, Err, IsErr, refl, sym, ap, ◌∙◌, subst, arith, rules}
 use Rattle.std.specs.Option.{ForSome, option_map}
 use Rattle.std.specs.Int.{bit_not, w64}

@@ -7,7 +7,8 @@ use Rattle.pm_view.specs.Changes.{taken_back}
 use Rattle.pm_memory.specs.Changes.{changes_of}
 use Rattle.pm_memory.specs.Survivors.{all_taken_back, survivor}
 
--- of the changes from place i on those of the word were taken back that are not kept, and so many are left to take
+-- of the changes from place i on those of the word were taken back that are not kept, and so many
+-- are left to take
 pub record IsTakenTo (kept w value : ℕ) (changes : List Change) (i left to_take : ℕ) : Type 0 where
   pub count : to_take ≡ length (changes_of w (take i changes)) - kept
   pub taken : left ≡ all_taken_back (drop (kept - length (changes_of w (take i changes))) (changes_of w (drop i changes))) value

@@ -1,4 +1,5 @@
--- A memory's undrained changes and those of a view, a call at a time: the memory has the oldest first, the view the latest.
+-- A memory's undrained changes and those of a view, a call at a time: the memory has the oldest
+-- first, the view the latest.
 use Rattle.std.proofs.Common.{◌≡◌, ℕ, ◌+◌, ◌/◌, Bool, true, false, not, ◌&&◌, ◌||◌, cond, eqb, List, [], ◌∷◌, ◌++◌, length, Option, Some, None, refl, sym, ap, ◌∙◌, subst, arith, length-append}
 use Rattle.std.proofs.lemmas.List.{map-append, append-nil}
 use Rattle.std.proofs.lemmas.List.Elements.{filter-append}

@@ -1,4 +1,5 @@
--- How the view of lane 0 follows its memory, a call on a volatile word at a time: `m` is the memory before, `n` the memory after.
+-- How the view of lane 0 follows its memory, a call on a volatile word at a time: `m` is the
+-- memory before, `n` the memory after.
 use Rattle.std.proofs.Common.{IsTrue, ◌≡◌, ◌≢◌, ⊎_elim, ℕ, ◌<◌, Bool, true, false, not, ◌&&◌, ◌||◌, cond, eqb, List, [], ◌∷◌, length, slice_index, get_or, set, Option, Some, refl, sym, ap, ◌∙◌, subst, arith, eq-eqb, ne_eqb, length-set, get_or-set_same, get_or-set_other, rules}
 use Rattle.std.specs.List.{filter, list_any, Contains}
 use Rattle.std.proofs.lemmas.Bool.{cases_eq}

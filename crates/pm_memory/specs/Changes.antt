@@ -1,4 +1,5 @@
--- A lane's undrained changes as a memory keeps them, the oldest first, and as the lane's view has them, the latest first.
+-- A lane's undrained changes as a memory keeps them, the oldest first, and as the lane's view has
+-- them, the latest first.
 use Rattle.std.specs.Prelude.{◌≡◌, ℕ, ◌/◌, ◌<◌, ◌==◌, ◌&&◌, Bool, true, false, not, if◌then◌else◌, IsTrue, Any, List, [], ◌∷◌, ◌++◌, length, map, Option, Some, None}
 use Rattle.std.specs.List.{filter, list_any}
 use Rattle.pm_view.specs.declared.change.Change.{Change}
@@ -28,7 +29,8 @@ changes_of w changes = filter (λ (c : Change). c.word == w) changes
 abbrev pub CanAdd : List Change → Type 0
 CanAdd changes = length changes < max_changes
 
--- a flush of the line is not idle: it has an unflushed change; a drain is not idle: there is a change
+-- a flush of the line is not idle: it has an unflushed change; a drain is not idle: there is a
+-- change
 abbrev pub CanFlush : ℕ → List Change → Type 0
 CanFlush line changes = Any (λ (c : Change). IsTrue (lies_in line c) × (c.flushed ≡ false)) changes
 

@@ -18,11 +18,13 @@ nth_number seed (suc n) = next_number (nth_number seed n)
 abbrev pub touched_below : ℕ → List Change → ℕ
 touched_below w changes = count_by (λ u. list_any (λ (c : Change). c.word == u) changes) (range_with_len 0 w)
 
--- how many pairs of a lane and a word that it changed come before this one: lanes rising, then words
+-- how many pairs of a lane and a word that it changed come before this one: lanes rising, then
+-- words
 abbrev pub pairs_before : ℕ → List (List Change) → ℕ → ℕ → ℕ
 pairs_before size lanes lane w = sum_by (touched_below size) (take lane lanes) + touched_below w (slice_index_or lanes lane [])
 
--- 0 keeps no change, 1 all; else each pair has a number of its own, of which the high bits say how many of its n changes are kept, 0 to n
+-- 0 keeps no change, 1 all; else each pair has a number of its own, of which the high bits say how
+-- many of its n changes are kept, 0 to n
 abbrev pub kept_of : ℕ → ℕ → ℕ → ℕ
 kept_of keep draws n = if keep == 0 then 0 else if keep == 1 then n else nth_number keep (draws + 1) / 2 ^ 33 % (n + 1)
 

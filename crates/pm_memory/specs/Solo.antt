@@ -24,8 +24,8 @@ pub record Solo : Type 0 where
   -- counted calls made, and after how many the lane stops
   pub calls : ℕ
   pub stop : Option ℕ
-  -- the volatile words: how many commit numbers were drawn, whether the lane has said that it stopped, a lock word a line, an occupancy word
-  -- a page and a zone, a lock a zone
+  -- the volatile words: how many commit numbers were drawn, whether the lane has said that it
+  -- stopped, a lock word a line, an occupancy word a page and a zone, a lock a zone
   pub number : ℕ
   pub stopped : Bool
   pub locks : List ℕ
@@ -68,7 +68,8 @@ unfoldable pub AreNumbered : List Numbered → Type 0
 AreNumbered [] = Unit {0}
 AreNumbered (e ∷ entries) = (e.number ≡ length entries + 1) × AreNumbered entries
 
--- all numbers drawn are the lane's own, and what its call saw of the counter, before it took a number, is the counter still
+-- all numbers drawn are the lane's own, and what its call saw of the counter, before it took a
+-- number, is the counter still
 pub record IsCounter (counter : ℕ) (entries : List Numbered) (number : Option ℕ) (seen : List Step) : Type 0 where
   pub numbers : AreNumbered entries
   pub count : counter ≡ length entries
@@ -142,7 +143,8 @@ after_drain m = record (counted m) { changes = changes_drained m.changes }
 abbrev pub says_stopped : Solo → Solo
 says_stopped m = record m { stopped = true }
 
--- what the memory asks of a step: places in range, room for a change, no idle flush or drain, no lock that is held already
+-- what the memory asks of a step: places in range, room for a change, no idle flush or drain, no
+-- lock that is held already
 abbrev pub CanStep : Solo → Step → Type 0
 CanStep m (Load w found) = w < length m.words
 CanStep m (Store w x) = (w < length m.words) × CanAdd m.changes

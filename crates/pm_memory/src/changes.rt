@@ -7,7 +7,8 @@ use pm_view::{Change, MAX_CHANGES};
 use std::alloc::{AllocError, Global};
 use std::marker::Model;
 
-/// A lane's undrained changes, the oldest first, with room for all that there may be. Contracts see the list.
+/// A lane's undrained changes, the oldest first, with room for all that there may be. Contracts
+/// see the list.
 #[derive(Drop)]
 pub struct Changes {
     items: Vec<Change>,

@@ -10,9 +10,10 @@ ghost use Rattle.pm_memory.specs.Runs.{Made, MadeOrStopped};
 #[derive(Clone, Copy, Debug, PartialEq, Eq)]
 pub struct Stopped;
 
-/// A lane's memory. Each call is one step of the lane: whatever view the memory may be seen as that allows the step, it is then seen as that
-/// view after the step. A counted call, any but a load, answers `Stopped` exactly at the lane's stop number; the stop word is then set in its place.
-/// Words and lines are given by their numbers.
+/// A lane's memory. Each call is one step of the lane: whatever view the memory may be seen as
+/// that allows the step, it is then seen as that view after the step. A counted call, any but a
+/// load, answers `Stopped` exactly at the lane's stop number; the stop word is then set in its
+/// place. Words and lines are given by their numbers.
 pub trait LaneMem {
     /// The memory may be seen so.
     ghost at: { Self → View → Type 0 };
@@ -31,7 +32,8 @@ pub trait LaneMem {
     fn words(&self) -> u64
         ensures { (v : View) → at self.now v → result ≡ words_of v.fixed.shape };
 
-    /// How many counted calls the lane made, modulo 2^64; exactly so many where it has a stop number.
+    /// How many counted calls the lane made, modulo 2^64; exactly so many where it has a stop
+    /// number.
     fn calls(&self) -> u64
         ensures { (v : View) → at self.now v → result ≡ v.calls % 2 ^ 64 };
 

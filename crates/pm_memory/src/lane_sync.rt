@@ -5,8 +5,8 @@ ghost use Rattle.pm_memory.specs.Runs.{Made};
 use crate::LaneMem;
 use pm_view::Occ;
 
-/// A lane's locks, occupancy words, commit counter and stop word: each call is one step of the lane, and none waits. These words are
-/// volatile, and no call is counted.
+/// A lane's locks, occupancy words, commit counter and stop word: each call is one step of the
+/// lane, and none waits. These words are volatile, and no call is counted.
 pub trait LaneSync: LaneMem {
     /// Tries once to take a line's lock for writing.
     fn take_write(&mut self, line: u64) -> bool
@@ -53,7 +53,8 @@ pub trait LaneSync: LaneMem {
         requires { Self.can self.old (Vacate at bits) }
         ensures { Made Self.may (Self.at self.old) (Self.at self.new) (Vacate at bits) };
 
-    /// Draws the next commit number, and tells how many were drawn before it: the number is one more.
+    /// Draws the next commit number, and tells how many were drawn before it: the number is one
+    /// more.
     fn draw(&mut self) -> u64
         requires { (number : ℕ) → Self.can self.old (Draw number) }
         ensures { Made Self.may (Self.at self.old) (Self.at self.new) (Draw result) };

@@ -14,8 +14,9 @@ ghost use Rattle.pm_memory.specs.Changes.{changes_of, CanAdd, CanFlush, CanDrain
 ghost use Rattle.pm_memory.specs.Solo.{Solo, Sees, HasWord, opened, opened_with};
 ghost use Rattle.pm_memory.specs.Survivors.{Survives, FoundBit, IsTakenFrom};
 
-/// A law: the memory of a pool's words, before its first call, may be seen as the view of lane 0 of which nothing was asked, where one lane runs. So what
-/// `LaneMem` promises of each view is said of some. No code runs.
+/// A law: the memory of a pool's words, before its first call, may be seen as the view of lane 0
+/// of which nothing was asked, where one lane runs. So what `LaneMem` promises of each view is
+/// said of some. No code runs.
 pub fn opened_memory_is_seen()
     ensures given { (words runs zones : List ℕ) (fixed : Constants) (generation : ℕ)
         → fixed.lane ≡ 0 → fixed.lanes ≡ 1 → length words ≡ words_of fixed.shape
@@ -26,8 +27,9 @@ pub fn opened_memory_is_seen()
         → Sees (opened words fixed.stop) (idle fixed generation) }
 {}
 
-/// A law of images, whatever the choice and however many lanes: each bit of a word is as it is, or as one of the undrained changes of the word
-/// that are of the bit found it; a word that no lane has an undrained change of is as it is. No code runs.
+/// A law of images, whatever the choice and however many lanes: each bit of a word is as it is, or
+/// as one of the undrained changes of the word that are of the bit found it; a word that no lane
+/// has an undrained change of is as it is. No code runs.
 pub fn images_are_found()
     ensures bit { (words image : List ℕ) (lanes : List (List Change)) (w i : ℕ)
         → Survives words lanes image → All (All IsFormed) lanes → w < length words → i < 64
@@ -39,16 +41,18 @@ pub fn images_are_found()
         → slice_index image w ≡ slice_index words w }
 {}
 
-/// A law of images: each word is the present one with some of the lanes' undrained changes of it taken back. No code runs.
+/// A law of images: each word is the present one with some of the lanes' undrained changes of it
+/// taken back. No code runs.
 pub fn survivors_lose_changes()
     ensures { (words image : List ℕ) (lanes : List (List Change)) (w : ℕ)
         → Survives words lanes image → w < length words
         → IsTakenFrom lanes w (slice_index words w) (slice_index image w) }
 {}
 
-/// A law: what a view allows of its own, the memory that is seen as it can do: words, lines, zones and pages of the pool are there; room
-/// for a change, a flush and a drain that are not idle, and locks that are free or read, are as the view says; and so is the counter that an open
-/// call saw below the limit. No code runs.
+/// A law: what a view allows of its own, the memory that is seen as it can do: words, lines, zones
+/// and pages of the pool are there; room for a change, a flush and a drain that are not idle, and
+/// locks that are free or read, are as the view says; and so is the counter that an open call saw
+/// below the limit. No code runs.
 pub fn seen_memory_can()
     ensures word { (m : Solo) (v : View) (w : ℕ)
         → Sees m v → w < words_of v.fixed.shape → w < length m.words }

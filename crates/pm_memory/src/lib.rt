@@ -1,9 +1,11 @@
-//! Memory in single calls: loads, stores, flushes and drains, and what of them a power failure may leave.
+//! Memory in single calls: loads, stores, flushes and drains, and what of them a power failure may
+//! leave.
 //!
-//! Promises whoever runs a lane that each call of `LaneMem` and `LaneSync` is exactly one step of the lane's view, or `Stopped`
-//! exactly at its stop number; of `Memory`, all lanes over one list of words, and of `SoloMem`, one lane where no other runs, that each
-//! call is exactly its change of the words and that `survive` gives the image of the choice that a number stands for. It stands on
-//! `pm_view` for views, steps and changes; docs/MODEL.md, "Memory".
+//! Promises whoever runs a lane that each call of `LaneMem` and `LaneSync` is exactly one step of
+//! the lane's view, or `Stopped` exactly at its stop number; of `Memory`, all lanes over one list
+//! of words, and of `SoloMem`, one lane where no other runs, that each call is exactly its change
+//! of the words and that `survive` gives the image of the choice that a number stands for. It
+//! stands on `pm_view` for views, steps and changes; docs/MODEL.md, "Memory".
 #![tactic(auto)]
 
 mod changes;

@@ -8,7 +8,8 @@ use pm_view::Change;
 use std::alloc::{AllocError, Global};
 use std::marker::Model;
 
-/// A memory that loses what is not drained: words, and for each lane the changes that it has not drained. Contracts see both.
+/// A memory that loses what is not drained: words, and for each lane the changes that it has not
+/// drained. Contracts see both.
 #[derive(Drop)]
 pub struct Memory {
     words: Vec<u64>,
@@ -28,7 +29,8 @@ impl Memory {
     ghost use Rattle.pm_memory.specs.Keep.{IsKeptImage};
     ghost use Rattle.pm_memory.specs.Survivors.{Survives};
 
-    /// A memory of these words and so many lanes, 1 to 32, with nothing undrained. It takes the room of every change.
+    /// A memory of these words and so many lanes, 1 to 32, with nothing undrained. It takes the
+    /// room of every change.
     pub fn new(alloc: Global, words: Vec<u64>, lanes: u64) -> Result<Memory, AllocError>
         requires some { 1 ≤ lanes }
         requires most { lanes ≤ 32 }
@@ -109,8 +111,8 @@ impl Memory {
         self.lanes[lane as usize].drain();
     }
 
-    /// The words that a power failure leaves, where of each lane's changes of a word as many are kept as `keep` says: 0 none, 1 all, else by
-    /// numbers that follow it.
+    /// The words that a power failure leaves, where of each lane's changes of a word as many are
+    /// kept as `keep` says: 0 none, 1 all, else by numbers that follow it.
     pub fn survive(&self, alloc: Global, keep: u64) -> Result<Vec<u64>, AllocError>
         ensures kept { IfOk result (λ image. IsKeptImage keep self.now.words self.now.changes image.items) }
         ensures survives { IfOk result (λ image. Survives self.now.words self.now.changes image.items) }

@@ -9,8 +9,9 @@ use std::marker::Model;
 /// Zones of a pool at most.
 const ZONES: usize = MAX_ZONES as usize;
 
-/// The memory of lane 0, alone, over the words themselves. The volatile words begin as 0, unless whoever opens the pool gives its occupancy words.
-/// Contracts see all of it as `Solo`.
+/// The memory of lane 0 where no other lane runs, over the words themselves. The volatile words
+/// begin as 0, unless whoever opens the pool gives its occupancy words. Contracts see all of it as
+/// `Solo`.
 #[derive(Drop)]
 pub struct SoloMem {
     pub(crate) words: Vec<u64>,
@@ -49,8 +50,8 @@ impl SoloMem {
     ghost use Rattle.pm_memory.specs.Keep.{IsKeptImage};
     ghost use Rattle.pm_memory.specs.Survivors.{Survives};
 
-    /// The memory of these words, before lane 0's first call, with its stop number if it has one. It takes the room of every change and
-    /// volatile word.
+    /// The memory of these words, before lane 0's first call, with its stop number if it has one.
+    /// It takes the room of every change and volatile word.
     pub fn new(alloc: Global, words: Vec<u64>, stop: Option<u64>) -> Result<SoloMem, AllocError>
         ensures { IfOk result (λ m. m ≡ opened words.items stop) }
     {
@@ -75,8 +76,8 @@ impl SoloMem {
         })
     }
 
-    /// The memory with these occupancy words: `runs` has one a page of 512 words, `zones` one a zone, 32 of them. They are volatile, and whoever opens
-    /// a pool knows them from its words.
+    /// The memory with these occupancy words: `runs` has one a page of 512 words, `zones` one a
+    /// zone, 32 of them. They are volatile, and whoever opens a pool knows them from its words.
     pub fn with_occupancy(self, runs: Vec<u64>, zones: Vec<u64>) -> SoloMem
         ensures { result ≡ record self { runs = runs.items; zones = zones.items } }
     {
@@ -95,8 +96,8 @@ impl SoloMem {
         self.words[index as usize]
     }
 
-    /// The words that a power failure leaves, where of the changes of a word as many are kept as `keep` says: 0 none, 1 all, else by
-    /// numbers that follow it.
+    /// The words that a power failure leaves, where of the changes of a word as many are kept as
+    /// `keep` says: 0 none, 1 all, else by numbers that follow it.
     pub fn survive(&self, alloc: Global, keep: u64) -> Result<Vec<u64>, AllocError>
         ensures kept { IfOk result
             (λ image. IsKeptImage keep self.now.words (self.now.changes ∷ []) image.items) }

@@ -7,7 +7,8 @@ ghost use Rattle.pm_memory.specs.Survivors.{survivor};
 
 use pm_view::Change;
 
-/// How many changes are kept of a pair of a lane and a word that it changed: docs/FORMAT.md, "Keep".
+/// How many changes are kept of a pair of a lane and a word that it changed: docs/FORMAT.md,
+/// "Keep".
 #[derive(Clone, Copy, Debug, PartialEq, Eq)]
 pub enum Kept {
     /// None.
@@ -111,7 +112,8 @@ fn left_of(changes: &[Change], word: u64, kept: u64, value: u64) -> u64
     left
 }
 
-/// Takes back in the words what is not kept of one lane's changes. Its time is that of the changes and not of the words.
+/// Takes back in the words what is not kept of one lane's changes. Its time is that of the changes
+/// and not of the words.
 pub fn take_back(words: &mut [u64], changes: &[Change], kept: &mut Kept)
     ensures left { (keep draws : ℕ) → kept.old ≡ kept_after keep draws
         → IsTakenBack keep draws changes.now words.old words.new }

@@ -3,8 +3,8 @@ use crate::lock_word::{given, raised, read_taken, write_taken};
 use std::alloc::Global;
 use std::test::Fail;
 
-/// A memory of sixteen words and two lanes. Lane 0 stores 1, 2 and 3 in word 9 and two bits of word 2; lane 1 clears a bit of word 2 and
-/// stores in word 5. Word 2 was 0b1100, the others 0.
+/// A memory of sixteen words and two lanes. Lane 0 stores 1, 2 and 3 in word 9 and two bits of
+/// word 2; lane 1 clears a bit of word 2 and stores in word 5. Word 2 was 0b1100, the others 0.
 fn two_lanes(alloc: Global) -> Result<Memory, Fail> {
     let mut words = vec![in alloc; 0; 16]?;
     words[2] = 0b1100;
@@ -36,8 +36,9 @@ fn drains(rt: HostRuntime) -> Result<(), Fail> {
     Ok(())
 }
 
-/// By hand: the pairs in order are (lane 0, word 2), (0, 9), (1, 2), (1, 5), of 2, 3, 1 and 1 changes. Of these 4 keeps 2, 0, 0 and 1,
-/// 5 keeps 1, 1, 0 and 1, 7 keeps all, and 11 keeps 1, 3, 1 and 0.
+/// By hand: the pairs in order are (lane 0, word 2), (0, 9), (1, 2), (1, 5), of 2, 3, 1 and 1
+/// changes. Of these 4 keeps 2, 0, 0 and 1, 5 keeps 1, 1, 0 and 1, 7 keeps all, and 11 keeps 1, 3,
+/// 1 and 0.
 #[test]
 fn survivors(rt: HostRuntime) -> Result<(), Fail> {
     let memory = two_lanes(rt.alloc())?;
@@ -156,7 +157,8 @@ fn run_words(rt: HostRuntime) -> Result<(), Fail> {
     Ok(())
 }
 
-/// A memory of two pages that is given its occupancy words: page 1 has blocks 0 and 2, zone 3 chunk 63.
+/// A memory of two pages that is given its occupancy words: page 1 has blocks 0 and 2, zone 3
+/// chunk 63.
 #[test]
 fn given_occupancy(rt: HostRuntime) -> Result<(), Fail> {
     let words = vec![in rt.alloc(); 0; 1024]?;
