@@ -1,0 +1,15 @@
+pub mod Choosing
+pub mod Growing
+pub mod Images
+pub mod Imaging
+pub mod Leasts
+pub mod Meeting
+pub mod Occupying
+pub mod Opening
+pub mod Passing
+pub mod Runs
+pub mod Seeing
+pub mod TakingBack
+pub mod Touching
+pub mod Undrained
+pub mod Volatile

@@ -1,0 +1,9 @@
+use Rattle.pm_view.specs.Steps.Step.{And}
+use Rattle.pm_memory.proofs.Seeing.{stopped_instead, and_made}
+use Rattle.pm_memory.proofs.solo_lane.SoloMemLaneMem.and.Goals as goal
+
+pub returns-in_err-count-clause-made : goal.returns-in_err-count-clause-made
+returns-in_err-count-clause-made c = stopped_instead c.args.self.now c.count.new.self (And c.args.word c.args.bits) c.from_residual.result c.from_residual.ensures.0 c.in_err-count.ensures.err c.in_err-count.ensures.stop
+
+pub returns-clause-made : goal.returns-clause-made
+returns-clause-made c v sees any = and_made c.args.self.now c.count.new.self c.make.new.self c.in_ok-count.ensures.more c.in_ok-count.ensures.fits c.in_ok-count.ensures.ok c.args.word c.args.bits c.found-found.result c.and_made.result c.requires.word c.found-found.ensures c.and_made.ensures c.make.ensures v sees

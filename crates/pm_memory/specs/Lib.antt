@@ -1,0 +1,7 @@
+pub mod Calls
+pub mod Changes
+pub mod Keep
+pub mod Keeping
+pub mod Runs
+pub mod Solo
+pub mod Survivors
