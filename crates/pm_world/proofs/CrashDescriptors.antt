@@ -125,7 +125,7 @@ module _ (o : Opening) (mem : Memory) (views : Views) (g : Past) (x : World o me
   pub header : (w : ℕ) → is_header o.shape w ≡ true → recovered image o.shape.lanes w ≡ slice_index o.words w
   header w e = let h = header_parts w e in let low = h.0 in let none_ : (q : Place) → is_place o.shape q ≡ true → word_of o.shape q ≡ w → ⊥ = λ q i s. no_header o.shape q w i h.0 h.1 s in
       let same : slice_index image w ≡ mem (PoolWord w) = ⊎_elim (λ z. z) (λ (t : Taken o mem views g x image sv w). absurd (let l = t.of_lane in let m = x.most_lanes in no_other (views t.lane).log.phase (length (views t.lane).log.entries) (views t.lane).log.generation t.seen
-          (subst (λ p. AreaChange (views t.lane).log.phase (length (views t.lane).log.entries) (views t.lane).log.generation p t.seen) (header_part o.shape t.lane w (omega arith) h.0 h.1) t.is))) (whole_left o mem views g x image sv w (omega arith)) in
+      (subst (λ p. AreaChange (views t.lane).log.phase (length (views t.lane).log.entries) (views t.lane).log.generation p t.seen) (header_part o.shape t.lane w (omega arith) h.0 h.1) t.is))) (whole_left o mem views g x image sv w (omega arith)) in
       recovered_plain image o.shape.lanes w (no_part w (entries image) 0 o.shape.lanes (λ j l. no_entry w none_ h.0 j (omega arith))) (λ j l. no_cover w j (no_record w none_ j l)) ∙ (same ∙ x.header w e)
     where
       no_entry : (w : ℕ) → ((q : Place) → is_place o.shape q ≡ true → word_of o.shape q ≡ w → ⊥) → w < 512 → (j : ℕ) → j < o.shape.lanes → of_word w (entries image j) ≡ []
