@@ -116,16 +116,20 @@ module _ (o : Opening) (mem : Memory) (views : Views) (g : Past) (x : World o me
   pub record Silent : Type 0 where
     pub bare : IsBare
     pub none_sealed : entries image k ≡ []
+    pub unsealed : seal_word image k ≡ 0
 
   pub record Sealed : Type 0 where
     pub bare : IsBare
     pub all_sealed : entries image k ≡ map redo_at (views k).log.entries
     pub whole : AreWhole o.shape k (views k).log
+    pub full : seal_word image k ≡ length (views k).log.entries
+    pub read : (i : ℕ) (e : Entry) → IsEntryAt (views k).log i e → entry_pair image k i ≡ entry_head e ∷ e.value ∷ []
 
   -- the records of the log's generation are valid
   pub record Current : Type 0 where
     pub runs : k < o.lanes
     pub none_sealed : entries image k ≡ []
+    pub unsealed : seal_word image k ≡ 0
     pub present : generation image k ≡ (views k).log.generation
 
   -- ---- ENTRIES
@@ -261,20 +265,20 @@ module _ (o : Opening) (mem : Memory) (views : Views) (g : Past) (x : World o me
   not_idle ph = true
 
   sealed_now : HasSealed (views k).log.phase → HasSettled (views k).log.phase → seal_word image k ≡ length (views k).log.entries → Sealed
-  sealed_now s d full = record { bare = bare_next d (generation_read s full); all_sealed = entries_read s full; whole = whole s full }
+  sealed_now s d full = record { bare = bare_next d (generation_read s full); all_sealed = entries_read s full; whole = whole s full; full = full; read = pair_read s full }
 
   some_sealed : HasSealed (views k).log.phase → seal_word image k ≡ length (views k).log.entries → seal_word image k ≢ 0
   some_sealed s full z = let n = long s full in omega arith
 
   current_now : k < o.lanes → seal_word image k ≡ 0 → generation_word image k ≡ (views k).log.generation → Current
-  current_now r z e = record { runs = r; none_sealed = unsealed_entries z; present = unsealed_generation z ∙ e }
+  current_now r z e = record { runs = r; none_sealed = unsealed_entries z; unsealed = z; present = unsealed_generation z ∙ e }
 
   silent_now : HasSettled (views k).log.phase → seal_word image k ≡ 0 → generation_word image k ≡ suc (views k).log.generation → Silent
-  silent_now d z e = record { bare = bare_next d (unsealed_generation z ∙ e); none_sealed = unsealed_entries z }
+  silent_now d z e = record { bare = bare_next d (unsealed_generation z ∙ e); none_sealed = unsealed_entries z; unsealed = z }
 
   by_phase : (ph : Phase) → (views k).log.phase ≡ ph → SealIs (length (views k).log.entries) (seal_word image k) ph → GenerationIs (views k).log.generation (generation_word image k) ph → LaneCase ph
   by_phase Idle e s n = let d : HasSettled (views k).log.phase = subst HasSettled (sym e) tt in let f = subst (PhaseFits o.shape k (Rattle.pm_world.specs.Sights.sight_of (views k)).picture (views k).log (views k).changes) e fits.phase in
-      record { bare = bare_idle d f.0 (unsealed_generation s ∙ n); none_sealed = unsealed_entries s }
+      record { bare = bare_idle d f.0 (unsealed_generation s ∙ n); none_sealed = unsealed_entries s; unsealed = s }
   by_phase Open e s n = current_now (at_work Open e (λ q. absurd cc)) s n
   by_phase (Drawn m) e s n = current_now (at_work (Drawn m) e (λ q. absurd cc)) s n
   by_phase (Sealing m) e s n = let h : HasSealed (views k).log.phase = subst HasSealed (sym e) tt in let d : HasSettled (views k).log.phase = subst HasSettled (sym e) tt in

@@ -22,3 +22,4 @@ pub mod RecordsAtPlaces
 pub mod ImageSays
 pub mod CrashLaw
 pub mod CrashDescriptors
+pub mod CrashFaults
