@@ -1,5 +1,5 @@
 -- Of the logs of a surviving image: each lane's generation and seal are in range, each sealed entry is one that a log has, and so is each valid record.
-use Rattle.std.proofs.Common.{◌≡◌, ◌≢◌, ℕ, zero, suc, ◌+◌, ◌-◌, ◌*◌, ◌/◌, ◌%◌, ◌^◌, ◌<◌, ◌≤◌, ◌⊎◌, inl, inr, ⊎_elim, nat_le, nat_lt, Bool, true, false, cond, not, ◌&&◌, ◌||◌, eqb, leb, ltb, ◌==◌, List, [], ◌∷◌, ◌++◌, length, length-append, slice_get, slice_index, refl, sym, ap, ◌∙◌, subst, arith, eq-eqb, ne_eqb, Option, None, Some}
+use Rattle.std.proofs.Common.{◌≡◌, ◌≢◌, ℕ, zero, suc, ◌+◌, ◌-◌, ◌*◌, ◌/◌, ◌%◌, ◌^◌, ◌<◌, ◌≤◌, ◌⊎◌, inl, inr, ⊎_elim, nat_le, nat_lt, IfSome, Bool, true, false, cond, not, ◌&&◌, ◌||◌, eqb, leb, ltb, ◌==◌, List, [], ◌∷◌, ◌++◌, length, length-append, slice_get, slice_index, refl, sym, ap, ◌∙◌, subst, arith, eq-eqb, ne_eqb, Option, None, Some}
 use Rattle.std.specs.List.{find, list_all, range_with_len}
 use Rattle.std.specs.Option.{option_map_or}
 use Rattle.std.proofs.lemmas.Bool.{cases_eq, cases_lt, cases_Bool, both_ways, and_from, and_parts, or_left, or_right, cond-true, cond-false, false_from_ne_true, le-leb, lt-ltb, ltb-true, leb-true}
@@ -22,7 +22,7 @@ use Rattle.pm_view.specs.Places.{Place, InRun, InHuge, Descr, RootWord, word_of,
 use Rattle.pm_view.specs.Entries.{Entry}
 use Rattle.pm_view.specs.Log.{Phase, Idle, Open, Drawn, Sealing, Applying, Clearing, Retiring, Voiding, Recorded, Log}
 use Rattle.pm_world.specs.Lanes.{is_decided}
-use Rattle.pm_world.specs.Logs.{IsEntryAt, IsRecordAt, AreWhole, BumpFits, PhaseFits, ends_with, used_slots}
+use Rattle.pm_world.specs.Logs.{IsEntryAt, IsRecordAt, EntryOf, AreWhole, BumpFits, PhaseFits, ends_with, used_slots}
 use Rattle.pm_world.specs.Lawful.{CanRecord}
 use Rattle.pm_world.specs.Memory.{Memory}
 use Rattle.pm_world.specs.Sights.{sight_of}
@@ -32,7 +32,7 @@ use Rattle.pm_world.proofs.Frame.{is_single}
 use Rattle.pm_world.proofs.SurvivingWords.{log_fits, SealIs, GenerationIs, seal_is, generation_is}
 use Rattle.pm_world.proofs.ImageLogs.{redo_at, redo_again, undo_from}
 use Rattle.pm_world.proofs.LanesInImages.{Silent, Sealed, Current, Held, held_now, get_within, get_some}
-use Rattle.pm_world.proofs.EntriesAtPlaces.{Stands, log_stands, AllStand}
+use Rattle.pm_world.proofs.EntriesAtPlaces.{all_get, last_or}
 use Rattle.pm_world.proofs.ImageSays.{three_cases, sealed_stand}
 
 -- ---- places are targets
@@ -161,3 +161,77 @@ module _ (o : Opening) (mem : Memory) (views : Views) (g : Past) (x : World o me
         go : (d : Option Undo) → valid_record image k j ≡ d → option_map_or (λ u. not (good_record o.shape.lanes o.shape.zones u)) d false ≡ false
         go None e = refl
         go (Some u) e = ap not (valid_good j u a e)
+
+    -- ---- ITS SEALED ENTRIES
+
+    either : (ph : Phase) (before found : ℕ) → GenerationIs before found ph → (found ≡ before) ⊎ (found ≡ suc before)
+    either Idle before found e = inl e
+    either Open before found e = inl e
+    either (Drawn m) before found e = inl e
+    either (Sealing m) before found e = inl e
+    either (Applying t) before found e = e
+    either Clearing before found e = inr e
+    either (Retiring m) before found e = ⊎_elim (λ q. inr q) (λ q. inl q) e
+    either Voiding before found e = ⊎_elim (λ q. inr q) (λ q. inl q) e
+
+    -- the last ends the log
+    ends_good : 1 ≤ length (views k).log.entries → ends_log image k (redo_at (ends_with o.shape k (views k).log.generation)) ≡ true
+    ends_good some = let v : ℕ = (views k).log.generation + 1 in let gw = generation_word image k in let place : ℕ = 8 * word_of_generation o.shape k in let l = log_fits o mem views g x k ink in let one = l.first in let below = l.below (inr (inr some)) in
+        let one_of : (gw == v || gw + 1 == v) ≡ true = ⊎_elim (λ (q : gw ≡ (views k).log.generation). or_right (gw == v) (gw + 1 == v) (eq-eqb (gw + 1) v (omega arith))) (λ (q : gw ≡ suc (views k).log.generation). or_left (gw == v) (gw + 1 == v) (eq-eqb gw v (omega arith)))
+        (either (views k).log.phase (views k).log.generation (generation_word image k) (generation_is o mem views g x image sv k ink)) in
+        and_from (is_set Set && place == 8 * area_word k && nat_le 2 v && nat_le v (2 ^ 62)) (gw == v || gw + 1 == v)
+        (and_from (is_set Set && place == 8 * area_word k && nat_le 2 v) (nat_le v (2 ^ 62)) (and_from (is_set Set && place == 8 * area_word k) (nat_le 2 v) (and_from (is_set Set) (place == 8 * area_word k) refl (eq-eqb place (8 * area_word k) (omega arith))) (le-leb 2 v (omega arith))) (le-leb v (2 ^ 62) (omega arith))) one_of
+
+    -- the others are of places
+    other_good : (e : Entry) (d : Option Place) → e.place ≡ d → e.place ≢ None → IfSome d (λ q. (is_place o.shape q ≡ true) × (word_of o.shape q ≡ e.word) × EntryOf q e.op e.value) → is_target o.shape.lanes o.shape.zones (8 * e.word / 8) ≡ true
+    other_good e None is ne t = absurd (ne is)
+    other_good e (Some q) is ne t = let w : 8 * e.word / 8 ≡ e.word = omega arith in ap (is_target o.shape.lanes o.shape.zones) (w ∙ sym t.1) ∙ target o.shape q t.0
+
+    sealed_good : (z : Sealed o mem views g x image sv torn k ink) (i : ℕ) → i < seal_word image k → good_entry image o.shape.lanes o.shape.zones k i (redo_of (entry_pair image k i)) ≡ true
+    sealed_good z i inside = let l = log_fits o mem views g x k ink in let full = z.full in let got = get_some (views k).log.entries i (omega arith) in let e = got.0 in
+        let long : length (views k).log.entries ≡ length z.whole.front + 1 = ap length z.whole.are ∙ length-append z.whole.front (ends_with o.shape k (views k).log.generation ∷ []) in
+        let at : slice_get (z.whole.front ++ ends_with o.shape k (views k).log.generation ∷ []) i ≡ Some e = sym (ap (λ es. slice_get es i) z.whole.are) ∙ got.1 in
+        ap (good_entry image o.shape.lanes o.shape.zones k i) (ap redo_of (z.read i e got.1) ∙ redo_again e) ∙ ⊎_elim
+        (λ (q : i + 1 ≡ seal_word image k). cond-true (i + 1 == seal_word image k) _ _ (eq-eqb (i + 1) (seal_word image k) q) ∙ ⊎_elim (λ (y : slice_get z.whole.front i ≡ Some e). absurd (let m = get_within z.whole.front i e y in omega arith))
+        (λ (y : e ≡ ends_with o.shape k (views k).log.generation). ap (λ d. ends_log image k (redo_at d)) y ∙ ends_good (omega arith)) (last_or z.whole.front (ends_with o.shape k (views k).log.generation) e i at))
+        (λ (ne : i + 1 ≢ seal_word image k). cond-false (i + 1 == seal_word image k) _ _ (ne_eqb (i + 1) (seal_word image k) ne) ∙ ⊎_elim (λ (y : slice_get z.whole.front i ≡ Some e). other_good e e.place refl (all_get (λ (d : Entry). d.place ≢ None) z.whole.front i e z.whole.placed y) ((l.pairs i e got.1).3))
+        (λ (y : e ≡ ends_with o.shape k (views k).log.generation). absurd (ne (last_place z i e at y inside))) (last_or z.whole.front (ends_with o.shape k (views k).log.generation) e i at)) (cases_eq (i + 1) (seal_word image k))
+      where
+        last_place : (z : Sealed o mem views g x image sv torn k ink) (i : ℕ) (e : Entry) → slice_get (z.whole.front ++ ends_with o.shape k (views k).log.generation ∷ []) i ≡ Some e → e ≡ ends_with o.shape k (views k).log.generation → i < seal_word image k → i + 1 ≡ seal_word image k
+        last_place z i e at y inside = let full = z.full in let long : length (views k).log.entries ≡ length z.whole.front + 1 = ap length z.whole.are ∙ length-append z.whole.front (ends_with o.shape k (views k).log.generation ∷ []) in
+            ⊎_elim (λ (l : i < length z.whole.front). let r = get_some z.whole.front i l in absurd (all_get (λ (d : Entry). d.place ≢ None) z.whole.front i r.0 z.whole.placed r.1
+            (ap (λ (d : Entry). d.place) (same_Some r.0 e (sym (front_get z.whole.front (ends_with o.shape k (views k).log.generation) i r.0 r.1) ∙ at) ∙ y)))) (λ (l : length z.whole.front ≤ i). omega arith) (cases_lt i (length z.whole.front))
+          where
+            front_get : (xs : List Entry) (d : Entry) (i : ℕ) (y : Entry) → slice_get xs i ≡ Some y → slice_get (xs ++ d ∷ []) i ≡ Some y
+            front_get [] d i y q = absurd (none-some y q)
+            front_get (h ∷ xs) d zero y q = q
+            front_get (h ∷ xs) d (suc i) y q = front_get xs d i y q
+
+    no_and : (a b : Bool) → (a && b && false) ≡ false
+    no_and true true = refl
+    no_and true false = refl
+    no_and false b = refl
+
+    no_middle : (a c : Bool) → (a && false && c) ≡ false
+    no_middle true c = refl
+    no_middle false c = refl
+
+    unsealed_good : seal_word image k ≡ 0 → (i : ℕ) → bad_entry image o.shape.lanes o.shape.zones k i ≡ false
+    unsealed_good z i = ap (λ t. t && nat_lt i (seal_word image k) && not (good_entry image o.shape.lanes o.shape.zones k i (redo_of (entry_pair image k i)))) (not_sealed image k z)
+
+    pub entry_good : (i : ℕ) → bad_entry image o.shape.lanes o.shape.zones k i ≡ false
+    entry_good i = ⊎_elim (λ (z : Silent o mem views g x image sv torn k ink). unsealed_good z.unsealed i) (λ z. ⊎_elim (λ (z : Sealed o mem views g x image sv torn k ink). ⊎_elim
+        (λ (l : i < seal_word image k). ap (λ t. is_sealed image k && nat_lt i (seal_word image k) && not t) (sealed_good z i l) ∙ no_and (is_sealed image k) (nat_lt i (seal_word image k)))
+        (λ (l : seal_word image k ≤ i). ap (λ t. is_sealed image k && t && not (good_entry image o.shape.lanes o.shape.zones k i (redo_of (entry_pair image k i)))) (Rattle.std.proofs.lemmas.Bool.le-ltb i (seal_word image k) l)
+        ∙ no_middle (is_sealed image k) (not (good_entry image o.shape.lanes o.shape.zones k i (redo_of (entry_pair image k i))))) (cases_lt i (seal_word image k)))
+        (λ z. unsealed_good z.0.unsealed i) z) (three_cases o mem views g x image sv torn k ink)
+
+  -- NO LANE, NO ENTRY AND NO RECORD HAS A FAULT
+  pub no_bad_lane : NoBadLane image o.shape.lanes
+  no_bad_lane = none_passes (λ k. not (good_lane image k)) o.shape.lanes (λ k l. ap not (lane_good k l))
+
+  pub no_bad_entry : first_entry image o.shape.lanes o.shape.zones ≡ None
+  no_bad_entry = none_passes (λ n. bad_entry image o.shape.lanes o.shape.zones (n / 64) (n % 64)) (64 * o.shape.lanes) (λ n l. entry_good (n / 64) (omega arith) (n % 64))
+
+  pub no_bad_slot : first_slot image o.shape.lanes o.shape.zones ≡ None
+  no_bad_slot = none_passes (λ n. bad_slot image o.shape.lanes o.shape.zones (n / 64) (n % 64)) (64 * o.shape.lanes) (λ n l. slot_good (n / 64) (omega arith) (n % 64) (omega arith))

@@ -78,7 +78,7 @@ all_get P [] i y a e = absurd (none-some y e)
 all_get P (z ∷ xs) zero y a e = subst P (same_Some z y e) (All-head P z xs a)
 all_get P (z ∷ xs) (suc i) y a e = all_get P xs i y (All-tail P z xs a) e
 
-last_or : {A : Type 0} → (front : List A) (f y : A) (i : ℕ) → slice_get (front ++ f ∷ []) i ≡ Some y → (slice_get front i ≡ Some y) ⊎ (y ≡ f)
+pub last_or : {A : Type 0} → (front : List A) (f y : A) (i : ℕ) → slice_get (front ++ f ∷ []) i ≡ Some y → (slice_get front i ≡ Some y) ⊎ (y ≡ f)
 last_or [] f y zero e = inr (sym (same_Some f y e))
 last_or [] f y (suc i) e = absurd (none-some y e)
 last_or (z ∷ front) f y zero e = inl e
