@@ -149,7 +149,7 @@ module _ (o : Opening) (mem : Memory) (views : Views) (g : Past) (x : World o me
     valid_good j u a valid = ⊎_elim (λ (z : Silent o mem views g x image sv torn k ink). absurd (z.bare.none_valid j u a valid)) (λ z. ⊎_elim (λ (z : Sealed o mem views g x image sv torn k ink). absurd (z.bare.none_valid j u a valid))
         (λ (z : Current o mem views g x image sv torn k ink × (is_decided (views k).log.phase ≡ false)). let h = held_now o mem views g x image sv torn k ink z.0 j u a valid in ap (good_record o.shape.lanes o.shape.zones) h.is ∙ by h.held h.most (x.each_lane k z.0.runs).shape h.lawful) z) (three_cases o mem views g x image sv torn k ink)
       where
-        by : (r : Recorded) → length r.old ≤ 4 → (views k).fixed.shape ≡ o.shape → IsRecordAt (views k).log j r ⊎ ((length (views k).log.records ≤ j) × CanRecord (views k) r) → good_record o.shape.lanes o.shape.zones (undo_from o.shape (views k).log.generation r) ≡ true
+        by : (r : Recorded) → length r.old ≤ 4 → (views k).fixed.shape ≡ o.shape → IsRecordAt (views k).log j r ⊎ ((length (views k).log.records ≡ j) × CanRecord (views k) r) → good_record o.shape.lanes o.shape.zones (undo_from o.shape (views k).log.generation r) ≡ true
         by r most same (inl at) = let l = log_fits o mem views g x k ink in let f = l.records j r at in let low = get_within (views k).log.records j r at in
             record_good r (data_kind r.place f.4) f.1 most f.5 (l.below (inr (inl (omega arith))))
         by r most same (inr z) = let can = z.1 in let one = can.some in record_good r (before_kind r.place 0 (can.each 0 (omega arith)).plain) can.some most (λ i l. sym (ap (λ s. is_place s (place_after r.place i)) same) ∙ (can.each i l).place) (let b = can.below in omega arith)

@@ -3,6 +3,7 @@ use Rattle.std.proofs.Common.{◌≡◌, ◌≢◌, ℕ, zero, suc, ◌+◌, ◌
 use Rattle.std.specs.List.{list_any, filter_map, range_with_len}
 use Rattle.std.proofs.lemmas.Bool.{cases_eq, cases_lt, cases_Bool, both_ways, eqb-true, eq-eqb, ne_eqb, and_from, cond-true, cond-false, le-leb}
 use Rattle.std.proofs.lemmas.Option.{none-some, same_Some}
+use Rattle.std.proofs.lemmas.List.Elements.{All-contains}
 use Rattle.std.proofs.lemmas.List.Folds.{list_any_at}
 use Rattle.pm_layout.specs.declared.shape.Shape.{Shape}
 use Rattle.pm_layout.specs.Areas.{word_of_generation, word_of_entry, line_of_slot, undo_slots, redo_entries}
@@ -101,6 +102,18 @@ used_by l s = length l.records + cond (length s == 0) 0 1
 
 used_whole : (l : Log) → l.slot ≡ [] → used_slots l ≡ length l.records
 used_whole l e = ap (used_by l) e ∙ (let z : length l.records + 0 ≡ length l.records = omega arith in z)
+
+used_most : (l : Log) → used_slots l ≤ length l.records + 1
+used_most l = go (length l.slot == 0)
+  where
+    go : (t : Bool) → length l.records + cond t 0 1 ≤ length l.records + 1
+    go true = omega arith
+    go false = omega arith
+
+-- some change passes
+any_at : (p : Undrained → Bool) (xs : List Undrained) → list_any p xs ≡ true → (y : Undrained) × Contains xs y × (p y ≡ true)
+any_at p [] e = absurd (both_ways false refl e)
+any_at p (c ∷ xs) e = ⊎_elim (λ (t : p c ≡ true). (c, (0, omega arith, refl), t)) (λ (t : list_any p xs ≡ true). let y = any_at p xs t in let l = y.1.1 in (y.0, (suc y.1.0, omega arith, y.1.2), y.2)) (Rattle.std.proofs.lemmas.Bool.or_cases (p c) (list_any p xs) e)
 
 module _ (o : Opening) (mem : Memory) (views : Views) (g : Past) (x : World o mem views g) (image : List ℕ) (sv : Survives o mem views image) (torn : NoneTorn o views image) (k : ℕ) (ink : k < o.shape.lanes) where
   abbrev log : Log
@@ -211,7 +224,7 @@ module _ (o : Opening) (mem : Memory) (views : Views) (g : Past) (x : World o me
   -- a valid record of the log's generation is the log's, or one that could be written there now
   pub record Held (j : ℕ) (u : Undo) : Type 0 where
     pub held : Recorded
-    pub lawful : IsRecordAt (views k).log j held ⊎ ((length (views k).log.records ≤ j) × CanRecord (views k) held)
+    pub lawful : IsRecordAt (views k).log j held ⊎ ((length (views k).log.records ≡ j) × CanRecord (views k) held)
     pub is : u ≡ undo_from o.shape (views k).log.generation held
     pub most : length held.old ≤ 4
 
@@ -227,6 +240,18 @@ module _ (o : Opening) (mem : Memory) (views : Views) (g : Past) (x : World o me
         both_ways (is_slot_drained (views k).fixed.shape (views k).fixed.lane (views k).changes j) (ap not (list_any_at (is_in_line (line_of_slot (views k).fixed.shape (views k).fixed.lane j)) (views k).changes there.0 t.seen there.1
         (ap (is_in_line (line_of_slot (views k).fixed.shape (views k).fixed.lane j)) there.2 ∙ eq-eqb (t.seen.word / 8) (line_of_slot (views k).fixed.shape (views k).fixed.lane j) (omega arith)))) e)
 
+    -- the slot that is being written, where the log has no record yet, is the next
+    next_slot : (j : ℕ) → j < 64 → (is_slot_drained (views k).fixed.shape (views k).fixed.lane (views k).changes j ≡ false) ⊎ ((length (views k).log.records ≤ j) × (j < used_slots (views k).log)) → length (views k).log.records ≤ j → length (views k).log.records ≡ j
+    next_slot j a b low = let most = used_most (views k).log in ⊎_elim (λ (d : is_slot_drained (views k).fixed.shape (views k).fixed.lane (views k).changes j ≡ false).
+        let y = any_at (is_in_line (line_of_slot (views k).fixed.shape (views k).fixed.lane j)) (views k).changes (not-false (list_any (is_in_line (line_of_slot (views k).fixed.shape (views k).fixed.lane j)) (views k).changes) d) in
+        let n = lane_is in let line = eqb-true (y.0.word / 8) (line_of_slot (views k).fixed.shape (views k).fixed.lane j) y.2 in
+        let z = All-contains (λ (c : Undrained). part_of o.shape k c.word ≡ SlotPart → c.word < 8 * line_of_slot o.shape k (used_slots (views k).log)) (views k).changes y.0 fits.slot_changes y.1 (slot_part o.shape k y.0.word (omega arith) (omega arith)) in omega arith)
+        (λ (z : (length (views k).log.records ≤ j) × (j < used_slots (views k).log)). let y = z.1 in omega arith) b
+      where
+        not-false : (t : Bool) → not t ≡ false → t ≡ true
+        not-false true e = refl
+        not-false false e = absurd (both_ways true e refl)
+
     pub held_now : (j : ℕ) (u : Undo) → j < 64 → valid_record image k j ≡ Some u → Held j u
     held_now j u a valid = let p = valid_parts image k j u valid in ⊎_elim
         (λ (d : is_slot_drained (views k).fixed.shape (views k).fixed.lane (views k).changes j ≡ true). let st : undo_of (slot_list ((cells_of o.shape mem).slot k j)) ≡ Some u = sym (ap undo_of (drained_slot j a d)) ∙ p.0 in
@@ -238,7 +263,7 @@ module _ (o : Opening) (mem : Memory) (views : Views) (g : Past) (x : World o me
         written : (is_slot_drained (views k).fixed.shape (views k).fixed.lane (views k).changes j ≡ false) ⊎ ((length (views k).log.records ≤ j) × (j < used_slots (views k).log)) → Held j u
         written b = let t = torn k j u c.runs a b valid in let sp : undo_slot image k j ≡ spelled o.shape (views k).log.generation t.held = ap (λ n. undo_slot image n j) (sym lane_is) ∙ (t.spells ∙ ap (λ s. spelled s (views k).log.generation t.held) shape_is) in
             let most : length t.held.old ≤ 4 = ⊎_elim (λ at. (fits.records j t.held at).2) (λ (z : (length (views k).log.records ≤ j) × CanRecord (views k) t.held). z.1.most) t.lawful in
-            record { held = t.held; lawful = t.lawful; most = most; is = same_Some u (undo_from o.shape (views k).log.generation t.held) (sym (valid_parts image k j u valid).0 ∙ (ap undo_of sp ∙ undo_spelled o.shape (views k).log.generation t.held most)) }
+            record { held = t.held; lawful = ⊎_elim (λ at. inl at) (λ (z : (length (views k).log.records ≤ j) × CanRecord (views k) t.held). inr (next_slot j a b z.0, z.1)) t.lawful; most = most; is = same_Some u (undo_from o.shape (views k).log.generation t.held) (sym (valid_parts image k j u valid).0 ∙ (ap undo_of sp ∙ undo_spelled o.shape (views k).log.generation t.held most)) }
 
     -- and a drained record of the log is valid
     pub valid_now : (j : ℕ) (r : Recorded) → IsRecordAt (views k).log j r → is_slot_drained (views k).fixed.shape (views k).fixed.lane (views k).changes j ≡ true → (j < 64) × (valid_record image k j ≡ Some (undo_from o.shape (views k).log.generation r))

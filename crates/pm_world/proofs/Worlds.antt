@@ -53,6 +53,7 @@ module _ (o : Opening) (mem : Memory) (views : Views) (g : Past) (x : World o me
       olds = λ u p y q b z. let t = l.olds u p y q b z in (owned p b t.0, m.set p b (away p b t.0) ∙ t.1);
       slot_part = λ i q. a.slot j (length (views j).log.records) i ne ∙ l.slot_part i q;
       stale = λ i u q z t. l.stale i u q z (sym (ap undo_of (slots i)) ∙ t);
+      slot_changes = l.slot_changes;
       area_changes = l.area_changes;
       phase = l.phase;
     }
