@@ -167,7 +167,7 @@ module _ (o : Opening) (mem : Memory) (views : Views) (g : Past) (x : World o me
           (λ (q : y.0 ≡ twin s.place). both_ways (owns g.geo (settled_words o g) (sight_of (views j)).hold (twin s.place) y.1) (away k j (λ r. ne (sym r)) s.place y.1 mine) (subst (λ p. owns g.geo (settled_words o g) (sight_of (views j)).hold p y.1 ≡ true) q own_))
           (of_place o.shape j inj s.place y.0 s.is_there y.2 y.3))) (empty_or image o.shape.lanes w (of_word w (map redo_at (views j).log.entries)))
 
-  alone : (k : ℕ) → k < o.shape.lanes → (w b : ℕ) → given (record_bit (records image k) w b) ≡ true → of_word w (all_entries image o.shape.lanes w) ≡ []
+  pub alone : (k : ℕ) → k < o.shape.lanes → (w b : ℕ) → given (record_bit (records image k) w b) ≡ true → of_word w (all_entries image o.shape.lanes w) ≡ []
   alone k ink w b e = ⊎_elim (λ (z : Silent o mem views g x image sv torn k ink). absurd (both_ways false refl (sym (ap given (bare_bit o mem views g x image sv torn k ink z.bare w b)) ∙ e)))
       (λ z. ⊎_elim (λ (z : Sealed o mem views g x image sv torn k ink). absurd (both_ways false refl (sym (ap given (bare_bit o mem views g x image sv torn k ink z.bare w b)) ∙ e)))
       (λ (z : Current o mem views g x image sv torn k ink × (is_decided (views k).log.phase ≡ false)). let s = speaks_of o mem views g x image sv torn k ink z.0 z.1 w b e in

@@ -23,3 +23,4 @@ pub mod ImageSays
 pub mod CrashLaw
 pub mod CrashDescriptors
 pub mod CrashFaults
+pub mod CrashClashes

@@ -33,7 +33,7 @@ of_word w es = filter (λ e. eqb e.place (8 * w)) es
 
 -- ---- one entry
 
-two_bits : (n : ℕ) → n < 2 → (n ≡ 0) ⊎ (n ≡ 1)
+pub two_bits : (n : ℕ) → n < 2 → (n ≡ 0) ⊎ (n ≡ 1)
 two_bits zero l = inl refl
 two_bits (suc zero) l = inr refl
 two_bits (suc (suc n)) l = absurd (omega arith)
