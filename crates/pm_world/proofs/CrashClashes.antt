@@ -39,6 +39,7 @@ use Rattle.pm_world.proofs.WordsApart.{no_area}
 use Rattle.pm_world.proofs.RecordsAtPlaces.{Speaks, Kind, speaks, speaks_of, old_given}
 use Rattle.pm_world.proofs.ImageSays.{three_cases, bare_bit, sealed_stand}
 use Rattle.pm_world.proofs.CrashLaw.{fit, apart, away, alone}
+use Rattle.pm_world.proofs.CrashDescriptors.{some_below}
 use Rattle.pm_world.proofs.CrashFaults.{no_bad_lane, no_bad_entry, no_bad_slot}
 
 -- ---- counts
@@ -215,3 +216,63 @@ module _ (o : Opening) (mem : Memory) (views : Views) (g : Past) (x : World o me
     records_few : length (records_for image o.shape.lanes (8 * w)) ≤ 1
     unfolding records_for
     records_few = parts_few (λ u. covers u (8 * w)) (records image) 0 o.shape.lanes (λ j l m. lane_few j (omega arith)) (λ i j l m n s t. one_lane i j m (omega arith) (found_given (records image i) w s) (found_given (records image j) w t))
+
+    -- where a record is of the word no entry is
+    no_mixed : (nat_lt 0 (length (records_for image o.shape.lanes (8 * w))) && nat_lt 0 (length (entries_for image o.shape.lanes (8 * w)))) ≡ false
+    unfolding records_for entries_for
+    no_mixed = ⊎_elim (λ (y : (k : ℕ) × (k < o.shape.lanes) × (given (record_bit (records image k) w 0) ≡ true)).
+        ap (λ (es : List Redo). nat_lt 0 (length (filter (λ u. covers u (8 * w)) (flat_map (records image) (range_with_len 0 o.shape.lanes)))) && nat_lt 0 (length es)) (alone o mem views g x image sv torn y.0 y.1 w 0 y.2)
+        ∙ no_second (nat_lt 0 (length (filter (λ u. covers u (8 * w)) (flat_map (records image) (range_with_len 0 o.shape.lanes))))))
+        (λ (h : (k : ℕ) → k < o.shape.lanes → given (record_bit (records image k) w 0) ≡ false). let z : length (filter (λ u. covers u (8 * w)) (flat_map (records image) (range_with_len 0 o.shape.lanes))) ≡ 0 =
+        parts_zero (λ u. covers u (8 * w)) (records image) 0 o.shape.lanes (λ j l m. ⊎_elim (λ (s : 0 < length (filter (λ u. covers u (8 * w)) (records image j))). absurd (both_ways (given (record_bit (records image j) w 0)) (h j (omega arith)) (found_given (records image j) w (omega (arith, s)))))
+        (λ (s : length (filter (λ u. covers u (8 * w)) (records image j)) ≤ 0). omega (arith, s)) (cases_lt 0 (length (filter (λ u. covers u (8 * w)) (records image j))))) in
+        ap (λ n. nat_lt 0 n && nat_lt 0 (length (of_word w (flat_map (entries image) (range_with_len 0 o.shape.lanes))))) z) (some_below (λ k. given (record_bit (records image k) w 0)) o.shape.lanes)
+      where
+        no_second : (t : Bool) → (t && false) ≡ false
+        no_second true = refl
+        no_second false = refl
+
+    -- which bits of the word a lane's entries change
+    lane_small : (k : ℕ) → k < o.shape.lanes → AllSmall (entries image k)
+    lane_small k ink = ⊎_elim (λ (z : Silent o mem views g x image sv torn k ink). subst AllSmall (sym z.none_sealed) tt) (λ z. ⊎_elim (λ (z : Sealed o mem views g x image sv torn k ink).
+        subst AllSmall (sym z.all_sealed) (all_small (views k).log.entries (λ i e at. ((log_fits o mem views g x k ink).pairs i e at).2))) (λ z. subst AllSmall (sym z.0.none_sealed) tt) z) (three_cases o mem views g x image sv torn k ink)
+
+    lane_bit : (k : ℕ) → k < o.shape.lanes → (i : ℕ) → bit_at (bits_of (of_word w (entries image k))) i ≡ 1 → ((q : Place) × (is_place o.shape q ≡ true) × (word_of o.shape q ≡ w) × (owned k q i ≡ true)) ⊎ (w ≡ word_of_generation o.shape k)
+    lane_bit k ink i e = ⊎_elim (λ (l : i < 64). let gv = masks_give (entries image k) w i l (lane_small k ink) e in ⊎_elim (λ (z : Silent o mem views g x image sv torn k ink). absurd (both_ways false refl (sym (ap (λ es. given (entry_bit es w i)) z.none_sealed) ∙ gv)))
+        (λ z. ⊎_elim (λ (z : Sealed o mem views g x image sv torn k ink). ⊎_elim (λ y. inl (y.0, y.1, y.2, (x.bits.each_lane k).reach y.0 i (some_first (latest (sight_of (views k)).call.entries y.0 i) ((sight_of (views k)).call.fresh y.0 i) y.3))) (λ y. inr y)
+        (entered_bit o.shape k ink w i (views k).log.entries (sealed_stand o mem views g x image sv torn k ink z) (sym (ap (λ es. given (entry_bit es w i)) z.all_sealed) ∙ gv)))
+        (λ z. absurd (both_ways false refl (sym (ap (λ es. given (entry_bit es w i)) z.0.none_sealed) ∙ gv))) z) (three_cases o mem views g x image sv torn k ink))
+        (λ (l : 64 ≤ i). absurd (let z = masks_high (entries image k) w i l (lane_small k ink) in omega (arith, z, e))) (cases_lt i 64)
+
+    apart_bit : (j k : ℕ) → j < k → k < o.shape.lanes → (i : ℕ) → bit_at (bits_of (of_word w (entries image j))) i ≡ 1 → bit_at (bits_of (of_word w (entries image k))) i ≡ 1 → ⊥
+    apart_bit j k l ink i a b = let inj : j < o.shape.lanes = omega arith in go (lane_bit j inj i a) (lane_bit k ink i b)
+      where
+        go : ((q : Place) × (is_place o.shape q ≡ true) × (word_of o.shape q ≡ w) × (owned j q i ≡ true)) ⊎ (w ≡ word_of_generation o.shape j) → ((q : Place) × (is_place o.shape q ≡ true) × (word_of o.shape q ≡ w) × (owned k q i ≡ true)) ⊎ (w ≡ word_of_generation o.shape k) → ⊥
+        go (inl p) (inl q) = two_lanes j k ink (λ e. omega arith) p.0 q.0 i p.1 q.1 (q.2 ∙ sym p.2) p.3 q.3
+        go (inl p) (inr q) = no_area o.shape p.0 k 0 ink (omega arith) p.1 (p.2 ∙ (q ∙ (let z : word_of_generation o.shape k ≡ word_of_generation o.shape k + 0 = omega arith in z)))
+        go (inr p) (inl q) = no_area o.shape q.0 j 0 (omega arith) (omega arith) q.1 (q.2 ∙ (p ∙ (let z : word_of_generation o.shape j ≡ word_of_generation o.shape j + 0 = omega arith in z)))
+        go (inr p) (inr q) = omega arith
+
+    masks_apart : (j k : ℕ) → j < k → k < o.shape.lanes → bit_and (bits_of (of_word w (entries image j))) (bits_of (of_word w (entries image k))) ≡ 0
+    masks_apart j k l ink = let a = bits_of (of_word w (entries image j)) in let b = bits_of (of_word w (entries image k)) in same_from_bits (bit_and a b) 0 (λ i. bit_at_and a b i ∙ (⊎_elim (λ (z : bit_at a i ≡ 0). no_min (bit_at a i) (bit_at b i) (inl z))
+        (λ (z : bit_at a i ≡ 1). ⊎_elim (λ (y : bit_at b i ≡ 0). no_min (bit_at a i) (bit_at b i) (inr y)) (λ (y : bit_at b i ≡ 1). absurd (apart_bit j k l ink i z y)) (two_bits (bit_at b i) (bit_at-lt b i))) (two_bits (bit_at a i) (bit_at-lt a i)) ∙ sym (bit_at-zero i)))
+      where
+        no_min : (m n : ℕ) → (m ≡ 0) ⊎ (n ≡ 0) → min m n ≡ 0
+        no_min m n (inl e) = omega arith
+        no_min m n (inr e) = omega arith
+
+    lanes_apart : lanes_clash image o.shape.lanes (8 * w) ≡ false
+    unfolding lanes_clash
+    lanes_apart = any_nowhere (λ k. list_any (λ j. not (bit_and (lane_mask image (8 * w) j) (lane_mask image (8 * w) k) == 0)) (range_with_len 0 k)) o.shape.lanes (λ k ink. any_nowhere (λ j. not (bit_and (lane_mask image (8 * w) j) (lane_mask image (8 * w) k) == 0)) k
+        (λ j l. ap not (eq-eqb (bit_and (lane_mask image (8 * w) j) (lane_mask image (8 * w) k)) 0 (ap (λ m. bit_and m (lane_mask image (8 * w) k)) (sym (mask_of_entries image (8 * w) j (entries image j) refl))
+        ∙ (ap (bit_and (bits_of (of_word w (entries image j)))) (sym (mask_of_entries image (8 * w) k (entries image k) refl)) ∙ masks_apart j k l ink)))))
+
+    pub no_clash : clashes image o.shape.lanes (8 * w) ≡ false
+    unfolding clashes
+    no_clash = ap (λ t. t || (nat_lt 0 (length (records_for image o.shape.lanes (8 * w))) && nat_lt 0 (length (entries_for image o.shape.lanes (8 * w)))) || lanes_clash image o.shape.lanes (8 * w)) (le-ltb 1 (length (records_for image o.shape.lanes (8 * w))) records_few)
+        ∙ (ap (λ t. false || t || lanes_clash image o.shape.lanes (8 * w)) no_mixed ∙ lanes_apart)
+
+  -- THE LOGS HAVE NO FAULT
+  pub no_log_fault : log_fault image o.shape.lanes o.shape.zones ≡ None
+  no_log_fault = sym (clash_row image o.shape.lanes o.shape.zones None (no_bad_lane o mem views g x image sv torn) (no_bad_entry o mem views g x image sv torn) (no_bad_slot o mem views g x image sv torn)
+      (none_passes (λ i. clashes image o.shape.lanes (8 * i)) (length image) (λ i l. no_clash i)))

@@ -103,7 +103,7 @@ part_empty w f from zero k e a b = absurd (omega arith)
 part_empty w f from (suc n) k e a b = let t = nil_parts (of_word w (f from)) (of_word w (flat_map f (range_with_len (from + 1) n))) (sym (filter-append (λ (d : Redo). eqb d.place (8 * w)) (f from) (flat_map f (range_with_len (from + 1) n))) ∙ e) in
     ⊎_elim (λ (q : k ≡ from). ap (λ i. of_word w (f i)) q ∙ t.0) (λ (ne : k ≢ from). part_empty w f (from + 1) n k t.1 (omega arith) (omega arith)) (cases_eq k from)
 
-some_below : (P : ℕ → Bool) (n : ℕ) → ((j : ℕ) × (j < n) × (P j ≡ true)) ⊎ ((j : ℕ) → j < n → P j ≡ false)
+pub some_below : (P : ℕ → Bool) (n : ℕ) → ((j : ℕ) × (j < n) × (P j ≡ true)) ⊎ ((j : ℕ) → j < n → P j ≡ false)
 some_below P zero = inr (λ j l. absurd (omega arith))
 some_below P (suc n) = ⊎_elim (λ (t : P n ≡ true). inl (n, omega arith, t))
     (λ (f : P n ≡ false). ⊎_elim (λ (y : (j : ℕ) × (j < n) × (P j ≡ true)). inl (y.0, (let l = y.1 in omega arith), y.2)) (λ (h : (j : ℕ) → j < n → P j ≡ false). inr (λ j l. ⊎_elim (λ (e : j ≡ n). ap P e ∙ f) (λ (ne : j ≢ n). h j (omega arith)) (cases_eq j n))) (some_below P n)) (cases_Bool (P n))
