@@ -1,11 +1,11 @@
 -- No two logs of a surviving image speak of one word, but for entries of different bits; so its logs have no fault.
-use Rattle.std.proofs.Common.{◌≡◌, ◌≢◌, ℕ, zero, suc, ◌+◌, ◌-◌, ◌*◌, ◌^◌, ◌<◌, ◌≤◌, ◌⊎◌, inl, inr, ⊎_elim, min, max, nat_lt, Bool, true, false, cond, not, ◌&&◌, ◌||◌, eqb, ltb, ◌==◌, List, [], ◌∷◌, ◌++◌, length, length-append, map, slice_get, refl, sym, ap, ◌∙◌, subst, arith, bit_and, bit_or, eq-eqb, ne_eqb, Option, None, Some}
-use Rattle.std.specs.Int.{bit_at, bit_not, w64}
+use Rattle.std.proofs.Common.{◌≡◌, ◌≢◌, ℕ, zero, suc, ◌+◌, ◌-◌, ◌*◌, ◌^◌, ◌<◌, ◌≤◌, ◌⊎◌, inl, inr, ⊎_elim, min, max, nat_lt, Bool, true, false, cond, not, ◌&&◌, ◌||◌, eqb, ◌==◌, List, [], ◌∷◌, ◌++◌, length, length-append, map, slice_get, refl, sym, ap, ◌∙◌, subst, arith, bit_and, eq-eqb, ne_eqb, Option, None, Some}
+use Rattle.std.specs.Int.{bit_at, w64}
 use Rattle.std.specs.List.{filter, find, flat_map, list_any, range_with_len}
 use Rattle.std.specs.Option.{option_map, option_to_list}
-use Rattle.std.proofs.lemmas.Bool.{cases_eq, cases_lt, cases_Bool, both_ways, eqb-true, false_from_ne_true, le-ltb}
+use Rattle.std.proofs.lemmas.Bool.{cases_lt, both_ways, eqb-true, le-ltb}
 use Rattle.std.proofs.lemmas.List.Elements.{filter-append}
-use Rattle.std.proofs.lemmas.Nat.Bits.{bit_at_and, bit_at_or, bit_at_not, bit_at_ones, bit_at-zero, bit_at-lt, bit_at_above, same_from_bits}
+use Rattle.std.proofs.lemmas.Nat.Bits.{bit_at_and, bit_at_or, bit_at_not, bit_at-zero, bit_at-lt, bit_at_above, same_from_bits}
 use Rattle.pm_layout.specs.declared.shape.Shape.{Shape}
 use Rattle.pm_layout.specs.Areas.{word_of_generation}
 use Rattle.pm_record.specs.Redo.{mask_of, redo_mask}
@@ -21,24 +21,23 @@ use Rattle.pm_image.proofs.Gathering.{records_by_number}
 use Rattle.pm_image.proofs.LogRows.{clash_row}
 use Rattle.pm_image.proofs.Masks.{any_nowhere, mask_of_entries}
 use Rattle.pm_view.specs.Places.{Place, InRun, InHuge, Descr, RootWord, twin, word_of, is_place, part}
-use Rattle.pm_view.specs.Entries.{Entry, Redo as PlaceRedo, given_bit, op_bit, first_of_two, latest, with_redo, redos}
-use Rattle.pm_view.specs.Log.{old_in, old_of}
+use Rattle.pm_view.specs.Entries.{Entry, Redo as PlaceRedo, given_bit, first_of_two, latest, with_redo, redos}
 use Rattle.pm_world.specs.States.{given}
 use Rattle.pm_world.specs.Sights.{sight_of, is_recorded}
-use Rattle.pm_world.specs.Lanes.{is_decided, is_in_making, owns, SightFits, Flies}
+use Rattle.pm_world.specs.Lanes.{is_decided, is_in_making, owns, Flies}
 use Rattle.pm_world.specs.Memory.{Memory, bit, cells_of}
 use Rattle.pm_world.specs.World.{Opening, Views, Past, World, settled_words, ghost_of}
 use Rattle.pm_world.specs.Crash.{Survives, NoneTorn}
 use Rattle.pm_world.proofs.Frame.{is_single, some_first, fresh_given, no_run, small_cases}
 use Rattle.pm_world.proofs.SurvivingWords.{log_fits}
-use Rattle.pm_world.proofs.RecoveredBits.{two_bits, entry_bit, record_bit, of_word, all_entries, given_small}
+use Rattle.pm_world.proofs.RecoveredBits.{two_bits, entry_bit, record_bit, of_word, given_small}
 use Rattle.pm_world.proofs.ImageLogs.{redo_at}
 use Rattle.pm_world.proofs.LanesInImages.{Silent, Sealed, Current}
 use Rattle.pm_world.proofs.EntriesAtPlaces.{AllStand, Stands, of_place, same_place_refl}
 use Rattle.pm_world.proofs.WordsApart.{no_area}
-use Rattle.pm_world.proofs.RecordsAtPlaces.{Speaks, Kind, speaks, speaks_of, old_given}
+use Rattle.pm_world.proofs.RecordsAtPlaces.{Kind, speaks, speaks_of, old_given}
 use Rattle.pm_world.proofs.ImageSays.{three_cases, bare_bit, sealed_stand}
-use Rattle.pm_world.proofs.CrashLaw.{fit, apart, away, alone}
+use Rattle.pm_world.proofs.CrashLaw.{apart, away, alone}
 use Rattle.pm_world.proofs.CrashDescriptors.{some_below}
 use Rattle.pm_world.proofs.CrashFaults.{no_bad_lane, no_bad_entry, no_bad_slot}
 
@@ -156,8 +155,12 @@ module _ (sh : Shape) (lane : ℕ) (ink : lane < sh.lanes) (w i : ℕ) where
       here : (d : Option Place) → Stands sh lane ink d e → (b : Bool) → eqb (8 * e.word) (8 * w) ≡ b → given (cond b (given_bit e.op e.value i) None) ≡ true → OfPlace (with_redo d e (redos t))
       here d st false is y = absurd (both_ways false refl y)
       here None st true is y = let q = eqb-true (8 * e.word) (8 * w) is in inr (omega (arith, q, st))
-      here (Some r) st true is y = let q = eqb-true (8 * e.word) (8 * w) is in inl (r, st.0, (let z = st.1 in omega (arith, q, z)),
-          fresh_given (latest (redos t) r i) (cond (Rattle.pm_view.specs.Places.same_place r r) (given_bit e.op e.value i) None) (ap (λ b. given (cond b (given_bit e.op e.value i) None)) (same_place_refl r) ∙ y))
+      here (Some r) st true is y = let q = eqb-true (8 * e.word) (8 * w) is in inl (
+        r,
+        st.0,
+        (let z = st.1 in omega (arith, q, z)),
+        fresh_given (latest (redos t) r i) (cond (Rattle.pm_view.specs.Places.same_place r r) (given_bit e.op e.value i) None) (ap (λ b. given (cond b (given_bit e.op e.value i) None)) (same_place_refl r) ∙ y),
+      )
 
 module _ (o : Opening) (mem : Memory) (views : Views) (g : Past) (x : World o mem views g) (image : List ℕ) (sv : Survives o mem views image) (torn : NoneTorn o views image) where
   abbrev owned : ℕ → Place → ℕ → Bool

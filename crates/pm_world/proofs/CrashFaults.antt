@@ -1,6 +1,6 @@
 -- Of the logs of a surviving image: each lane's generation and seal are in range, each sealed entry is one that a log has, and so is each valid record.
-use Rattle.std.proofs.Common.{◌≡◌, ◌≢◌, ℕ, zero, suc, ◌+◌, ◌-◌, ◌*◌, ◌/◌, ◌%◌, ◌^◌, ◌<◌, ◌≤◌, ◌⊎◌, inl, inr, ⊎_elim, nat_le, nat_lt, IfSome, Bool, true, false, cond, not, ◌&&◌, ◌||◌, eqb, leb, ltb, ◌==◌, List, [], ◌∷◌, ◌++◌, length, length-append, slice_get, slice_index, refl, sym, ap, ◌∙◌, subst, arith, eq-eqb, ne_eqb, Option, None, Some}
-use Rattle.std.specs.List.{find, list_all, range_with_len}
+use Rattle.std.proofs.Common.{◌≡◌, ◌≢◌, ℕ, zero, suc, ◌+◌, ◌-◌, ◌*◌, ◌/◌, ◌%◌, ◌^◌, ◌<◌, ◌≤◌, ◌⊎◌, inl, inr, ⊎_elim, nat_le, nat_lt, IfSome, Bool, true, false, not, ◌&&◌, ◌||◌, ◌==◌, List, [], ◌∷◌, ◌++◌, length, length-append, slice_get, refl, sym, ap, ◌∙◌, subst, arith, eq-eqb, ne_eqb, Option, None, Some}
+use Rattle.std.specs.List.{list_all, range_with_len}
 use Rattle.std.specs.Option.{option_map_or}
 use Rattle.std.proofs.lemmas.Bool.{cases_eq, cases_lt, cases_Bool, both_ways, and_from, and_parts, or_left, or_right, cond-true, cond-false, false_from_ne_true, le-leb, lt-ltb, ltb-true, leb-true}
 use Rattle.std.proofs.lemmas.Option.{none-some, same_Some}
@@ -9,7 +9,6 @@ use Rattle.pm_layout.specs.Areas.{word_of_generation}
 use Rattle.pm_layout.specs.Chunks.{chunks_of, word_of_chunk, word_of_descriptor}
 use Rattle.pm_record.specs.Redo.{redo_of}
 use Rattle.pm_record.specs.declared.redo.Op.TheVariants.{Set}
-use Rattle.pm_record.specs.declared.redo.Redo.{Redo}
 use Rattle.pm_record.specs.declared.undo.Undo.{Undo}
 use Rattle.pm_image.specs.Logs.{area_word, generation_word, seal_word, is_sealed, entry_pair}
 use Rattle.pm_image.specs.Steps.{valid_record}
@@ -22,7 +21,7 @@ use Rattle.pm_view.specs.Places.{Place, InRun, InHuge, Descr, RootWord, word_of,
 use Rattle.pm_view.specs.Entries.{Entry}
 use Rattle.pm_view.specs.Log.{Phase, Idle, Open, Drawn, Sealing, Applying, Clearing, Retiring, Voiding, Recorded, Log}
 use Rattle.pm_world.specs.Lanes.{is_decided}
-use Rattle.pm_world.specs.Logs.{IsEntryAt, IsRecordAt, EntryOf, AreWhole, BumpFits, PhaseFits, ends_with, used_slots}
+use Rattle.pm_world.specs.Logs.{IsRecordAt, EntryOf, AreWhole, BumpFits, PhaseFits, ends_with, used_slots}
 use Rattle.pm_world.specs.Lawful.{CanRecord}
 use Rattle.pm_world.specs.Memory.{Memory}
 use Rattle.pm_world.specs.Sights.{sight_of}
@@ -31,9 +30,9 @@ use Rattle.pm_world.specs.Crash.{Survives, NoneTorn}
 use Rattle.pm_world.proofs.Frame.{is_single}
 use Rattle.pm_world.proofs.SurvivingWords.{log_fits, SealIs, GenerationIs, seal_is, generation_is}
 use Rattle.pm_world.proofs.ImageLogs.{redo_at, redo_again, undo_from}
-use Rattle.pm_world.proofs.LanesInImages.{Silent, Sealed, Current, Held, held_now, get_within, get_some}
+use Rattle.pm_world.proofs.LanesInImages.{Silent, Sealed, Current, held_now, get_within, get_some}
 use Rattle.pm_world.proofs.EntriesAtPlaces.{all_get, last_or}
-use Rattle.pm_world.proofs.ImageSays.{three_cases, sealed_stand}
+use Rattle.pm_world.proofs.ImageSays.{three_cases}
 
 -- ---- places are targets
 

@@ -1,8 +1,8 @@
 -- THE CRASH LAW of a world: every surviving image without torn records, recovered, has at each living place the words with the calls that it keeps.
-use Rattle.std.proofs.Common.{◌≡◌, ◌≢◌, ℕ, zero, suc, ◌+◌, ◌*◌, ◌/◌, ◌%◌, ◌<◌, ◌≤◌, ◌⊎◌, inl, inr, ⊎_elim, nat_le, nat_lt, Bool, true, false, cond, not, ◌&&◌, ◌||◌, eqb, leb, ltb, ◌==◌, Contains, List, [], ◌∷◌, ◌++◌, map, slice_index, refl, sym, ap, ◌∙◌, subst, arith, eq-eqb, ne_eqb, Option, None, Some}
+use Rattle.std.proofs.Common.{◌≡◌, ◌≢◌, ℕ, zero, suc, ◌+◌, ◌*◌, ◌/◌, ◌%◌, ◌<◌, ◌≤◌, ◌⊎◌, inl, inr, ⊎_elim, nat_lt, Bool, true, false, cond, not, ◌&&◌, ◌||◌, eqb, leb, ltb, ◌==◌, List, [], ◌++◌, map, slice_index, refl, sym, ap, ◌∙◌, subst, arith, eq-eqb, ne_eqb, Option}
 use Rattle.std.specs.Int.{bit_at}
 use Rattle.std.specs.List.{filter, flat_map, range_with_len}
-use Rattle.std.proofs.lemmas.Bool.{cases_eq, cases_lt, cases_Bool, both_ways, and_from, and_parts, cond-true, cond-false, false_from_ne_true, le-leb, lt-ltb, ltb-true, leb-true}
+use Rattle.std.proofs.lemmas.Bool.{cases_eq, cases_Bool, both_ways, and_from, and_parts, cond-true, cond-false, false_from_ne_true, le-leb, lt-ltb, ltb-true}
 use Rattle.std.proofs.lemmas.List.Elements.{filter-append}
 use Rattle.std.proofs.lemmas.List.Folds.{list_any_at}
 use Rattle.std.proofs.lemmas.Nat.Bits.{bit_at-zero, bit_at_ones}
@@ -17,15 +17,13 @@ use Rattle.pm_view.specs.Parts.{DescriptorPart, is_entry_word, is_slot_word, par
 use Rattle.pm_view.specs.Places.{Place, InRun, InHuge, Descr, RootWord, twin, word_of, is_place}
 use Rattle.pm_view.specs.Claims.{is_run}
 use Rattle.pm_view.specs.Log.{Phase, Idle, Open, Drawn, Sealing, Applying, Clearing, Retiring, Voiding}
-use Rattle.pm_view.specs.View.{View}
 use Rattle.pm_world.specs.States.{State, given, over, live, read, replay}
 use Rattle.pm_world.specs.Sights.{sight_of, is_use}
 use Rattle.pm_world.specs.Lanes.{is_decided, owns, SightFits, Flies}
 use Rattle.pm_world.specs.Logs.{IsOld, AreaChange}
 use Rattle.pm_world.specs.Memory.{Memory, PoolWord, bit, run_told, huge_told, bits_of, cells_of}
 use Rattle.pm_world.specs.World.{Opening, Views, Past, World, origin, settled_words, ghost_of}
-use Rattle.pm_world.specs.Crash.{Survives, NoneTorn, decides_in, is_decided_in, is_kept, kept_words, MeansKept}
-use Rattle.pm_world.specs.Laws.{CrashLaw}
+use Rattle.pm_world.specs.Crash.{Survives, NoneTorn, decides_in, is_decided_in, is_kept, kept_words}
 use Rattle.pm_world.proofs.Frame.{is_single, owns_apart, twin_apart}
 use Rattle.pm_world.proofs.Crashes.{InPool, Image, decides, decided_by, means_kept}
 use Rattle.pm_world.proofs.RecoveredBits.{record_bit, of_word, log_bit, all_entries, empty_or, SetsWord, recovered_bit, recovered_descriptor}
@@ -33,7 +31,7 @@ use Rattle.pm_world.proofs.SurvivingWords.{bit_left, whole_left, Taken}
 use Rattle.pm_world.proofs.ImageLogs.{redo_at}
 use Rattle.pm_world.proofs.LanesInImages.{Silent, Sealed, Current}
 use Rattle.pm_world.proofs.EntriesAtPlaces.{of_place, entered, sets_descriptor}
-use Rattle.pm_world.proofs.RecordsAtPlaces.{Speaks, speaks_of, twin_single}
+use Rattle.pm_world.proofs.RecordsAtPlaces.{Speaks, speaks_of}
 use Rattle.pm_world.proofs.ImageSays.{stands_in, spoken, spoken_is, spoken_beyond, stands, lane_says, three_cases, bare_bit, sealed_stand}
 
 -- ---- places in the pool
@@ -124,15 +122,18 @@ module _ (o : Opening) (mem : Memory) (views : Views) (g : Past) (x : World o me
   taken_descriptor : (c b : ℕ) → is_place o.shape (Descr c) ≡ true → b < 64 → Taken o mem views g x image sv (word_of_descriptor o.shape c) → (im (Descr c) b ≡ m (Descr c) b) ⊎ Soils (Descr c) b
   taken_descriptor c b e small t = let inj = t.of_lane in let most = x.most_lanes in
       let ch = descriptor_change (views t.lane).log.phase (Rattle.std.specs.Prelude.length (views t.lane).log.entries) (views t.lane).log.generation (chunk_described o.shape (word_of_descriptor o.shape c)) t.seen
-          (subst (λ p. AreaChange (views t.lane).log.phase (Rattle.std.specs.Prelude.length (views t.lane).log.entries) (views t.lane).log.generation p t.seen) (descriptor_part o.shape t.lane c (omega arith) (ltb-true c (chunks_of o.shape) e)) t.is) in
+      (subst (λ p. AreaChange (views t.lane).log.phase (Rattle.std.specs.Prelude.length (views t.lane).log.entries) (views t.lane).log.generation p t.seen) (descriptor_part o.shape t.lane c (omega arith) (ltb-true c (chunks_of o.shape) e)) t.is) in
       ⊎_elim (λ (y : (sight_of (views t.lane)).hold.making c ≡ true). let h = (fit t.lane).hold.making c y in
       let run : run_told (mem (PoolWord (word_of_descriptor o.shape c))) ≡ g.geo.class c = inside_told (is_place o.shape (Descr c)) (run_told (mem (PoolWord (word_of_descriptor o.shape c)))) (g.geo.class c) h.1 h.2 in
       ⊎_elim (λ (old : IsOld 0 t.seen). inl (ap (λ s. s && huge_told (slice_index image (word_of_descriptor o.shape c)) b) e ∙ (ap (λ z. huge_told z b) (t.old 0 old) ∙ (huge_nothing b
       ∙ sym (ap (λ s. s && huge_told (mem (PoolWord (word_of_descriptor o.shape c))) b) e ∙ run_not_huge (mem (PoolWord (word_of_descriptor o.shape c))) (g.geo.class c) b run h.2)))))
       (λ (dec : is_decided (views t.lane).log.phase ≡ true). absurd (both_ways ((sight_of (views t.lane)).hold.making c) ((x.each_lane t.lane inj).made dec c) y)) ch.1)
-      (λ (y : (sight_of (views t.lane)).hold.making c ≡ false). inr (t.lane, inl (soils t.lane inj (Descr c) b (ap not y) (list_any_at (λ (d : Undrained). d.word == word_of_descriptor o.shape c && bit_at d.mask b == 1) (views t.lane).changes t.there.0 t.seen t.there.1
-      (ap (λ (d : Undrained). d.word == word_of_descriptor o.shape c && bit_at d.mask b == 1) t.there.2 ∙ and_from (t.seen.word == word_of_descriptor o.shape c) (bit_at t.seen.mask b == 1) (eq-eqb t.seen.word (word_of_descriptor o.shape c) t.of_word)
-      (eq-eqb (bit_at t.seen.mask b) 1 (ap (λ n. bit_at n b) ch.0 ∙ bit_at_ones 64 b small))))))) (cases_Bool ((sight_of (views t.lane)).hold.making c))
+      (λ (y : (sight_of (views t.lane)).hold.making c ≡ false). inr (
+        t.lane,
+        inl (soils t.lane inj (Descr c) b (ap not y) (list_any_at (λ (d : Undrained). d.word == word_of_descriptor o.shape c && bit_at d.mask b == 1) (views t.lane).changes t.there.0 t.seen t.there.1
+            (ap (λ (d : Undrained). d.word == word_of_descriptor o.shape c && bit_at d.mask b == 1) t.there.2 ∙ and_from (t.seen.word == word_of_descriptor o.shape c) (bit_at t.seen.mask b == 1) (eq-eqb t.seen.word (word_of_descriptor o.shape c) t.of_word)
+            (eq-eqb (bit_at t.seen.mask b) 1 (ap (λ n. bit_at n b) ch.0 ∙ bit_at_ones 64 b small))))),
+      )) (cases_Bool ((sight_of (views t.lane)).hold.making c))
 
   pub pool : (p : Place) (b : ℕ) → InPool o.shape p b → (im p b ≡ m p b) ⊎ Soils p b
   pool (InRun c w) b i = ⊎_elim (λ e. inl (ap (λ t. is_place o.shape (InRun c w) && t) e)) (λ (y : (k : ℕ) × (k < o.lanes) × (is_dirty_bit (views k).changes (word_of o.shape (InRun c w)) b ≡ true)). inr (y.0, in_chunk y.0 c w b y.1 y.2))

@@ -1,12 +1,12 @@
 -- What a crash image has of one lane's log, by how far its call has come: its entries sealed and no valid record, its records and nothing sealed, or neither.
-use Rattle.std.proofs.Common.{◌≡◌, ◌≢◌, ℕ, zero, suc, ◌+◌, ◌-◌, ◌*◌, ◌/◌, ◌%◌, ◌^◌, ◌<◌, ◌≤◌, ◌⊎◌, inl, inr, ⊎_elim, nat_le, nat_lt, Bool, true, false, cond, not, ◌&&◌, ◌||◌, eqb, leb, ltb, ◌==◌, All, Contains, List, [], ◌∷◌, ◌++◌, length, length-append, map, slice_get, slice_index, slice_range, refl, sym, ap, ◌∙◌, subst, arith, Option, None, Some}
+use Rattle.std.proofs.Common.{◌≡◌, ◌≢◌, ℕ, zero, suc, ◌+◌, ◌*◌, ◌/◌, ◌<◌, ◌≤◌, ◌⊎◌, inl, inr, ⊎_elim, Bool, true, false, cond, not, leb, ◌==◌, Contains, List, [], ◌∷◌, ◌++◌, length, length-append, map, slice_get, slice_index, refl, sym, ap, ◌∙◌, subst, arith, Some}
 use Rattle.std.specs.List.{list_any, filter_map, range_with_len}
 use Rattle.std.proofs.lemmas.Bool.{cases_eq, cases_lt, cases_Bool, both_ways, eqb-true, eq-eqb, ne_eqb, and_from, cond-true, cond-false, le-leb}
 use Rattle.std.proofs.lemmas.Option.{none-some, same_Some}
 use Rattle.std.proofs.lemmas.List.Elements.{All-contains}
 use Rattle.std.proofs.lemmas.List.Folds.{list_any_at}
 use Rattle.pm_layout.specs.declared.shape.Shape.{Shape}
-use Rattle.pm_layout.specs.Areas.{word_of_generation, word_of_entry, line_of_slot, undo_slots, redo_entries}
+use Rattle.pm_layout.specs.Areas.{word_of_generation, word_of_entry, line_of_slot}
 use Rattle.pm_layout.specs.Chunks.{words_of}
 use Rattle.pm_record.specs.Redo.{redo_of}
 use Rattle.pm_record.specs.Undo.{undo_of}
@@ -17,16 +17,15 @@ use Rattle.pm_image.proofs.Redoing.{entries_sealed, entries_unsealed}
 use Rattle.pm_image.proofs.Unsealed.{not_sealed}
 use Rattle.pm_view.specs.Changes.{Undrained, is_in_line}
 use Rattle.pm_view.specs.Entries.{Entry, entry_head}
-use Rattle.pm_view.specs.Parts.{Part, EntryPart, SlotPart, part_of}
+use Rattle.pm_view.specs.Parts.{EntryPart, SlotPart, part_of}
 use Rattle.pm_view.specs.Log.{Phase, Idle, Open, Drawn, Sealing, Applying, Clearing, Retiring, Voiding, Recorded, Log}
-use Rattle.pm_view.specs.View.{View}
 use Rattle.pm_world.specs.States.{Diff}
 use Rattle.pm_world.specs.Sights.{is_slot_drained}
-use Rattle.pm_world.specs.Logs.{AreaChange, AreWhole, IsRecordAt, IsEntryAt, PhaseFits, LogFits, ends_with, slot_list, spelled, used_slots}
+use Rattle.pm_world.specs.Logs.{AreaChange, AreWhole, IsRecordAt, IsEntryAt, PhaseFits, ends_with, slot_list, spelled, used_slots}
 use Rattle.pm_world.specs.Lawful.{CanRecord}
 use Rattle.pm_world.specs.Memory.{Memory, PoolWord, cells_of}
 use Rattle.pm_world.specs.World.{Opening, Views, Past, AreaFits, World}
-use Rattle.pm_world.specs.Crash.{Survives, NoneTorn, IsWhole}
+use Rattle.pm_world.specs.Crash.{Survives, NoneTorn}
 use Rattle.pm_world.proofs.SurvivingWords.{entry_part, slot_part, log_fits, AreaTaken, area_left, SealIs, GenerationIs, seal_is, generation_is}
 use Rattle.pm_world.proofs.ImageLogs.{eight, slots_alike, slice_eight, redo_at, redo_again, read_all, undo_from, spelled_long, undo_spelled, valid_from, valid_parts}
 
@@ -212,14 +211,18 @@ module _ (o : Opening) (mem : Memory) (views : Views) (g : Past) (x : World o me
     used_now = used_whole (views k).log (no_part_of o.shape k (Rattle.pm_world.specs.Sights.sight_of (views k)).picture (views k).log (views k).changes (views k).log.phase s fits.phase)
 
     pub bare_next : generation image k ≡ suc (views k).log.generation → IsBare
-    bare_next e = record { none_valid = λ j u a valid. let p = valid_parts image k j u valid in let st : undo_of (slot_list ((cells_of o.shape mem).slot k j)) ≡ Some u = sym (ap undo_of (settled_slot j a)) ∙ p.0 in let n = p.1 in
-        ⊎_elim (λ (l : j < length (views k).log.records). let r = get_some (views k).log.records j l in let same = same_Some (undo_from o.shape (views k).log.generation r.0) u (sym (slot_held j r.0 r.1) ∙ st) in
-        let q : u.generation ≡ (views k).log.generation = ap (λ (z : Undo). z.generation) (sym same) in omega arith)
-        (λ (l : length (views k).log.records ≤ j). let d = used_now in let z = fits.stale j u (omega arith) a st in omega arith) (cases_lt j (length (views k).log.records)) }
+    bare_next e = record {
+      none_valid = λ j u a valid. let p = valid_parts image k j u valid in let st : undo_of (slot_list ((cells_of o.shape mem).slot k j)) ≡ Some u = sym (ap undo_of (settled_slot j a)) ∙ p.0 in let n = p.1 in
+          ⊎_elim (λ (l : j < length (views k).log.records). let r = get_some (views k).log.records j l in let same = same_Some (undo_from o.shape (views k).log.generation r.0) u (sym (slot_held j r.0 r.1) ∙ st) in
+          let q : u.generation ≡ (views k).log.generation = ap (λ (z : Undo). z.generation) (sym same) in omega arith)
+          (λ (l : length (views k).log.records ≤ j). let d = used_now in let z = fits.stale j u (omega arith) a st in omega arith) (cases_lt j (length (views k).log.records));
+    }
 
     pub bare_idle : (views k).log.records ≡ [] → generation image k ≡ (views k).log.generation → IsBare
-    bare_idle none_ e = record { none_valid = λ j u a valid. let p = valid_parts image k j u valid in let st : undo_of (slot_list ((cells_of o.shape mem).slot k j)) ≡ Some u = sym (ap undo_of (settled_slot j a)) ∙ p.0 in let n = p.1 in
-        let d = used_now in let m : length (views k).log.records ≡ 0 = ap length none_ in let z = fits.stale j u (omega arith) a st in omega arith }
+    bare_idle none_ e = record {
+      none_valid = λ j u a valid. let p = valid_parts image k j u valid in let st : undo_of (slot_list ((cells_of o.shape mem).slot k j)) ≡ Some u = sym (ap undo_of (settled_slot j a)) ∙ p.0 in let n = p.1 in
+          let d = used_now in let m : length (views k).log.records ≡ 0 = ap length none_ in let z = fits.stale j u (omega arith) a st in omega arith;
+    }
 
   -- a valid record of the log's generation is the log's, or one that could be written there now
   pub record Held (j : ℕ) (u : Undo) : Type 0 where

@@ -1,36 +1,35 @@
 -- The valid records of a lane whose call is not decided: each is of words that the lane owns, and has what is settled where that is alive; and each drained
 -- record of the log is valid.
-use Rattle.std.proofs.Common.{◌≡◌, ◌≢◌, ℕ, zero, suc, ◌+◌, ◌-◌, ◌*◌, ◌/◌, ◌%◌, ◌<◌, ◌≤◌, ◌⊎◌, inl, inr, ⊎_elim, nat_le, nat_lt, Bool, true, false, cond, not, ◌&&◌, ◌||◌, eqb, leb, ltb, ◌==◌, List, [], ◌∷◌, length, slice_get, slice_index, refl, sym, ap, ◌∙◌, subst, arith, eq-eqb, ne_eqb, Option, None, Some}
+use Rattle.std.proofs.Common.{◌≡◌, ℕ, zero, suc, ◌+◌, ◌-◌, ◌*◌, ◌/◌, ◌<◌, ◌≤◌, ◌⊎◌, inl, inr, ⊎_elim, nat_le, nat_lt, Bool, true, false, cond, not, ◌&&◌, ◌||◌, ◌==◌, List, [], ◌∷◌, length, slice_get, slice_index, refl, sym, ap, ◌∙◌, subst, arith, eq-eqb, ne_eqb, Option, None, Some}
 use Rattle.std.specs.Int.{bit_at}
 use Rattle.std.specs.List.{find}
 use Rattle.std.specs.Option.{option_map}
-use Rattle.std.proofs.lemmas.Bool.{cases_eq, cases_Bool, both_ways, eqb-true, and_parts, and_from, or_cases, cond-true, cond-false, false_from_ne_true, le-leb, lt-ltb, leb-true, ltb-true}
+use Rattle.std.proofs.lemmas.Bool.{both_ways, eqb-true, and_parts, and_from, or_cases, cond-true, cond-false, false_from_ne_true, le-leb, lt-ltb, leb-true, ltb-true}
 use Rattle.std.proofs.lemmas.Option.{none-some, same_Some}
 use Rattle.pm_layout.specs.declared.shape.Shape.{Shape}
 use Rattle.pm_record.specs.declared.undo.Undo.{Undo}
-use Rattle.pm_image.specs.Logs.{covers, old_word, records, entries}
+use Rattle.pm_image.specs.Logs.{covers, old_word, records}
 use Rattle.pm_image.specs.Steps.{valid_record}
 use Rattle.pm_view.specs.Changes.{Undrained}
-use Rattle.pm_view.specs.Places.{Place, InRun, InHuge, Descr, RootWord, Block, Small, Big, part, block_of, in_span, is_data, twin, word_of, is_place, place_after, is_after, distance}
+use Rattle.pm_view.specs.Places.{Place, InRun, InHuge, Descr, RootWord, Small, Big, is_data, twin, word_of, is_place, place_after, is_after, distance}
 use Rattle.pm_view.specs.Entries.{first_of_two}
 use Rattle.pm_view.specs.Log.{Phase, Idle, Open, Drawn, Sealing, Applying, Clearing, Retiring, Voiding, Recorded, old_in, old_of}
-use Rattle.pm_view.specs.Claims.{class, first, span, pictured, is_held}
+use Rattle.pm_view.specs.Claims.{class, first, pictured, is_held}
 use Rattle.pm_view.specs.View.{View, runs_one}
-use Rattle.pm_view.specs.Founds.{knows}
-use Rattle.pm_world.specs.States.{State, Diff, given, live, read}
-use Rattle.pm_world.specs.Sights.{is_pictured, picture, is_recorded, is_logged, is_logged_from, is_slot_drained, sight_of}
-use Rattle.pm_world.specs.Lanes.{is_decided, is_in_making, left, own, owns, has, SightFits, Flies}
+use Rattle.pm_world.specs.States.{Diff, given, live}
+use Rattle.pm_world.specs.Sights.{is_pictured, is_recorded, is_logged, is_logged_from, is_slot_drained, sight_of}
+use Rattle.pm_world.specs.Lanes.{is_decided, is_in_making, left, own, owns, SightFits, Flies}
 use Rattle.pm_world.specs.Logs.{IsRecordAt}
 use Rattle.pm_world.specs.Lawful.{CanRecord, MayChangeAt}
 use Rattle.pm_world.specs.Memory.{Memory, bit, cells_of}
 use Rattle.pm_world.specs.World.{Opening, Views, Past, World, settled_words, ghost_of}
 use Rattle.pm_world.specs.Crash.{Survives, NoneTorn}
 use Rattle.pm_world.proofs.Frame.{is_single, here_own, own_has, maker_owns, maker_no_run}
-use Rattle.pm_world.proofs.Crashes.{InPool, Restores}
+use Rattle.pm_world.proofs.Crashes.{Restores}
 use Rattle.pm_world.proofs.RecoveredBits.{record_bit, entry_bit, log_bit}
 use Rattle.pm_world.proofs.SurvivingWords.{log_fits}
 use Rattle.pm_world.proofs.ImageLogs.{undo_from, covered, covers_from, old_from, found_slot, no_slot}
-use Rattle.pm_world.proofs.LanesInImages.{Current, Held, held_now, valid_now}
+use Rattle.pm_world.proofs.LanesInImages.{Current, held_now, valid_now}
 use Rattle.pm_world.proofs.EntriesAtPlaces.{of_place}
 
 -- ---- the places of a record
@@ -243,12 +242,19 @@ module _ (o : Opening) (mem : Memory) (views : Views) (g : Past) (x : World o me
           let pic : pictured (views k).fixed.shape (views k).claims (word_of (views k).fixed.shape p) ≡ Some (slice_index q.old n) = known_pictured (runs_one (views k) || is_held (views k).fixed.shape (views k).claims (word_of (views k).fixed.shape p))
           (pictured (views k).fixed.shape (views k).claims (word_of (views k).fixed.shape p)) (slice_index q.old n) each.present in
           let seen : (b : ℕ) → (sight_of (views k)).picture p b ≡ Some (bit (slice_index q.old n) b) = λ b. cond-true (is_pictured p) _ _ (data_pictured p each.plain) ∙ ap (option_map (λ z. bit_at z b == 1)) pic in
-          let lg = unrecorded (views k).fixed.shape (views k).fixed.lane (views k).changes (views k).log.records p each.new in
-          (record {
-            place = p; is_there = sym (ap (λ s. is_place s p) shape_is) ∙ each.place; chunk = data_chunk p each.plain; of_word = after_word o.shape q.place w ch low; unmade = changes_unmade p each.plain each.own; own_ = λ b l. own_ b;
-            old = λ b l lv. let bf = f.bits p b (own_ b) in ap (λ z. bit z b) old_is ∙ (sym (bf.3 (bit (slice_index q.old n) b) (seen b))
-                ∙ bf.0 lv (left_none (views k).log.phase p b und) (ap (λ t. t && not (is_decided (views k).log.phase)) lg));
-          }, inr (last, each.new))
+          let lg = unrecorded (views k).fixed.shape (views k).fixed.lane (views k).changes (views k).log.records p each.new in (
+            record {
+              place = p;
+              is_there = sym (ap (λ s. is_place s p) shape_is) ∙ each.place;
+              chunk = data_chunk p each.plain;
+              of_word = after_word o.shape q.place w ch low;
+              unmade = changes_unmade p each.plain each.own;
+              own_ = λ b l. own_ b;
+              old = λ b l lv. let bf = f.bits p b (own_ b) in ap (λ z. bit z b) old_is ∙ (sym (bf.3 (bit (slice_index q.old n) b) (seen b))
+                  ∙ bf.0 lv (left_none (views k).log.phase p b und) (ap (λ t. t && not (is_decided (views k).log.phase)) lg));
+            },
+            inr (last, each.new),
+          )
 
   -- a word that some record gives
   pub speaks_of : (w b : ℕ) → given (record_bit (records image k) w b) ≡ true → (u : Undo) × (find (λ r. covers r (8 * w)) (records image k) ≡ Some u) × Speaks w u
@@ -268,8 +274,10 @@ module _ (o : Opening) (mem : Memory) (views : Views) (g : Past) (x : World o me
         (no_slot image k (8 * word_of o.shape p) n z.slot (undo_from o.shape (views k).log.generation z.held) y.0 y.1) (covers_from o.shape (views k).log.generation z.held (word_of o.shape p) most r.0 r.1)))
         (λ (t : (u : Undo) × (find (λ u. covers u (8 * word_of o.shape p)) (records image k) ≡ Some u)). ap (λ d. given (option_map (λ u. bit (old_word u (8 * word_of o.shape p)) b) d)) t.1) (some_or (find (λ u. covers u (8 * word_of o.shape p)) (records image k)));
     olds = λ p b i e. let said = is p b ∙ log_is (word_of o.shape p) b in let z = speaks_of (word_of o.shape p) b (sym (ap given said) ∙ e) in let s = z.2 in
-        ⊎_elim (λ (q : s.place ≡ p). inl (subst (λ y. owns g.geo (settled_words o g) (sight_of (views k)).hold y b ≡ true) q (s.own_ b i.1),
-        λ lv. said ∙ (ap (option_map (λ u. bit (old_word u (8 * word_of o.shape p)) b)) z.1 ∙ ap (λ y. Some y) (s.old b i.1 (subst (λ y. live (settled_words o g) g.geo g.runs y ≡ true) (sym q) lv) ∙ ap (λ y. settled_words o g y b) q))))
+        ⊎_elim (λ (q : s.place ≡ p). inl (
+          subst (λ y. owns g.geo (settled_words o g) (sight_of (views k)).hold y b ≡ true) q (s.own_ b i.1),
+          λ lv. said ∙ (ap (option_map (λ u. bit (old_word u (8 * word_of o.shape p)) b)) z.1 ∙ ap (λ y. Some y) (s.old b i.1 (subst (λ y. live (settled_words o g) g.geo g.runs y ≡ true) (sym q) lv) ∙ ap (λ y. settled_words o g y b) q)),
+        ))
         (λ (q : s.place ≡ twin p). inr (sym (ap is_single q ∙ twin_single p) ∙ s.chunk, subst (λ y. owns g.geo (settled_words o g) (sight_of (views k)).hold y b ≡ true) q (s.own_ b i.1)))
         (of_place o.shape k ink p s.place i.0 s.is_there s.of_word);
   }
