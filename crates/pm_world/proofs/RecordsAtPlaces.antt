@@ -11,10 +11,10 @@ use Rattle.pm_record.specs.declared.undo.Undo.{Undo}
 use Rattle.pm_image.specs.Logs.{covers, old_word, records}
 use Rattle.pm_image.specs.Steps.{valid_record}
 use Rattle.pm_view.specs.Changes.{Undrained}
-use Rattle.pm_view.specs.Places.{Place, InRun, InHuge, Descr, RootWord, Small, Big, is_data, twin, word_of, is_place, place_after, is_after, distance}
+use Rattle.pm_view.specs.Places.{Place, InRun, InHuge, Descr, RootWord, Small, Big, is_data, twin, word_of, is_place, place_after, is_after, distance, in_span, part}
 use Rattle.pm_view.specs.Entries.{first_of_two}
 use Rattle.pm_view.specs.Log.{Phase, Idle, Open, Drawn, Sealing, Applying, Clearing, Retiring, Voiding, Recorded, old_in, old_of}
-use Rattle.pm_view.specs.Claims.{class, first, pictured, is_held}
+use Rattle.pm_view.specs.Claims.{class, first, pictured, is_held, span}
 use Rattle.pm_view.specs.View.{View, runs_one}
 use Rattle.pm_world.specs.States.{Diff, given, live}
 use Rattle.pm_world.specs.Sights.{is_pictured, is_recorded, is_logged, is_logged_from, is_slot_drained, sight_of}
@@ -22,7 +22,7 @@ use Rattle.pm_world.specs.Lanes.{is_decided, is_in_making, left, own, owns, Sigh
 use Rattle.pm_world.specs.Logs.{IsRecordAt}
 use Rattle.pm_world.specs.Lawful.{CanRecord, MayChangeAt}
 use Rattle.pm_world.specs.Memory.{Memory, bit, cells_of}
-use Rattle.pm_world.specs.World.{Opening, Views, Past, World, settled_words, ghost_of}
+use Rattle.pm_world.specs.World.{Opening, Views, Past, World, is_of_found, settled_words, ghost_of}
 use Rattle.pm_world.specs.Crash.{Survives, NoneTorn}
 use Rattle.pm_world.proofs.Frame.{is_single, here_own, own_has, maker_owns, maker_no_run}
 use Rattle.pm_world.proofs.Crashes.{Restores}
@@ -209,6 +209,17 @@ module _ (o : Opening) (mem : Memory) (views : Views) (g : Past) (x : World o me
   changes_unmade (Descr d) e may = absurd may
   changes_unmade RootWord e may = refl
 
+  -- nor of a word in a block that it found
+  found_unmade : (p : Place) → is_of_found (views k).fixed.shape (views k).claims p ≡ true → is_in_making (sight_of (views k)).hold p ≡ false
+  found_unmade (InRun d w) e = let i = part (class (views k).claims d) w 64 in false_from_ne_true ((sight_of (views k)).hold.making d) (λ t. both_ways (g.runs d) (maker_no_run o.shape (cells_of o.shape mem) (settled_words o g) (Flies (ghost_of g) k) (ghost_of g) x.bits.geo k (sight_of (views k)) f d t)
+      (and_parts (g.runs d) (nat_lt i (Rattle.pm_layout.specs.Sizes.blocks_of (g.geo.class d))) (f.hold.found (Small d i) e).1).0)
+  found_unmade (InHuge d w) e = let y = first (views k).fixed.shape (views k).claims d in let z = and_parts ((sight_of (views k)).hold.found (Big y)) (in_span y (span (views k).fixed.shape (views k).claims y) d) e in
+      let same = eqb-true (g.geo.first d) y (f.hold.span y (Rattle.pm_world.proofs.Frame.found_has (sight_of (views k)).hold (Big y) z.0) d ∙ z.1) in
+      false_from_ne_true ((sight_of (views k)).hold.making d) (λ t. let q = (maker_owns o.shape (cells_of o.shape mem) (settled_words o g) (Flies (ghost_of g) k) (ghost_of g) x.bits.geo k (sight_of (views k)) f d t).1 in
+      both_ways (settled_words o g (Descr d) 1) (f.hold.mine (Big d) (f.hold.making d t).0).2 (ap (λ n. settled_words o g (Descr n) 1) (sym q ∙ same) ∙ (f.hold.found (Big y) z.0).2))
+  found_unmade (Descr d) e = absurd (both_ways false refl e)
+  found_unmade RootWord e = absurd (both_ways false refl e)
+
   -- WHAT A VALID RECORD SAYS OF A WORD
   pub record Speaks (w : ℕ) (u : Undo) : Type 0 where
     pub place : Place
@@ -234,7 +245,7 @@ module _ (o : Opening) (mem : Memory) (views : Views) (g : Past) (x : World o me
           let rec = fits.records j q at in let ch = data_chunk q.place rec.4 in let p = place_after q.place n in
           let has_ : old_of (views k).log.records p ≡ Some (slice_index q.old n) = old_found p (views k).log.records (λ i m s t y z e d. fits.once i m s t p y z e d) j q (slice_index q.old n) at (after_old q.place q.old n ch inside) in
           let olds = fits.olds und p (slice_index q.old n) has_ in
-          (record { place = p; is_there = rec.5 n inside; chunk = data_chunk p (after_data q.place n rec.4); of_word = after_word o.shape q.place w ch low; unmade = (x.each_lane k c.runs).recorded und p (ap given has_); own_ = λ b l. (olds b l).0; old = λ b l _. ap (λ z. bit z b) old_is ∙ sym (olds b l).1 }, inl (q, slice_index q.old n, at, after_old q.place q.old n ch inside))
+          (record { place = p; is_there = rec.5 n inside; chunk = data_chunk p (after_data q.place n rec.4); of_word = after_word o.shape q.place w ch low; unmade = found_unmade p ((x.each_lane k c.runs).recorded und p (ap given has_)); own_ = λ b l. (olds b l).0; old = λ b l _. ap (λ z. bit z b) old_is ∙ sym (olds b l).1 }, inl (q, slice_index q.old n, at, after_old q.place q.old n ch inside))
 
       making : (q : Recorded) → length (views k).log.records ≡ j → CanRecord (views k) q → (word_of o.shape q.place ≤ w) × (w < word_of o.shape q.place + length q.old) → old_word u (8 * w) ≡ slice_index q.old (w - word_of o.shape q.place) → (s : Speaks w u) × Kind j s.place
       making q last can r old_is = let n : ℕ = w - word_of o.shape q.place in let low = r.0 in let high = r.1 in let inside : n < length q.old = omega arith in let each = can.each n inside in let p = place_after q.place n in

@@ -7,8 +7,8 @@ use Rattle.pm_view.specs.Limits.{greatest_generation}
 use Rattle.pm_layout.specs.Chunks.{words_of, word_of_descriptor, word_of_root}
 use Rattle.pm_view.specs.declared.occ.Occ.{Occ}
 use Rattle.pm_view.specs.Changes.{Undrained}
-use Rattle.pm_view.specs.Places.{Place, InRun, InHuge, Descr, RootWord, Block, Geometry}
-use Rattle.pm_view.specs.Claims.{making, pictured, is_run}
+use Rattle.pm_view.specs.Places.{Place, InRun, InHuge, Descr, RootWord, Block, Big, Geometry, block_of, in_span}
+use Rattle.pm_view.specs.Claims.{Claim, making, found, first, span, geometry, pictured, is_run}
 use Rattle.pm_view.specs.Counts.{max_changes, IsAtStop}
 use Rattle.pm_view.specs.Log.{Phase, Idle, Open, Drawn, Sealing, Applying, Clearing, Retiring, Voiding}
 use Rattle.pm_view.specs.Steps.{Step}
@@ -17,7 +17,7 @@ use Rattle.pm_view.specs.View.{View, Numbered}
 use Rattle.pm_view.specs.Views.{occupancy_of}
 use Rattle.pm_world.specs.States.{State, Call}
 use Rattle.pm_world.specs.Sights.{is_recorded, call_in, sight_of}
-use Rattle.pm_world.specs.Lanes.{Ghost, owns, settled, is_in_making, is_decided, Bits}
+use Rattle.pm_world.specs.Lanes.{Ghost, owns, settled, is_decided, Bits}
 use Rattle.pm_world.specs.Logs.{LogFits}
 use Rattle.pm_world.specs.Memory.{Memory, PoolWord, ZoneLock, CommitCounter, StopWord, occ_at, bits_of, cells_of}
 
@@ -76,6 +76,13 @@ pub record AloneFits (mem : Memory) (v : View) : Type 0 where
   pub words : (w x : ℕ) → pictured v.fixed.shape v.claims w ≡ Some x → mem (PoolWord w) ≡ x
   pub occupancy : (at : Occ) (x : ℕ) → occupancy_of v.occupancy at ≡ Some x → mem (occ_at at) ≡ x
 
+-- the word is in a block that the lane found, as it knows blocks
+abbrev pub is_of_found : Shape → List Claim → Place → Bool
+is_of_found sh t (InRun c w) = found sh t (block_of (geometry sh t) (InRun c w) 64)
+is_of_found sh t (InHuge c w) = found sh t (Big (first sh t c)) && in_span (first sh t c) (span sh t (first sh t c)) c
+is_of_found sh t (Descr c) = false
+is_of_found sh t RootWord = false
+
 -- the log of a lane's view stands in its area
 abbrev pub AreaFits : Opening → Memory → Past → ℕ → View → Type 0
 AreaFits o mem g k v = LogFits o.shape k ((cells_of o.shape mem).generation k) ((cells_of o.shape mem).seal k) ((cells_of o.shape mem).entry k) ((cells_of o.shape mem).slot k)
@@ -90,8 +97,8 @@ pub record LaneFits (o : Opening) (mem : Memory) (g : Past) (k : ℕ) (v : View)
       (settled_words o g) (owns g.geo (settled_words o g) (sight_of v).hold) (sight_of v).picture v.log v.changes
   -- once the call is decided the lane makes no run: what it made was drained before
   pub made : is_decided v.log.phase ≡ true → (c : ℕ) → making v.fixed.shape v.claims c ≡ false
-  -- and it makes none of a chunk of which it recorded words
-  pub recorded : is_decided v.log.phase ≡ false → (p : Place) → is_recorded v.log.records p ≡ true → is_in_making (sight_of v).hold p ≡ false
+  -- and before, each recorded word is in a block that it found
+  pub recorded : is_decided v.log.phase ≡ false → (p : Place) → is_recorded v.log.records p ≡ true → is_of_found v.fixed.shape v.claims p ≡ true
   pub number : NumberFits v.log.phase v.number
   pub zones : (z : ℕ) → (mem (ZoneLock z) == suc k) ≡ list_any (λ other. other == z) v.zones
   pub masks : All (λ (c : Undrained). (c.mask < 2 ^ 64) × (c.word < words_of o.shape)) v.changes
