@@ -62,3 +62,6 @@ pub mod StoreRecord
 pub mod Writing
 pub mod StoreWord
 pub mod StepChunks
+pub mod CrashFaults
+pub mod CrashClashes
+pub mod SlotWords
