@@ -1,20 +1,18 @@
 -- ONE MORE ENTRY of an open call, over bits: what the lane's sight owes, where the entry's bits are of its own blocks, of blocks that it found, or of data
 -- that it may change.
 use Rattle.std.specs.Prelude.{List, [], ◌∷◌, ◌++◌}
-use Rattle.std.specs.List.{list_any}
-use Rattle.std.proofs.Common.{◌≡◌, ◌≢◌, ℕ, zero, suc, ◌+◌, ◌*◌, ◌/◌, ◌%◌, ◌<◌, ◌≤◌, ◌⊎◌, inl, inr, ⊎_elim, nat_lt, Bool, true, false, cond, ◌==◌, ◌&&◌, ◌||◌, eqb, refl, sym, ap, ◌∙◌, subst, arith, eq-eqb, Option, None, Some}
-use Rattle.std.proofs.lemmas.Bool.{cases_Bool, eqb-true, both_ways, and_parts, and_from, or_cases, or_left, or_right, cond-true, cond-false, false_from_ne_true}
+use Rattle.std.proofs.Common.{◌≡◌, ℕ, zero, suc, ◌+◌, ◌*◌, ◌<◌, ◌⊎◌, inl, inr, ⊎_elim, Bool, true, false, cond, ◌&&◌, ◌||◌, refl, sym, ap, ◌∙◌, subst, arith, Option, None, Some}
+use Rattle.std.proofs.lemmas.Bool.{cases_Bool, eqb-true, both_ways, and_parts, and_from, or_cases, or_right, cond-true, cond-false, false_from_ne_true}
 use Rattle.pm_layout.specs.declared.shape.Shape.{Shape}
 use Rattle.pm_view.specs.Changes.{Undrained}
-use Rattle.pm_view.specs.Claims.{Claim, class, last_first, first, span, geometry}
-use Rattle.pm_view.specs.Entries.{Entry, Redo, delta, latest, redos, with_redo, turn, first_of_two}
-use Rattle.pm_view.specs.Log.{Phase, Open, Recorded, Log, old_in, old_of}
+use Rattle.pm_view.specs.Claims.{class, last_first, first, span, geometry}
+use Rattle.pm_view.specs.Entries.{Entry, delta, latest, redos, with_redo, turn, first_of_two}
+use Rattle.pm_view.specs.Log.{Open, Recorded, Log, old_in, old_of}
 use Rattle.pm_view.specs.Places.{Place, InRun, InHuge, Descr, RootWord, Block, Small, Big, Root, part, block_of, header, is_data, in_span}
 use Rattle.pm_view.specs.View.{View}
 use Rattle.pm_world.specs.States.{State, Diff, diff, given, over, there, val, spans, Cells}
-use Rattle.pm_world.specs.Sights.{Hold, Sight, is_made, is_recorded, is_slot_drained, is_logged_from, is_logged, fresh, call_of, call_in, sight_of}
-use Rattle.pm_world.specs.Lanes.{Ghost, own, has, owns, valid, is_in_making, TurnBefore, DescrFits, is_size, SightFits, GeoFits}
-use Rattle.pm_world.proofs.Births.{first_known, none_of}
+use Rattle.pm_world.specs.Sights.{Hold, is_made, is_recorded, is_slot_drained, is_logged_from, call_of, call_in, sight_of}
+use Rattle.pm_world.specs.Lanes.{Ghost, own, has, owns, is_in_making, TurnBefore, DescrFits, is_size, SightFits, GeoFits}
 use Rattle.pm_world.proofs.Frame.{mine_own, own_has, some_first, fresh_given, big_valid, maker_no_run, maker_owns, small_run}
 
 -- what one entry makes of each bit
