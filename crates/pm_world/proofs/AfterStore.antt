@@ -34,10 +34,10 @@ use Rattle.pm_world.proofs.Worlds.{AreasAside, turned, world_with, stops_stay}
 abbrev pub after_store : View → ℕ → ℕ → Log → View
 after_store v w n log = changed v w all_bits n v.claims log
 
-counts_on : (s : Option ℕ) (c : ℕ) → ForSome s (λ stop. c < stop) → ForSome s (λ stop. c + 1 ≤ stop)
+pub counts_on : (s : Option ℕ) (c : ℕ) → ForSome s (λ stop. c < stop) → ForSome s (λ stop. c + 1 ≤ stop)
 counts_on s c e y q = let l = e y q in omega arith
 
-stop_stays : (s : Option ℕ) (c : ℕ) → IsSomeAnd s (λ stop. stop ≤ c) → IsSomeAnd s (λ stop. stop ≤ c + 1)
+pub stop_stays : (s : Option ℕ) (c : ℕ) → IsSomeAnd s (λ stop. stop ≤ c) → IsSomeAnd s (λ stop. stop ≤ c + 1)
 stop_stays None c e = e
 stop_stays (Some stop) c e = omega arith
 

@@ -130,26 +130,26 @@ module _ (o : Opening) (mem new : Memory) (views views' : Views) (g : Past) (x :
     clears_log : (views k).log.phase ≡ Applying [] → part_of o.shape k w ≡ SealPart → Clears (views k) n [] → Logged o mem new views views' g x k ink w n 1 at (omega arith) m due b (record (views k).log { phase = Clearing })
     clears_log e part c = let l = log_in (Applying []) e in let whole = l.phase.0 in let left = l.phase.1 in
         let bumped : (views k).log.bumped ≡ true = true_from_ne_false (views k).log.bumped (λ q. let z = (left.to_end q).1 in omega arith) in record {
-      first = l.first;
-      last = l.last;
-      below = l.below;
-      stored = words_else (word_of_generation o.shape k) (λ q. omega arith) ∙ l.stored;
-      bump = bumped;
-      sealed = ap (put1 (λ u. mem (PoolWord u)) w n) (let q : word_of_seal o.shape k ≡ w = omega arith in q) ∙ (put1_here (λ u. mem (PoolWord u)) w n ∙ c.zero_);
-      entries_most = l.entries_most;
-      records_most = l.records_most;
-      pairs = λ i d q. let z = l.pairs i d q in (words_else (word_of_entry o.shape k i + 0) (λ r. omega arith) ∙ z.0, words_else (word_of_entry o.shape k i + 1) (λ r. omega arith) ∙ z.1, z.2, z.3);
-      pair_part = λ i q. words_else (word_of_entry o.shape k (length (views k).log.entries) + i) (λ r. omega arith) ∙ l.pair_part i q;
-      records = λ i r q. let z = l.records i r q in (λ y s. words_else (8 * line_of_slot o.shape k i + y) (λ t. omega arith) ∙ z.0 y s, z.1, z.2, z.3, z.4, z.5);
-      once = l.once;
-      olds = λ p y q i. ((l.olds p y q i).0, λ u. absurd (both_ways true u refl));
-      slot_part = λ i q. words_else (8 * line_of_slot o.shape k (length (views k).log.records) + i) (λ t. omega arith) ∙ l.slot_part i q;
-      stale = λ i u q z t. l.stale i u q z (sym (ap Rattle.pm_record.specs.Undo.undo_of (λ j. slots i j)) ∙ t);
-      area_changes = all_cons (λ (d : Undrained). AreaChange Clearing (length (views k).log.entries) (views k).log.generation (part_of o.shape k d.word) d) (undrained_by (views k) w) (views k).changes
-          (subst (λ q. AreaChange Clearing (length (views k).log.entries) (views k).log.generation q (undrained_by (views k) w)) (sym part) (known_old (views k) w (length (views k).log.entries) (let z = l.entries_most in omega arith) (ap (value_in (views k)) seal_at ∙ c.known)))
-          (λ i d q. let z = ap length c.drained in absurd (omega arith));
-      phase = (record { front = whole.front; are = whole.are; placed = whole.placed }, l.phase.2, l.phase.3);
-    }
+          first = l.first;
+          last = l.last;
+          below = l.below;
+          stored = words_else (word_of_generation o.shape k) (λ q. omega arith) ∙ l.stored;
+          bump = bumped;
+          sealed = ap (put1 (λ u. mem (PoolWord u)) w n) (let q : word_of_seal o.shape k ≡ w = omega arith in q) ∙ (put1_here (λ u. mem (PoolWord u)) w n ∙ c.zero_);
+          entries_most = l.entries_most;
+          records_most = l.records_most;
+          pairs = λ i d q. let z = l.pairs i d q in (words_else (word_of_entry o.shape k i + 0) (λ r. omega arith) ∙ z.0, words_else (word_of_entry o.shape k i + 1) (λ r. omega arith) ∙ z.1, z.2, z.3);
+          pair_part = λ i q. words_else (word_of_entry o.shape k (length (views k).log.entries) + i) (λ r. omega arith) ∙ l.pair_part i q;
+          records = λ i r q. let z = l.records i r q in (λ y s. words_else (8 * line_of_slot o.shape k i + y) (λ t. omega arith) ∙ z.0 y s, z.1, z.2, z.3, z.4, z.5);
+          once = l.once;
+          olds = λ p y q i. ((l.olds p y q i).0, λ u. absurd (both_ways true u refl));
+          slot_part = λ i q. words_else (8 * line_of_slot o.shape k (length (views k).log.records) + i) (λ t. omega arith) ∙ l.slot_part i q;
+          stale = λ i u q z t. l.stale i u q z (sym (ap Rattle.pm_record.specs.Undo.undo_of (λ j. slots i j)) ∙ t);
+          area_changes = all_cons (λ (d : Undrained). AreaChange Clearing (length (views k).log.entries) (views k).log.generation (part_of o.shape k d.word) d) (undrained_by (views k) w) (views k).changes
+              (subst (λ q. AreaChange Clearing (length (views k).log.entries) (views k).log.generation q (undrained_by (views k) w)) (sym part) (known_old (views k) w (length (views k).log.entries) (let z = l.entries_most in omega arith) (ap (value_in (views k)) seal_at ∙ c.known)))
+              (λ i d q. let z = ap length c.drained in absurd (omega arith));
+          phase = (record { front = whole.front; are = whole.are; placed = whole.placed }, l.phase.2, l.phase.3);
+        }
       where
         seal_at : w ≡ word_of_seal (views k).fixed.shape (views k).fixed.lane
         seal_at = at ∙ subst (λ s. word_of_generation o.shape k + 1 ≡ word_of_seal s (views k).fixed.lane) (sym (x.each_lane k ink).shape) (subst (λ l. word_of_generation o.shape k + 1 ≡ word_of_seal o.shape l) (sym (x.each_lane k ink).lane) (omega arith))

@@ -159,9 +159,22 @@ module _ (w n i : ℕ) (o : Opening) (mem new : Memory) (views views' : Views) (
   voiding : i ≡ 0 → (views k).log.phase ≡ Open → part_in (views k) w ≡ GenerationPart → Voids (views k) n → Turn views views' k (after_store (views k) w n (record (views k).log { phase = Voiding; bumped = true })) → World o new views' g
   voiding z e p a t = let l = old_log Open e in let f = old_sight Open e in
       world_in Voiding true refl (λ j y. subst (λ z. flies_at z j) e y)
-      record { hold = f.hold; bits = f.bits; picture = f.picture; turns = no_turn (views k).log.entries a.ends.unentered; call = record { flight = tt; todo = f.call.todo; descr = f.call.descr }; reach = f.reach; plain = f.plain; logged = f.logged; stored = f.stored; fresh = f.fresh; sizes = f.sizes;
-      born = λ y. absurd (both_ways false refl y); guarded = λ y. absurd (both_ways false refl y);
-      soiled = λ q c y. absurd (both_ways false refl (sym (ap (λ cs. is_use (sight_of (views k)).hold q && is_dirty_bit cs (Rattle.pm_view.specs.Places.word_of (views k).fixed.shape q) c) clean ∙ and_false (is_use (sight_of (views k)).hold q)) ∙ y)) }
+      record {
+        hold = f.hold;
+        bits = f.bits;
+        picture = f.picture;
+        turns = no_turn (views k).log.entries a.ends.unentered;
+        call = record { flight = tt; todo = f.call.todo; descr = f.call.descr };
+        reach = f.reach;
+        plain = f.plain;
+        logged = f.logged;
+        stored = f.stored;
+        fresh = f.fresh;
+        sizes = f.sizes;
+        born = λ y. absurd (both_ways false refl y);
+        guarded = λ y. absurd (both_ways false refl y);
+        soiled = λ q c y. absurd (both_ways false refl (sym (ap (λ cs. is_use (sight_of (views k)).hold q && is_dirty_bit cs (Rattle.pm_view.specs.Places.word_of (views k).fixed.shape q) c) clean ∙ and_false (is_use (sight_of (views k)).hold q)) ∙ y));
+      }
       (log_in Open Voiding true e refl (below_of a.ends.below) (generation_here z a.ends.next) refl (else_ (word_of_seal o.shape k) (λ q. omega arith) ∙ l.sealed)
       (subst (λ q. AreaChange Voiding (length (views k).log.entries) (views k).log.generation q (undrained_by (views k) w)) (sym (part_at GenerationPart p)) (old_generation z a.ends.known))
       (a.ends.unentered, a.whole.0, a.whole.1, a.restored)) (subst (λ z. NumberFits z (views k).number) e (x.each_lane k ink).number) t
