@@ -28,6 +28,7 @@ pub mod StepClaims
 pub mod StepLocks
 pub mod Looks
 pub mod Descriptors
+pub mod Learns
 pub mod StepZones
 pub mod StepNumber
 pub mod Occupies
