@@ -51,3 +51,4 @@ pub mod StoreEntry
 pub mod StoreEnd
 pub mod RecordBits
 pub mod StepFlush
+pub mod Known
