@@ -52,3 +52,4 @@ pub mod StoreEnd
 pub mod RecordBits
 pub mod StepFlush
 pub mod Known
+pub mod StepLoad
