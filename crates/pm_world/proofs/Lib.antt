@@ -53,3 +53,4 @@ pub mod RecordBits
 pub mod StepFlush
 pub mod Known
 pub mod StepLoad
+pub mod StepLearn

@@ -63,9 +63,9 @@ pub load_voiding : (part : Part) → KeepsLoadAt Voiding part
 load_voiding part w n o mem views views' g k x ink l e ph p t = unlearned o mem views views' g k x ink t
 
 -- ---- BEFORE, IT KNOWS THE WORD
--- a lane knows each word that it has a record of
+-- a record is of data, and the lane knows the word
 abbrev pub RecordsKnown : View → Type 0
-RecordsKnown v = (p : Place) (b : ℕ) → is_recorded v.log.records p ≡ true → given ((sight_of v).picture p b) ≡ true
+RecordsKnown v = (p : Place) → is_recorded v.log.records p ≡ true → (is_data p ≡ true) × ((b : ℕ) → given ((sight_of v).picture p b) ≡ true)
 
 picked : (t a : Bool) (q : Option ℕ) (n : ℕ) (f : ℕ → Bool) → given (cond a (option_map f q) None) ≡ true → given (cond a (option_map f (cond t (Some n) q)) None) ≡ true
 picked t false q n f e = e
@@ -172,7 +172,7 @@ module _ (o : Opening) (mem : Memory) (views : Views) (g : Past) (x : World o me
       (λ (m : M ≡ true). let z = made_turn (turn (latest (redos (views k).log.entries)) B) m in
       let same = block_so o.shape (cells_of o.shape mem) (settled_words o g) (Flies (ghost_of g) k) (ghost_of g) x.bits.geo k (views k) fit p b (own_has (sight_of (views k)).hold B (mine_own (sight_of (views k)).hold B (turned_mine B z))) in
       let now = ap (turn (latest (redos (views k).log.entries))) (sym same) ∙ z in let q = of_turned p b y.0 now in inr (now, q.0, q.1))
-      (λ (r : R ≡ true). inl (given_by (made_at p b) ((sight_of (views k)).picture p b) c (recorded p b r))) (or_cases M R y.1)
+      (λ (r : R ≡ true). inl (given_by (made_at p b) ((sight_of (views k)).picture p b) c ((recorded p r).1 b))) (or_cases M R y.1)
 
   learning_fits : Learns o.shape o.lanes (origin o) (cells_of o.shape mem) (λ j. sight_of (views j)) (ghost_of g) x.bits k ink pc fr
   learning_fits = record {
