@@ -36,6 +36,7 @@ pub mod Vacates
 pub mod Runs
 pub mod WordPlaces
 pub mod OccWorlds
+pub mod RowBits
 pub mod StepOccupies
 pub mod Decides
 pub mod StepDrain
@@ -44,6 +45,9 @@ pub mod AfterStore
 pub mod StoreArea
 pub mod StepChange
 pub mod Applies
+pub mod StepApply
+pub mod StepEntries
+pub mod StepShared
 pub mod PlacesAt
 pub mod Entering
 pub mod EntryBits
@@ -54,3 +58,10 @@ pub mod StepFlush
 pub mod Known
 pub mod StepLoad
 pub mod StepLearn
+pub mod StepVacate
+pub mod StepDrops
+pub mod CrashDescriptors
+pub mod Recording
+pub mod StoreRecord
+pub mod Writing
+pub mod StoreWord

@@ -159,6 +159,7 @@ lane_marked o mem g k line v f due = let l = f.log in record {
     phase = phase_marked o.shape k line (sight_of v).picture v.log v.changes v.log.phase l.phase;
   };
   made = f.made;
+  recorded = λ u p r. let z = f.recorded u p r in (z.0, z.1);
   number = f.number;
   zones = f.zones;
   masks = all_marked line (λ (c : Undrained). (c.mask < 2 ^ 64) × (c.word < words_of o.shape)) (λ c q. q) v.changes f.masks;

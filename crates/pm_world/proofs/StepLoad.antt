@@ -25,6 +25,7 @@ use Rattle.pm_world.proofs.EntryBits.{data_bit}
 use Rattle.pm_world.proofs.Frame.{mine_own, own_has, some_first, maker_owns}
 use Rattle.pm_world.proofs.Known.{block_so, picture_so, in_pool, known_so}
 use Rattle.pm_world.proofs.Learns.{Learns, learns}
+use Rattle.pm_world.proofs.OccWorlds.{early_undecided}
 use Rattle.pm_world.proofs.StepClaims.{claims_step}
 use Rattle.pm_world.proofs.StepPlain.{plain_step}
 use Rattle.pm_world.proofs.Worlds.{turned}
@@ -36,9 +37,10 @@ KeepsLoadAt ph part = (w n : ℕ) (o : Opening) (mem : Memory) (views views' : V
 
 -- A LOAD KEEPS THE WORLD, where it does in each phase, of each word
 pub load_from : ((ph : Phase) (part : Part) → KeepsLoadAt ph part) → (w n : ℕ) → Keeps (Load w n)
-load_from keeps w n o mem new views views' g k x ink law moves t = let v = views k in
-    (subst (λ m. World o m views' g) (λ i l. sym (moves.0 l) i) (keeps v.log.phase (part_in v w) w n o mem views views' g k x ink (subst (λ s. w < words_of s) (x.each_lane k ink).shape law.allowed) moves.1 refl refl t),
-    subst (FindsKnown v w) (sym moves.1) (known_so o mem views g x k ink w))
+load_from keeps w n o mem new views views' g k x ink law moves t = let v = views k in (
+  subst (λ m. World o m views' g) (λ i l. sym (moves.0 l) i) (keeps v.log.phase (part_in v w) w n o mem views views' g k x ink (subst (λ s. w < words_of s) (x.each_lane k ink).shape law.allowed) moves.1 refl refl t),
+  subst (FindsKnown v w) (sym moves.1) (known_so o mem views g x k ink w),
+)
 
 -- ---- ONCE ITS NUMBER IS DRAWN a lane learns nothing from loads
 unlearned : (o : Opening) (mem : Memory) (views views' : Views) (g : Past) (k : ℕ) → World o mem views g → k < o.lanes → Turn views views' k (views k) → World o mem views' g
@@ -66,6 +68,9 @@ load_voiding part w n o mem views views' g k x ink l e ph p t = unlearned o mem 
 -- a record is of data, and the lane knows the word
 abbrev pub RecordsKnown : View → Type 0
 RecordsKnown v = (p : Place) → is_recorded v.log.records p ≡ true → (is_data p ≡ true) × ((b : ℕ) → given ((sight_of v).picture p b) ≡ true)
+
+pub records_known : (o : Opening) (mem : Memory) (views : Views) (g : Past) (k : ℕ) → World o mem views g → k < o.lanes → is_early (views k).log.phase ≡ true → RecordsKnown (views k)
+records_known o mem views g k x ink early p r = let f = (x.each_lane k ink).recorded (early_undecided (views k).log.phase early).0 p r in (f.0, λ b. (f.1 b).1)
 
 picked : (t a : Bool) (q : Option ℕ) (n : ℕ) (f : ℕ → Bool) → given (cond a (option_map f q) None) ≡ true → given (cond a (option_map f (cond t (Some n) q)) None) ≡ true
 picked t false q n f e = e
@@ -110,8 +115,11 @@ early_mine Clearing l m h e t = absurd (both_ways false refl e)
 early_mine (Retiring n) l m h e t = absurd (both_ways false refl e)
 early_mine Voiding l m h e t = absurd (both_ways false refl e)
 
-module _ (o : Opening) (mem : Memory) (views : Views) (g : Past) (x : World o mem views g) (k : ℕ) (ink : k < o.lanes) (early : is_early (views k).log.phase ≡ true) (recorded : RecordsKnown (views k))
+module _ (o : Opening) (mem : Memory) (views : Views) (g : Past) (x : World o mem views g) (k : ℕ) (ink : k < o.lanes) (early : is_early (views k).log.phase ≡ true)
     (w n : ℕ) (inside : w < words_of o.shape) (word : n ≡ mem (PoolWord w)) where
+  recorded : RecordsKnown (views k)
+  recorded = records_known o mem views g k x ink early
+
   fit : SightFits o.shape (cells_of o.shape mem) (settled_words o g) (Flies (ghost_of g) k) (ghost_of g) k (sight_of (views k))
   fit = x.bits.each_lane k
 
@@ -159,9 +167,11 @@ module _ (o : Opening) (mem : Memory) (views : Views) (g : Past) (x : World o me
   of_turned : (p : Place) (b : ℕ) → is_data p ≡ true → turn (latest (redos (views k).log.entries)) (block_of g.geo p b) ≡ Some true
       → (owns g.geo (settled_words o g) (sight_of (views k)).hold p b ≡ true) × (is_in_making (sight_of (views k)).hold p ≡ false)
   of_turned (InRun c u) b d e = (mine_own (sight_of (views k)).hold (block_of g.geo (InRun c u) b) (turned_mine (block_of g.geo (InRun c u) b) e), turned_plain (block_of g.geo (InRun c u) b) e)
-  of_turned (InHuge c u) b d e = (mine_own (sight_of (views k)).hold (Big (g.geo.first c)) (turned_mine (Big (g.geo.first c)) e),
-      false_from_ne_true ((sight_of (views k)).hold.making c) (λ m. let y = maker_owns o.shape (cells_of o.shape mem) (settled_words o g) (Flies (ghost_of g) k) (ghost_of g) x.bits.geo k (sight_of (views k)) fit c m in
-      both_ways ((sight_of (views k)).hold.making (g.geo.first c)) (turned_plain (Big (g.geo.first c)) e) (ap (sight_of (views k)).hold.making y.1 ∙ m)))
+  of_turned (InHuge c u) b d e = (
+    mine_own (sight_of (views k)).hold (Big (g.geo.first c)) (turned_mine (Big (g.geo.first c)) e),
+    false_from_ne_true ((sight_of (views k)).hold.making c) (λ m. let y = maker_owns o.shape (cells_of o.shape mem) (settled_words o g) (Flies (ghost_of g) k) (ghost_of g) x.bits.geo k (sight_of (views k)) fit c m in
+        both_ways ((sight_of (views k)).hold.making (g.geo.first c)) (turned_plain (Big (g.geo.first c)) e) (ap (sight_of (views k)).hold.making y.1 ∙ m)),
+  )
   of_turned (Descr c) b d e = absurd (both_ways false refl d)
   of_turned RootWord b d e = absurd (both_ways false refl d)
 
@@ -186,7 +196,8 @@ module _ (o : Opening) (mem : Memory) (views : Views) (g : Past) (x : World o me
 
   -- it knows the word
   pub knows_word : (views' : Views) → Turn views views' k (record (views k) { claims = Knows w n ∷ (views k).claims }) → World o mem views' g
-  knows_word views' t = let v = views k in claims_step o mem mem views views' g x k ink 0 (λ l ne. refl) (Knows w n ∷ v.claims) v.seen t early (λ p b r q. q)
+  knows_word views' t = let v = views k in claims_step o mem mem views views' g x k ink 0 (λ l ne. refl) (Knows w n ∷ v.claims) v.seen t early (λ p b r q. q) (λ p r B e. e)
+      (λ p b r d e. picked (w == word_of (views k).fixed.shape p) (is_pictured p) (old p) n (λ m. bit_at m b == 1) e)
       (λ one u y e. ⊎_elim (λ (q : w ≡ u). ap (λ a. mem (PoolWord a)) (sym q) ∙ (sym word ∙ some_num n y (sym (cond-true (w == u) (Some n) (pictured v.fixed.shape v.claims u) (eq-eqb w u q)) ∙ e)))
       (λ (ne : w ≢ u). ((x.each_lane k ink).alone one).words u y (sym (cond-false (w == u) (Some n) (pictured v.fixed.shape v.claims u) (ne_eqb w u ne)) ∙ e)) (cases_eq w u))
       (λ m j ne. refl) (λ m j ne. refl) refl

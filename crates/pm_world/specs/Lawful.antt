@@ -160,6 +160,7 @@ pub record MayFill (v : View) (w : ℕ) : Type 0 where
   pub plain : is_data place ≡ true
   pub own : is_mine v (block_in v place 64) ≡ true
   pub inside : is_inside v place ≡ true
+  pub unrecorded : is_recorded v.log.records place ≡ false
   pub unentered : v.log.entries ≡ []
 
 -- ---- A CHUNK IS MADE A RUN of a class: it is one chunk of the lane's own, its bitmap is 0 and nothing of it is undrained, and no entry is stored
