@@ -1,24 +1,23 @@
 -- WHAT A LANE KNOWS OF A WORD IS SO: of data of its blocks and of the root word, and of any word where it runs alone.
-use Rattle.std.specs.Prelude.{List}
 use Rattle.std.specs.Option.{option_map}
 use Rattle.std.specs.Int.{bit_at}
-use Rattle.std.proofs.Common.{◌≡◌, ℕ, ◌<◌, ◌⊎◌, inl, inr, ⊎_elim, nat_le, nat_lt, Bool, true, false, cond, ◌==◌, ◌&&◌, ◌||◌, eqb, refl, sym, ap, ◌∙◌, subst, eq-eqb, Option, None, Some}
+use Rattle.std.proofs.Common.{◌≡◌, ℕ, ◌<◌, ◌⊎◌, inl, inr, ⊎_elim, nat_le, nat_lt, Bool, true, false, cond, ◌==◌, ◌&&◌, ◌||◌, refl, sym, ap, ◌∙◌, subst, Option, None, Some}
 use Rattle.std.proofs.lemmas.Bool.{cases_Bool, eqb-true, both_ways, and_parts, and_from, or_cases, cond-true, cond-false}
 use Rattle.pm_layout.specs.declared.shape.Shape.{Shape}
 use Rattle.pm_layout.specs.Chunks.{chunks_of, word_of_root}
 use Rattle.pm_view.specs.Claims.{class, last_first, first, span, geometry, holds, mine, found, pictured, is_held_at, is_held}
 use Rattle.pm_view.specs.Founds.{FindsKnown}
 use Rattle.pm_view.specs.Log.{place_at}
-use Rattle.pm_view.specs.Places.{Place, InRun, InHuge, Descr, RootWord, Block, Small, Big, Root, part, block_of, is_data, is_place, in_span, word_of}
+use Rattle.pm_view.specs.Places.{Place, InRun, InHuge, Descr, RootWord, Small, Big, part, block_of, is_data, is_place, in_span, word_of}
 use Rattle.pm_view.specs.View.{View, runs_one}
 use Rattle.pm_world.specs.States.{State, Diff, read, Cells}
 use Rattle.pm_world.specs.Sights.{is_pictured, picture, sight_of}
 use Rattle.pm_world.specs.Lanes.{Ghost, own, has, owns, sees, Flies, SightFits, GeoFits}
 use Rattle.pm_world.specs.Memory.{Memory, PoolWord, bit, cells_of}
-use Rattle.pm_world.specs.World.{Opening, Views, Past, origin, ghost_of, settled_words, World}
+use Rattle.pm_world.specs.World.{Opening, Views, Past, ghost_of, settled_words, World}
 use Rattle.pm_world.proofs.EntryBits.{data_bit}
 use Rattle.pm_world.proofs.Frame.{mine_own, own_has, found_has, big_valid}
-use Rattle.pm_world.proofs.PlacesAt.{IsAt, is_at}
+use Rattle.pm_world.proofs.PlacesAt.{is_at}
 use Rattle.pm_world.proofs.StoreEntry.{same_bits}
 
 -- ---- THE BLOCK OF A WORD, as the lane knows it, where it has that block
@@ -60,9 +59,6 @@ module _ (sh : Shape) (cells : Cells) (S : State) (flies : ℕ → Diff → Type
 
 -- ---- THE WORD
 module _ (o : Opening) (mem : Memory) (views : Views) (g : Past) (x : World o mem views g) (k : ℕ) (ink : k < o.lanes) where
-  v : View
-  v = views k
-
   fit : SightFits o.shape (cells_of o.shape mem) (settled_words o g) (Flies (ghost_of g) k) (ghost_of g) k (sight_of (views k))
   fit = x.bits.each_lane k
 

@@ -1,14 +1,14 @@
 -- A FLUSH MARKS CHANGES of a lane, and changes nothing else that the world tells of it.
-use Rattle.std.specs.Prelude.{All, IsSomeAnd, List, [], ◌∷◌, length, map}
+use Rattle.std.specs.Prelude.{All, List, [], ◌∷◌, length}
 use Rattle.std.specs.List.{list_any}
 use Rattle.std.specs.Option.{ForSome}
-use Rattle.std.proofs.Common.{◌≡◌, ◌≢◌, ℕ, zero, suc, ◌+◌, ◌^◌, ◌<◌, ◌≤◌, Bool, true, false, ◌==◌, ◌&&◌, ◌||◌, not, refl, sym, ap, ◌∙◌, subst, arith, Option, None, Some}
+use Rattle.std.proofs.Common.{◌≡◌, ℕ, zero, suc, ◌^◌, ◌<◌, ◌≤◌, Bool, true, false, ◌==◌, ◌&&◌, ◌||◌, not, refl, sym, ap, ◌∙◌, subst, arith}
 use Rattle.std.specs.Int.{bit_at}
 use Rattle.std.proofs.lemmas.List.{length-map}
 use Rattle.pm_layout.specs.declared.shape.Shape.{Shape}
 use Rattle.pm_layout.specs.Areas.{line_of_slot}
 use Rattle.pm_layout.specs.Chunks.{words_of}
-use Rattle.pm_view.specs.Changes.{Undrained, is_in_line, mark, flushed, is_dirty_bit}
+use Rattle.pm_view.specs.Changes.{Undrained, is_in_line, mark, flushed}
 use Rattle.pm_view.specs.Counts.{max_changes}
 use Rattle.pm_view.specs.Log.{Phase, Idle, Open, Drawn, Sealing, Applying, Clearing, Retiring, Voiding, Recorded, Log, old_in}
 use Rattle.pm_view.specs.Parts.{Part, GenerationPart, SealPart, EntryPart, SlotPart, RootPart, DescriptorPart, ChunkPart, OtherPart, part_of}
@@ -16,12 +16,11 @@ use Rattle.pm_view.specs.Places.{Place}
 use Rattle.pm_view.specs.Steps.Step.{Flush}
 use Rattle.pm_view.specs.View.{View}
 use Rattle.pm_view.specs.Views.{after}
-use Rattle.pm_world.specs.States.{State, Diff, given}
+use Rattle.pm_world.specs.States.{Diff, given}
 use Rattle.pm_world.specs.Sights.{is_use, is_slot_drained, is_logged_from, hold_of, sight_of}
-use Rattle.pm_world.specs.Lanes.{owns}
-use Rattle.pm_world.specs.Logs.{AreaChange, PhaseFits, LogFits}
+use Rattle.pm_world.specs.Logs.{AreaChange, PhaseFits}
 use Rattle.pm_world.specs.Memory.{Memory}
-use Rattle.pm_world.specs.World.{Opening, Past, settled_words, LaneFits}
+use Rattle.pm_world.specs.World.{Opening, Past, LaneFits}
 use Rattle.pm_world.specs.Laws.{Keeps}
 use Rattle.pm_world.proofs.AfterStore.{stop_stays, counts_on}
 use Rattle.pm_world.proofs.StepDraw.{all_cons}

@@ -1,26 +1,24 @@
 -- A LANE LEARNS FROM A LOAD before its number is drawn: from a descriptor, from a bitmap, and of each word what it is.
-use Rattle.std.specs.Prelude.{List, [], ◌∷◌, if◌then◌else◌}
-use Rattle.std.specs.Option.{option_map}
-use Rattle.std.specs.Int.{bit_at}
-use Rattle.std.proofs.Common.{◌≡◌, ◌≢◌, ℕ, zero, suc, ◌+◌, ◌*◌, ◌<◌, ◌≤◌, ◌⊎◌, inl, inr, nat_lt, Bool, true, false, cond, ◌==◌, ◌&&◌, ◌||◌, eqb, refl, sym, ap, ◌∙◌, subst, arith, eq-eqb, ne_eqb, Option, None, Some}
+use Rattle.std.specs.Prelude.{List, ◌∷◌, if◌then◌else◌}
+use Rattle.std.proofs.Common.{◌≡◌, ◌≢◌, ℕ, zero, suc, ◌+◌, ◌<◌, nat_lt, Bool, true, false, cond, ◌==◌, ◌&&◌, ◌||◌, refl, sym, ap, ◌∙◌, subst, arith, eq-eqb, ne_eqb, Option, None, Some}
 use Rattle.std.proofs.lemmas.Bool.{ltb-true, both_ways, and_parts, and_from, or_left, or_right, cond-true, cond-false}
 use Rattle.pm_layout.specs.declared.shape.Shape.{Shape}
 use Rattle.pm_layout.specs.Areas.{word_of_generation, word_of_seal}
 use Rattle.pm_layout.specs.Chunks.{words_of, chunks_of, word_of_chunk, word_of_descriptor}
 use Rattle.pm_view.specs.Claims.{Claim, Knows, SawBitmap, SawDescriptor, locked, header_in, geometry, here, found, pictured, making_of, shown_by_bitmap, shown_by_descriptor}
-use Rattle.pm_view.specs.Entries.{Entry, latest, redos, turn}
+use Rattle.pm_view.specs.Entries.{latest, redos, turn}
 use Rattle.pm_view.specs.Log.{Phase, Idle, Open, Drawn, Sealing, Applying, Clearing, Retiring, Voiding, is_early}
 use Rattle.pm_view.specs.Parts.{Part, GenerationPart, SealPart, EntryPart, SlotPart, RootPart, DescriptorPart, ChunkPart, OtherPart, is_entry_word, is_slot_word, pool_part, part_of, place_in}
-use Rattle.pm_view.specs.Places.{Place, InRun, InHuge, Descr, RootWord, Block, Small, Big, Root, block_of, is_data}
+use Rattle.pm_view.specs.Places.{Place, InRun, InHuge, Descr, RootWord, Block, block_of, is_data}
 use Rattle.pm_view.specs.Steps.Step.{Load}
 use Rattle.pm_view.specs.View.{View}
-use Rattle.pm_view.specs.Views.{part_in, learned, seen_by}
+use Rattle.pm_view.specs.Views.{part_in, seen_by}
 use Rattle.pm_world.specs.States.{given}
-use Rattle.pm_world.specs.Sights.{Hold, is_recorded, is_made, picture, sight_of}
+use Rattle.pm_world.specs.Sights.{is_recorded, is_made, picture, sight_of}
 use Rattle.pm_world.specs.Lanes.{own, owns}
 use Rattle.pm_world.specs.Laws.{Turn, Keeps}
-use Rattle.pm_world.specs.Memory.{Memory, PoolWord, cells_of}
-use Rattle.pm_world.specs.World.{Opening, Views, Past, origin, ghost_of, settled_words, World}
+use Rattle.pm_world.specs.Memory.{Memory, PoolWord}
+use Rattle.pm_world.specs.World.{Opening, Views, Past, settled_words, World}
 use Rattle.pm_world.proofs.Descriptors.{header_then, saw_descriptor}
 use Rattle.pm_world.proofs.Looks.{saw_bitmap}
 use Rattle.pm_world.proofs.PlacesAt.{is_at}

@@ -1,27 +1,25 @@
 -- A LOAD tells a lane what a word is: before its number is drawn it learns from that, and later nothing changes.
-use Rattle.std.specs.Prelude.{List, [], ◌∷◌}
+use Rattle.std.specs.Prelude.{List, ◌∷◌}
 use Rattle.std.specs.Option.{option_map}
 use Rattle.std.specs.Int.{bit_at}
-use Rattle.std.proofs.Common.{◌≡◌, ◌≢◌, ℕ, zero, suc, ◌+◌, ◌*◌, ◌<◌, ◌≤◌, ◌⊎◌, inl, inr, ⊎_elim, nat_le, nat_lt, Bool, true, false, cond, ◌==◌, ◌&&◌, ◌||◌, not, eqb, refl, sym, ap, ◌∙◌, subst, arith, eq-eqb, ne_eqb, Option, None, Some}
-use Rattle.std.proofs.lemmas.Bool.{cases_eq, cases_lt, cases_Bool, eqb-true, lt-ltb, ltb-true, both_ways, and_parts, and_from, or_cases, cond-true, cond-false, false_from_ne_true}
-use Rattle.pm_layout.specs.declared.shape.Shape.{Shape}
-use Rattle.pm_layout.specs.Chunks.{words_of, chunks_of, word_of_chunk, word_of_descriptor}
-use Rattle.pm_view.specs.Claims.{Claim, Knows, class, geometry, mine, found, pictured}
+use Rattle.std.proofs.Common.{◌≡◌, ◌≢◌, ℕ, ◌+◌, ◌<◌, ◌≤◌, ◌⊎◌, inl, inr, ⊎_elim, nat_le, nat_lt, Bool, true, false, cond, ◌==◌, ◌&&◌, ◌||◌, refl, sym, ap, ◌∙◌, subst, arith, eq-eqb, ne_eqb, Option, None, Some}
+use Rattle.std.proofs.lemmas.Bool.{cases_eq, cases_lt, eqb-true, lt-ltb, both_ways, and_parts, and_from, or_cases, cond-true, cond-false, false_from_ne_true}
+use Rattle.pm_layout.specs.Chunks.{words_of, chunks_of, word_of_chunk}
+use Rattle.pm_view.specs.Claims.{Knows, geometry, mine, pictured}
 use Rattle.pm_view.specs.Entries.{latest, redos, turn}
 use Rattle.pm_view.specs.Founds.{FindsKnown}
 use Rattle.pm_view.specs.Log.{Phase, Idle, Open, Drawn, Sealing, Applying, Clearing, Retiring, Voiding, is_early}
-use Rattle.pm_view.specs.Parts.{Part, GenerationPart, SealPart, EntryPart, SlotPart, RootPart, DescriptorPart, ChunkPart, OtherPart}
-use Rattle.pm_view.specs.Places.{Place, InRun, InHuge, Descr, RootWord, Block, Small, Big, Root, place_of, bit_of, block_of, header, is_data, is_place, word_of}
+use Rattle.pm_view.specs.Parts.{Part}
+use Rattle.pm_view.specs.Places.{Place, InRun, InHuge, Descr, RootWord, Block, Small, Big, Root, place_of, block_of, header, is_data, is_place, word_of}
 use Rattle.pm_view.specs.Steps.Step.{Load}
 use Rattle.pm_view.specs.View.{View}
-use Rattle.pm_view.specs.Views.{part_in, learned, after}
-use Rattle.pm_world.specs.States.{State, Diff, diff, given, read}
-use Rattle.pm_world.specs.Sights.{Sight, is_pictured, is_recorded, is_made, picture, fresh, sight_of}
-use Rattle.pm_world.specs.Lanes.{own, has, owns, sees, is_in_making, TurnFits, Flies, SightFits}
+use Rattle.pm_view.specs.Views.{part_in, learned}
+use Rattle.pm_world.specs.States.{Diff, given, read}
+use Rattle.pm_world.specs.Sights.{is_pictured, is_recorded, is_made, picture, fresh, sight_of}
+use Rattle.pm_world.specs.Lanes.{owns, sees, is_in_making, TurnFits, Flies, SightFits}
 use Rattle.pm_world.specs.Laws.{Turn, Keeps}
 use Rattle.pm_world.specs.Memory.{Memory, PoolWord, bit, cells_of}
 use Rattle.pm_world.specs.World.{Opening, Views, Past, origin, ghost_of, settled_words, World}
-use Rattle.pm_world.proofs.EntryBits.{data_bit}
 use Rattle.pm_world.proofs.Frame.{mine_own, own_has, some_first, maker_owns}
 use Rattle.pm_world.proofs.Known.{block_so, picture_so, in_pool, known_so}
 use Rattle.pm_world.proofs.Learns.{Learns, learns}
