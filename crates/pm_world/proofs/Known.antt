@@ -2,47 +2,33 @@
 use Rattle.std.specs.Option.{option_map}
 use Rattle.std.specs.Int.{bit_at}
 use Rattle.std.proofs.Common.{◌≡◌, ℕ, ◌<◌, ◌⊎◌, inl, inr, ⊎_elim, nat_le, nat_lt, Bool, true, false, cond, ◌==◌, ◌&&◌, ◌||◌, refl, sym, ap, ◌∙◌, subst, Option, None, Some}
-use Rattle.std.proofs.lemmas.Bool.{cases_Bool, eqb-true, both_ways, and_parts, and_from, or_cases, cond-true, cond-false}
+use Rattle.std.proofs.lemmas.Bool.{eqb-true, both_ways, and_parts, and_from, or_cases, cond-true}
 use Rattle.pm_layout.specs.declared.shape.Shape.{Shape}
 use Rattle.pm_layout.specs.Chunks.{chunks_of, word_of_root}
-use Rattle.pm_view.specs.Claims.{class, last_first, first, span, geometry, holds, mine, found, pictured, is_held_at, is_held}
+use Rattle.pm_view.specs.Claims.{class, geometry, holds, mine, found, pictured, is_held_at, is_held}
 use Rattle.pm_view.specs.Founds.{FindsKnown}
 use Rattle.pm_view.specs.Log.{place_at}
-use Rattle.pm_view.specs.Places.{Place, InRun, InHuge, Descr, RootWord, Small, Big, part, block_of, is_data, is_place, in_span, word_of}
+use Rattle.pm_view.specs.Places.{Place, InRun, InHuge, Descr, RootWord, block_of, is_data, is_place, word_of}
 use Rattle.pm_view.specs.View.{View, runs_one}
 use Rattle.pm_world.specs.States.{State, Diff, read, Cells}
 use Rattle.pm_world.specs.Sights.{is_pictured, picture, sight_of}
-use Rattle.pm_world.specs.Lanes.{Ghost, own, has, owns, sees, Flies, SightFits, GeoFits}
+use Rattle.pm_world.specs.Lanes.{Ghost, own, owns, sees, Flies, SightFits, GeoFits}
 use Rattle.pm_world.specs.Memory.{Memory, PoolWord, bit, cells_of}
 use Rattle.pm_world.specs.World.{Opening, Views, Past, ghost_of, settled_words, World}
+use Rattle.pm_world.proofs.BlocksKnown.{block_so}
 use Rattle.pm_world.proofs.EntryBits.{data_bit}
-use Rattle.pm_world.proofs.Frame.{mine_own, own_has, found_has, big_valid}
+use Rattle.pm_world.proofs.Frame.{mine_own, own_has, found_has}
 use Rattle.pm_world.proofs.PlacesAt.{is_at}
 use Rattle.pm_world.proofs.StoreEntry.{same_bits}
 
--- ---- THE BLOCK OF A WORD, as the lane knows it, where it has that block
+-- ---- DATA of the lane's blocks
 module _ (sh : Shape) (cells : Cells) (S : State) (flies : ℕ → Diff → Type 0) (g : Ghost) (geo : GeoFits sh S g) (k : ℕ) (v : View) (f : SightFits sh cells S flies g k (sight_of v)) where
-  first_valid : (c : ℕ) → has (sight_of v).hold (Big c) ≡ true → g.geo.first c ≡ c
-  first_valid c o = ⊎_elim (λ (q : own (sight_of v).hold (Big c) ≡ true). big_valid sh cells S flies g geo k (sight_of v) f c q)
-      (λ (q : (sight_of v).hold.found (Big c) ≡ true). eqb-true (g.geo.first c) c (f.hold.found (Big c) q).1) (or_cases (own (sight_of v).hold (Big c)) ((sight_of v).hold.found (Big c)) o)
-
-  pub first_so : (c : ℕ) → has (sight_of v).hold (Big (first v.fixed.shape v.claims c)) ≡ true → first v.fixed.shape v.claims c ≡ g.geo.first c
-  first_so c o = let a = last_first v.fixed.shape v.claims c in let t = in_span a (span v.fixed.shape v.claims a) c in
-      ⊎_elim (λ (e : t ≡ true). let r = cond-true t a c e in r ∙ sym (eqb-true (g.geo.first c) a (f.hold.span a (subst (λ y. has (sight_of v).hold (Big y) ≡ true) r o) c ∙ e)))
-      (λ (e : t ≡ false). let r = cond-false t a c e in r ∙ sym (first_valid c (subst (λ y. has (sight_of v).hold (Big y) ≡ true) r o))) (cases_Bool t)
-
-  pub block_so : (p : Place) (b : ℕ) → has (sight_of v).hold (block_of (geometry v.fixed.shape v.claims) p b) ≡ true → block_of (geometry v.fixed.shape v.claims) p b ≡ block_of g.geo p b
-  block_so (InRun c u) b o = ap (λ cl. Small c (part cl u b)) (f.hold.class c (part (class v.claims c) u b) o)
-  block_so (InHuge c u) b o = ap (λ y. Big y) (first_so c o)
-  block_so (Descr c) b o = ap (λ y. Big y) (first_so c o)
-  block_so RootWord b o = refl
-
   -- data of a block that it has, or found, no other lane may change
   pub data_seen : (p : Place) (b : ℕ) → is_data p ≡ true → (mine v.fixed.shape v.claims (block_of (geometry v.fixed.shape v.claims) p 64) || found v.fixed.shape v.claims (block_of (geometry v.fixed.shape v.claims) p 64)) ≡ true
       → (owns g.geo S (sight_of v).hold p b ≡ true) ⊎ (sees g.geo S (sight_of v).hold p b ≡ true)
   data_seen p b d o = let B = block_of (geometry v.fixed.shape v.claims) p 64 in ⊎_elim
-      (λ (m : mine v.fixed.shape v.claims B ≡ true). let w = mine_own (sight_of v).hold B m in inl (owned p d (subst (λ C. own (sight_of v).hold C ≡ true) (block_so p 64 (own_has (sight_of v).hold B w) ∙ sym (data_bit g.geo p b d)) w)))
-      (λ (m : found v.fixed.shape v.claims B ≡ true). inr (seen p d (subst (λ C. (sight_of v).hold.found C ≡ true) (block_so p 64 (found_has (sight_of v).hold B m) ∙ sym (data_bit g.geo p b d)) m)))
+      (λ (m : mine v.fixed.shape v.claims B ≡ true). let w = mine_own (sight_of v).hold B m in inl (owned p d (subst (λ C. own (sight_of v).hold C ≡ true) (block_so sh cells S flies g geo k v v.log.phase f p 64 (own_has (sight_of v).hold B w) ∙ sym (data_bit g.geo p b d)) w)))
+      (λ (m : found v.fixed.shape v.claims B ≡ true). inr (seen p d (subst (λ C. (sight_of v).hold.found C ≡ true) (block_so sh cells S flies g geo k v v.log.phase f p 64 (found_has (sight_of v).hold B m) ∙ sym (data_bit g.geo p b d)) m)))
       (or_cases (mine v.fixed.shape v.claims B) (found v.fixed.shape v.claims B) o)
     where
       owned : (p : Place) → is_data p ≡ true → own (sight_of v).hold (block_of g.geo p b) ≡ true → owns g.geo S (sight_of v).hold p b ≡ true

@@ -65,3 +65,4 @@ pub mod Recording
 pub mod StoreRecord
 pub mod Writing
 pub mod StoreWord
+pub mod BlocksKnown

@@ -21,7 +21,8 @@ use Rattle.pm_world.specs.Laws.{Turn, Keeps}
 use Rattle.pm_world.specs.Memory.{Memory, PoolWord, bit, cells_of}
 use Rattle.pm_world.specs.World.{Opening, Views, Past, origin, ghost_of, settled_words, World}
 use Rattle.pm_world.proofs.Frame.{mine_own, own_has, some_first, maker_owns}
-use Rattle.pm_world.proofs.Known.{block_so, picture_so, in_pool, known_so}
+use Rattle.pm_world.proofs.BlocksKnown.{block_so}
+use Rattle.pm_world.proofs.Known.{picture_so, in_pool, known_so}
 use Rattle.pm_world.proofs.Learns.{Learns, learns}
 use Rattle.pm_world.proofs.OccWorlds.{early_undecided}
 use Rattle.pm_world.proofs.StepClaims.{claims_step}
@@ -178,7 +179,7 @@ module _ (o : Opening) (mem : Memory) (views : Views) (g : Past) (x : World o me
   made_more p b e = let B = block_of (geometry (views k).fixed.shape (views k).claims) p b in let M = is_made (turn (latest (redos (views k).log.entries)) B) in let R = is_recorded (views k).log.records p in
       let c = (given_in (made_at p b) (pc p b) e).0 in let y = and_parts (is_data p) (M || R) c in ⊎_elim
       (λ (m : M ≡ true). let z = made_turn (turn (latest (redos (views k).log.entries)) B) m in
-      let same = block_so o.shape (cells_of o.shape mem) (settled_words o g) (Flies (ghost_of g) k) (ghost_of g) x.bits.geo k (views k) fit p b (own_has (sight_of (views k)).hold B (mine_own (sight_of (views k)).hold B (turned_mine B z))) in
+      let same = block_so o.shape (cells_of o.shape mem) (settled_words o g) (Flies (ghost_of g) k) (ghost_of g) x.bits.geo k (views k) (views k).log.phase fit p b (own_has (sight_of (views k)).hold B (mine_own (sight_of (views k)).hold B (turned_mine B z))) in
       let now = ap (turn (latest (redos (views k).log.entries))) (sym same) ∙ z in let q = of_turned p b y.0 now in inr (now, q.0, q.1))
       (λ (r : R ≡ true). inl (given_by (made_at p b) ((sight_of (views k)).picture p b) c ((recorded p r).1 b))) (or_cases M R y.1)
 
