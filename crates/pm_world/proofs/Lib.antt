@@ -66,3 +66,7 @@ pub mod StoreRecord
 pub mod Writing
 pub mod StoreWord
 pub mod BlocksKnown
+pub mod StepChunks
+pub mod CrashFaults
+pub mod CrashClashes
+pub mod SlotWords

@@ -65,6 +65,7 @@ lane_again o mem new g k v f pools claims' seen' zones' occupancy' phase owned m
     olds = λ p y e b. let z = q.olds p y e b in (owned p b (ap given e) z.0, z.1);
     slot_part = λ i e. pools (8 * line_of_slot o.shape k (length v.log.records) + i) ∙ q.slot_part i e;
     stale = λ j u e a z. q.stale j u e a (sym (ap (λ s. undo_of (slot_list s)) (λ i n. pools (8 * line_of_slot o.shape k j + n) i)) ∙ z);
+    slot_changes = q.slot_changes;
     area_changes = q.area_changes;
     phase = phase;
   };

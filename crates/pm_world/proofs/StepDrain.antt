@@ -75,6 +75,7 @@ module _ (sh : Shape) (lane generation seal : ℕ) (entry slot : ℕ → ℕ →
     olds = λ p y e. absurd (both_ways false refl (ap given e));
     slot_part = λ i q. absurd (omega arith);
     stale = λ j u _ q e. ⊎_elim (λ (a : j < length l.records). older j u e a) (λ (a : length l.records ≤ j). let z = f.stale j u (used j a) q e in omega arith) (cases_lt j (length l.records));
+    slot_changes = λ i d q. let z = ap length clean in absurd (omega arith);
     area_changes = λ i d q. let z = ap length clean in absurd (omega arith);
     phase = phase;
   }
@@ -104,6 +105,7 @@ module _ (sh : Shape) (lane generation seal : ℕ) (entry slot : ℕ → ℕ →
     olds = λ p y q b. (to p b (f.olds p y q b).0, λ u. absurd (both_ways true u refl));
     slot_part = f.slot_part;
     stale = f.stale;
+    slot_changes = λ i d q. let z = ap length clean in absurd (omega arith);
     area_changes = λ i d q. let z = ap length clean in absurd (omega arith);
     phase = (whole phase.0, record { done = []; are = refl; ends = λ b. absurd (both_ways l.bumped bump b); to_end = λ _. last_of phase.0 }, phase.1, phase.2);
   }

@@ -200,6 +200,7 @@ module _ (o : Opening) (mem new : Memory) (views views' : Views) (g : Past) (x :
     olds = l.olds;
     slot_part = l.slot_part;
     stale = l.stale;
+    slot_changes = λ i d q. let z = ap length e in absurd (omega arith);
     area_changes = λ i d q. let z = ap length e in absurd (omega arith);
     phase = (e, a.whole.0, a.whole.1);
   }
@@ -231,6 +232,9 @@ module _ (o : Opening) (mem new : Memory) (views views' : Views) (g : Past) (x :
     olds = l.olds;
     slot_part = l.slot_part;
     stale = l.stale;
+    slot_changes = ⊎_elim (λ (e : (views k).changes ≡ []). λ i d q. let z = ap length e in absurd (omega arith))
+        (λ (e : ((views k).log.records ≡ []) × ((views k).log.entries ≡ []) × All (FilledChange (views k)) (views k).changes). λ i d q s. let c = Rattle.std.specs.Prelude.slice_index_or (views k).changes i d in
+        absurd (both_ways true (sym (subst (λ n. Rattle.pm_world.specs.Lawful.is_chunk_part (Rattle.pm_view.specs.Parts.part_of o.shape n c.word) ≡ true) f.lane (subst (λ t. Rattle.pm_world.specs.Lawful.is_chunk_part (Rattle.pm_view.specs.Parts.part_of t (views k).fixed.lane c.word) ≡ true) f.shape (e.2 i d q).0)) ∙ ap Rattle.pm_world.specs.Lawful.is_chunk_part s) refl)) a.drained;
     area_changes = ⊎_elim (λ (e : (views k).changes ≡ []). λ i d q. let z = ap length e in absurd (omega arith))
         (λ (e : ((views k).log.records ≡ []) × ((views k).log.entries ≡ []) × All (FilledChange (views k)) (views k).changes). λ i d q. let c = Rattle.std.specs.Prelude.slice_index_or (views k).changes i d in
         chunk_change (Rattle.pm_view.specs.Parts.part_of o.shape k c.word) c (subst (λ n. Rattle.pm_world.specs.Lawful.is_chunk_part (Rattle.pm_view.specs.Parts.part_of o.shape n c.word) ≡ true) f.lane (subst (λ s. Rattle.pm_world.specs.Lawful.is_chunk_part (Rattle.pm_view.specs.Parts.part_of s (views k).fixed.lane c.word) ≡ true) f.shape (e.2 i d q).0))) a.drained;

@@ -2,7 +2,7 @@
 use Rattle.std.specs.Prelude.{All, List, [], ◌∷◌, length}
 use Rattle.std.specs.List.{list_any}
 use Rattle.std.specs.Option.{ForSome}
-use Rattle.std.proofs.Common.{◌≡◌, ℕ, zero, suc, ◌^◌, ◌<◌, ◌≤◌, Bool, true, false, ◌==◌, ◌&&◌, ◌||◌, not, refl, sym, ap, ◌∙◌, subst, arith}
+use Rattle.std.proofs.Common.{◌*◌, ◌≡◌, ℕ, zero, suc, ◌^◌, ◌<◌, ◌≤◌, Bool, true, false, ◌==◌, ◌&&◌, ◌||◌, not, refl, sym, ap, ◌∙◌, subst, arith}
 use Rattle.std.specs.Int.{bit_at}
 use Rattle.std.proofs.lemmas.List.{length-map}
 use Rattle.pm_layout.specs.declared.shape.Shape.{Shape}
@@ -18,7 +18,7 @@ use Rattle.pm_view.specs.View.{View}
 use Rattle.pm_view.specs.Views.{after}
 use Rattle.pm_world.specs.States.{Diff, given}
 use Rattle.pm_world.specs.Sights.{is_use, is_slot_drained, is_logged_from, hold_of, sight_of}
-use Rattle.pm_world.specs.Logs.{AreaChange, PhaseFits}
+use Rattle.pm_world.specs.Logs.{used_slots, AreaChange, PhaseFits}
 use Rattle.pm_world.specs.Memory.{Memory}
 use Rattle.pm_world.specs.World.{Opening, Past, LaneFits}
 use Rattle.pm_world.specs.Laws.{Keeps}
@@ -153,6 +153,7 @@ lane_marked o mem g k line v f due = let l = f.log in record {
     olds = l.olds;
     slot_part = l.slot_part;
     stale = l.stale;
+    slot_changes = all_marked line (λ (c : Undrained). part_of o.shape k c.word ≡ SlotPart → c.word < 8 * line_of_slot o.shape k (used_slots v.log)) (λ c q. q) v.changes l.slot_changes;
     area_changes = all_marked line (λ (c : Undrained). AreaChange v.log.phase (length v.log.entries) v.log.generation (part_of o.shape k c.word) c)
         (λ c q. area_marked v.log.phase (part_of o.shape k c.word) (length v.log.entries) v.log.generation c q) v.changes l.area_changes;
     phase = phase_marked o.shape k line (sight_of v).picture v.log v.changes v.log.phase l.phase;

@@ -111,6 +111,7 @@ module _ (w n i : ℕ) (o : Opening) (mem new : Memory) (views views' : Views) (
     olds = λ p y q c. let t = l.olds p y q c in (t.0, λ u. t.1 (sym same ∙ u));
     slot_part = λ j q. slot_else (length (views k).log.records) j ∙ l.slot_part j q;
     stale = λ j u q z t. l.stale j u q z (sym (ap undo_of (slots j)) ∙ t);
+    slot_changes = all_cons (λ (c : Undrained). part_of o.shape k c.word ≡ Rattle.pm_view.specs.Parts.SlotPart → c.word < 8 * line_of_slot o.shape k (Rattle.pm_world.specs.Logs.used_slots ((views k).log))) (undrained_by (views k) w) (views k).changes (λ _. omega arith) (λ j d q. let z = ap length clean in absurd (omega arith));
     area_changes = all_cons (λ (c : Undrained). AreaChange ph (length (views k).log.entries) (views k).log.generation (part_of o.shape k c.word) c) (undrained_by (views k) w) (views k).changes change (λ j d q. let z = ap length clean in absurd (omega arith));
     phase = phase;
   }

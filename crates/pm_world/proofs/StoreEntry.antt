@@ -176,6 +176,7 @@ module _ (w n : ℕ) (o : Opening) (mem new : Memory) (views views' : Views) (g 
     olds = l.olds;
     slot_part = λ j q. let u = l.records_most in let s = l.phase.0 in slot_else (length (views k).log.records) j (omega arith) (omega arith) ∙ l.slot_part j q;
     stale = λ j u q z t. l.stale j u q z (sym (ap undo_of (slots j z)) ∙ t);
+    slot_changes = all_cons (λ (c : Undrained). part_of o.shape k c.word ≡ Rattle.pm_view.specs.Parts.SlotPart → c.word < 8 * line_of_slot o.shape k (Rattle.pm_world.specs.Logs.used_slots ((views k).log))) (undrained_by (views k) w) (views k).changes (λ _. let e = lane_at in let s = short in let r = free in omega arith) l.slot_changes;
     area_changes = all_cons (λ (c : Undrained). AreaChange Open (length es') (views k).log.generation (part_of o.shape k c.word) c) (undrained_by (views k) w) (views k).changes
         (subst (λ p. AreaChange Open (length es') (views k).log.generation p (undrained_by (views k) w)) (sym (subst (λ i. part_of o.shape i w ≡ EntryPart) (x.each_lane k ink).lane (subst (λ s. part_of s (views k).fixed.lane w ≡ EntryPart) (x.each_lane k ink).shape in_entry))) tt)
         (λ j d q. let c = Rattle.std.specs.Prelude.slice_index_or (views k).changes j d in open_change (length (views k).log.entries) (length es') (views k).log.generation (views k).log.generation (part_of o.shape k c.word) c (l.area_changes j d q));

@@ -149,6 +149,8 @@ module _ (w n : ℕ) (o : Opening) (mem new : Memory) (views views' : Views) (g 
     olds = λ p y q c. let t = olds p y q c in (t.0, λ _. t.1);
     slot_part = parts;
     stale = λ j u q z t. let s = used in let ne : j ≢ length (views k).log.records = λ e. omega arith in l.stale j u (let r = used_most (length (views k).log.records) (length (views k).log.slot) in omega arith) z (sym (ap undo_of (slots j ne)) ∙ t);
+    slot_changes = all_cons (λ (c : Undrained). part_of o.shape k c.word ≡ Rattle.pm_view.specs.Parts.SlotPart → c.word < 8 * line_of_slot o.shape k (Rattle.pm_world.specs.Logs.used_slots (record (views k).log { records = rs'; slot = slot' }))) (undrained_by (views k) w) (views k).changes (λ _. let e = lane_at in let s = short in let u = used in omega arith)
+        (λ i d q p. let z = l.slot_changes i d q p in let r = used_most (length (views k).log.records) (length (views k).log.slot) in let u = used in omega arith);
     area_changes = all_cons (λ (c : Undrained). AreaChange Open (length (views k).log.entries) (views k).log.generation (part_of o.shape k c.word) c) (undrained_by (views k) w) (views k).changes
         (subst (λ p. AreaChange Open (length (views k).log.entries) (views k).log.generation p (undrained_by (views k) w)) (sym (subst (λ i. part_of o.shape i w ≡ SlotPart) (x.each_lane k ink).lane (subst (λ s. part_of s (views k).fixed.lane w ≡ SlotPart) (x.each_lane k ink).shape in_slot))) tt) l.area_changes;
     phase = (few, l.phase.1);

@@ -26,6 +26,7 @@ use Rattle.pm_world.specs.Logs.{slot_list, AreaChange, LogFits}
 use Rattle.pm_world.specs.Laws.{Turn}
 use Rattle.pm_world.specs.Memory.{Memory, PoolWord, LockWord, RunWord, ZoneWord, ZoneLock, CommitCounter, StopWord, Becomes, bit, huge_told, run_told, bits_of, descriptor_told, cells_by, cells_of}
 use Rattle.pm_world.specs.World.{Opening, Views, Past, origin, ghost_of, settled_words, World}
+use Rattle.pm_world.proofs.SlotWords.{slot_range}
 use Rattle.pm_world.proofs.AfterStore.{after_store, store_world, keeps_at}
 use Rattle.pm_world.proofs.Cells.{cells_stored, bits_else, descriptor_else}
 use Rattle.pm_world.proofs.Entering.{block_known, logged_recorded}
@@ -296,6 +297,7 @@ module _ (w n : ℕ) (o : Opening) (mem new : Memory) (views views' : Views) (g 
       olds = l.olds;
       slot_part = λ j q. let s = short.0 in let u = Rattle.pm_world.proofs.Worlds.slot_taken (views k).log j q in let r = l.records_most in slot_else (length (views k).log.records) j (omega arith) (omega arith) ∙ l.slot_part j q;
       stale = λ j u q z t. l.stale j u q z (sym (ap undo_of (slots j z)) ∙ t);
+      slot_changes = all_cons (λ (c : Undrained). part_of o.shape k c.word ≡ Rattle.pm_view.specs.Parts.SlotPart → c.word < 8 * line_of_slot o.shape k (Rattle.pm_world.specs.Logs.used_slots ((views k).log))) (undrained_by (views k) w) (views k).changes (λ e. absurd (let r = slot_range o.shape k w e in let m = x.most_lanes in let up = above in omega arith)) l.slot_changes;
       area_changes = all_cons (λ (c : Undrained). AreaChange ph (length (views k).log.entries) (views k).log.generation (part_of o.shape k c.word) c) (undrained_by (views k) w) (views k).changes change l.area_changes;
       phase = phase d;
     }

@@ -84,6 +84,7 @@ module _ (o : Opening) (mem : Memory) (views : Views) (g : Past) (x : World o me
     olds = λ p y q b. let t = l.olds p y q b in (owned p b t.0, λ u. m.set p b (away p b t.0) ∙ t.1 u);
     slot_part = λ i q. let r = parts_short o.shape j (sight_of (views j)).picture (views j).log (views j).changes (views j).log.phase l.phase in let most = slot_taken (views j).log i q in let n = l.records_most in a.slot j (length (views j).log.records) i most_ (omega arith) (omega arith) ne ∙ l.slot_part i q;
     stale = λ i u q z t. l.stale i u q z (sym (ap undo_of (slots i z)) ∙ t);
+    slot_changes = l.slot_changes;
     area_changes = l.area_changes;
     phase = l.phase;
   }

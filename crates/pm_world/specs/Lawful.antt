@@ -98,6 +98,7 @@ pub record CanRecordAt (v : View) (p : Place) (x : ℕ) : Type 0 where
 pub record CanRecord (v : View) (r : Recorded) : Type 0 where
   pub some : 1 ≤ length r.old
   pub most : length r.old ≤ old_words v.fixed.shape
+  pub below : v.log.generation < greatest_generation v.fixed.shape
   pub each : (i : ℕ) → i < length r.old → CanRecordAt v (place_after r.place i) (slice_index r.old i)
   pub use_ : place_in v (word_of v.fixed.shape r.place) ≡ Some r.place
 

@@ -137,5 +137,7 @@ pub record LogFits (sh : Shape) (lane generation seal : ℕ) (entry slot : ℕ �
   pub olds : (p : Place) (x : ℕ) → old_of l.records p ≡ Some x → OldFits (is_decided l.phase) S owned p x
   pub slot_part : (i : ℕ) → i < length l.slot → slot (length l.records) i ≡ slice_index l.slot i
   pub stale : (j : ℕ) (u : Undo) → used_slots l ≤ j → j < undo_slots sh → undo_of (slot_list (slot j)) ≡ Some u → u.generation < l.generation
+  -- undrained changes of slots are of those that have words of this generation
+  pub slot_changes : All (λ (c : Undrained). part_of sh lane c.word ≡ SlotPart → c.word < 8 * line_of_slot sh lane (used_slots l)) changes
   pub area_changes : All (λ (c : Undrained). AreaChange l.phase (length l.entries) l.generation (part_of sh lane c.word) c) changes
   pub phase : PhaseFits sh lane picture l changes l.phase

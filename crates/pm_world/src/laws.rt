@@ -1,8 +1,7 @@
-ghost use Rattle.std.specs.Prelude.{ℕ, true, false, Bool, Option};
+ghost use Rattle.std.specs.Prelude.{ℕ, Bool, Option};
 ghost use Rattle.pm_objects.specs.declared.calls.Operation.{Operation};
 ghost use Rattle.pm_objects.specs.declared.history.Value.{Value};
 ghost use Rattle.pm_view.specs.declared.occ.Occ.{Occ};
-ghost use Rattle.pm_view.specs.declared.occ.Occ.TheVariants.{Run};
 ghost use Rattle.pm_view.specs.Log.{Idle, Open, Drawn};
 ghost use Rattle.pm_view.specs.Parts.{SlotPart, EntryPart, GenerationPart, SealPart, ChunkPart};
 ghost use Rattle.pm_view.specs.Steps.Step.{Load, Or, And, Flush, Drain, TakeWrite, TakeRead, Raise, Give, ZoneTry, ZoneGive};
@@ -24,8 +23,7 @@ pub fn lawful_steps_keep_the_world()
     ensures zone_try { (zone : ℕ) (won : Bool) → Keeps (ZoneTry zone won) }
     ensures zone_give { (zone : ℕ) → Keeps (ZoneGive zone) }
     ensures occupied { (at : Occ) (found : ℕ) → Keeps (Occupied at found) }
-    ensures occupy_lost { (at : Occ) (bits : ℕ) → Keeps (Occupy at bits false) }
-    ensures occupy_run { (place bits : ℕ) → Keeps (Occupy (Run place) bits true) }
+    ensures occupy { (at : Occ) (bits : ℕ) (won : Bool) → Keeps (Occupy at bits won) }
     ensures vacate { (at : Occ) (bits : ℕ) → Keeps (Vacate at bits) }
     ensures draw { (n : ℕ) → Keeps (Draw n) }
     ensures number_seen { (n : ℕ) → Keeps (NumberSeen n) }

@@ -1,3 +1,4 @@
+use Rattle.pm_world.proofs.StepChunks as step_chunks
 use Rattle.pm_world.proofs.StepDrain as step_drain
 use Rattle.pm_world.proofs.StepDraw as step_draw
 use Rattle.pm_world.proofs.StepFlush as step_flush
@@ -47,11 +48,8 @@ returns-clause-zone_give _ = λ zone. step_zones.zone_given zone
 pub returns-clause-occupied : goal.returns-clause-occupied
 returns-clause-occupied _ = λ at found. step_occupies.occupied at found
 
-pub returns-clause-occupy_lost : goal.returns-clause-occupy_lost
-returns-clause-occupy_lost _ = λ at bits. step_occupies.occupy_lost at bits
-
-pub returns-clause-occupy_run : goal.returns-clause-occupy_run
-returns-clause-occupy_run _ = λ place bits. step_occupies.occupy_run_keeps place bits
+pub returns-clause-occupy : goal.returns-clause-occupy
+returns-clause-occupy _ = λ at bits won. step_chunks.occupy_keeps at bits won
 
 pub returns-clause-vacate : goal.returns-clause-vacate
 returns-clause-vacate _ = λ at bits. step_vacate.vacate_keeps at bits
