@@ -15,7 +15,7 @@ use Rattle.pm_view.specs.Changes.{Undrained}
 use Rattle.pm_view.specs.Places.{Place, InRun, InHuge, Descr, RootWord, Small, Big, block_of, is_data, twin, word_of, is_place, place_after, is_after, distance, in_span, part}
 use Rattle.pm_view.specs.Entries.{first_of_two}
 use Rattle.pm_view.specs.Log.{Phase, Idle, Open, Drawn, Sealing, Applying, Clearing, Retiring, Voiding, Recorded, old_in, old_of}
-use Rattle.pm_view.specs.Claims.{class, first, pictured, is_held, span}
+use Rattle.pm_view.specs.Claims.{class, first, pictured, is_held}
 use Rattle.pm_view.specs.View.{View, runs_one}
 use Rattle.pm_world.specs.States.{Diff, given, live}
 use Rattle.pm_world.specs.Sights.{is_pictured, is_recorded, is_logged, is_logged_from, is_slot_drained, sight_of}

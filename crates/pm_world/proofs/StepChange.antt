@@ -20,7 +20,7 @@ use Rattle.pm_world.specs.States.{given, put1}
 use Rattle.pm_world.specs.Sights.{is_use, is_soiled, sight_of}
 use Rattle.pm_world.specs.Lanes.{owns, SightFits, Flies, flies_at}
 use Rattle.pm_world.specs.Logs.{IsEntryAt, ends_with, AreWhole, AreLeft, AreaChange, IsOld, LogFits}
-use Rattle.pm_world.specs.Lawful.{MayStore, StoreFits, IsNext, Clears}
+use Rattle.pm_world.specs.Lawful.{MayStore, StoreFits, Clears}
 use Rattle.pm_world.specs.Laws.{KeepsAt, Turn}
 use Rattle.pm_world.specs.Memory.{Memory, PoolWord, Becomes, cells_of}
 use Rattle.pm_world.specs.World.{Opening, Views, Past, origin, ghost_of, settled_words, LaneFits, World}

@@ -1,7 +1,7 @@
 -- STEPS THAT CHANGE A LANE'S CLAIMS, and of the memory one lock word at most: what they owe beside the bits.
-use Rattle.std.specs.Prelude.{List, [], ◌∷◌, length}
+use Rattle.std.specs.Prelude.{List, length}
 use Rattle.std.specs.List.{list_any}
-use Rattle.std.proofs.Common.{◌≡◌, ◌≢◌, ℕ, suc, ◌+◌, ◌*◌, ◌^◌, ◌<◌, ◌⊎◌, inl, inr, ⊎_elim, Bool, true, false, ◌==◌, refl, sym, ap, ◌∙◌, subst, arith, Option, None, Some}
+use Rattle.std.proofs.Common.{◌≡◌, ◌≢◌, ℕ, suc, ◌+◌, ◌*◌, ◌^◌, ◌<◌, inl, inr, ⊎_elim, true, false, ◌==◌, refl, sym, ap, ◌∙◌, subst, arith, Some}
 use Rattle.std.proofs.lemmas.Bool.{cases_eq, both_ways}
 use Rattle.pm_layout.specs.declared.shape.Shape.{Shape}
 use Rattle.pm_layout.specs.Areas.{word_of_generation, word_of_seal, word_of_entry, line_of_slot}
@@ -10,14 +10,14 @@ use Rattle.pm_view.specs.Limits.{greatest_generation}
 use Rattle.pm_view.specs.Changes.{Undrained}
 use Rattle.pm_view.specs.Counts.{IsAtStop}
 use Rattle.pm_view.specs.Places.{Place, Block, block_of, is_data}
-use Rattle.pm_view.specs.Log.{Phase, Idle, Open, Drawn, Sealing, Applying, Clearing, Retiring, Voiding, Log, is_early, old_of}
+use Rattle.pm_view.specs.Log.{Phase, Idle, Open, Drawn, Sealing, Applying, Clearing, Retiring, Voiding, Log, is_early}
 use Rattle.pm_view.specs.Claims.{Claim, making, pictured}
 use Rattle.pm_view.specs.Steps.{Step}
 use Rattle.pm_view.specs.View.{View, Seen}
-use Rattle.pm_world.specs.States.{State, Diff, Cells, given}
+use Rattle.pm_world.specs.States.{Diff, Cells, given}
 use Rattle.pm_world.specs.Sights.{is_recorded, picture, sight_of}
 use Rattle.pm_world.specs.Lanes.{owns, is_decided, Bits}
-use Rattle.pm_world.specs.Logs.{slot_list, PhaseFits, LogFits}
+use Rattle.pm_world.specs.Logs.{slot_list, PhaseFits}
 use Rattle.pm_world.specs.Memory.{Memory, PoolWord, LockWord, RunWord, ZoneWord, ZoneLock, CommitCounter, StopWord, occ_at, IsSameBut, cells_by, cells_of}
 use Rattle.pm_world.specs.World.{Opening, Views, Past, origin, ghost_of, settled_words, AloneFits, RecordedFits, LaneFits, may_draw, may_draw_count, World}
 use Rattle.pm_world.specs.Laws.{Turn}
@@ -25,7 +25,7 @@ use Rattle.pm_world.proofs.OccWorlds.{early_undecided}
 use Rattle.pm_world.proofs.Cells.{other_sort, occ_sort}
 use Rattle.pm_world.proofs.Counting.{count_same}
 use Rattle.pm_world.proofs.Frame.{Around}
-use Rattle.pm_world.proofs.Worlds.{Aside, world_after}
+use Rattle.pm_world.proofs.Worlds.{world_after}
 
 phase_early : (sh : Shape) (lane : ℕ) (pc pc' : Diff) (l : Log) (changes : List Undrained) (ph : Phase) → is_early ph ≡ true → PhaseFits sh lane pc l changes ph → PhaseFits sh lane pc' l changes ph
 phase_early sh lane pc pc' l changes Idle e f = f

@@ -18,10 +18,10 @@ use Rattle.pm_view.specs.Steps.Step.{Drain}
 use Rattle.pm_view.specs.Views.{decided_by, drained_to}
 use Rattle.pm_view.specs.Counts.{IsAtStop}
 use Rattle.pm_view.specs.Counts.{MayCount}
-use Rattle.pm_world.specs.States.{State, Diff, diff, given, live, read, put1, Cells}
-use Rattle.pm_world.specs.Sights.{Sight, is_use, is_soiled, is_recorded, is_slot_drained, is_logged_from, is_logged, fresh, is_made, call_in, sight_of}
-use Rattle.pm_world.specs.Lanes.{Ghost, own, owns, has, left, is_decided, BitFits, TurnFlight, TurnFits, SightFits, settled, Flies, flies_at, Bits}
-use Rattle.pm_world.specs.Logs.{IsRecordAt, slot_list, spelled, ends_with, used_slots, seal_in, BumpFits, PhaseFits, AreWhole, AreLeft, OldFits, AreRestored, LogFits}
+use Rattle.pm_world.specs.States.{State, Diff, given, live, read, put1, Cells}
+use Rattle.pm_world.specs.Sights.{Sight, is_use, is_soiled, is_recorded, is_slot_drained, is_logged_from, fresh, is_made, sight_of}
+use Rattle.pm_world.specs.Lanes.{Ghost, owns, left, is_decided, TurnFlight, SightFits, settled, Flies, flies_at, Bits}
+use Rattle.pm_world.specs.Logs.{slot_list, ends_with, used_slots, seal_in, BumpFits, PhaseFits, AreWhole, LogFits}
 use Rattle.pm_world.specs.Memory.{Memory, PoolWord, CommitCounter, StopWord, bit, cells_of}
 use Rattle.pm_world.specs.World.{Opening, Views, Past, origin, ghost_of, settled_words, NumberFits, AreaFits, LaneFits, World}
 use Rattle.pm_world.specs.Course.{holder_after, past_made, past_decided, past_drained}

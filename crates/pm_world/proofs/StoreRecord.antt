@@ -1,24 +1,23 @@
 -- A WORD OF AN UNDO RECORD is stored: a record is whole with its eighth word.
-use Rattle.std.specs.Prelude.{List, [], ◌∷◌, ◌++◌, All, length, take, replicate, slice_index, slice_get, unwrap_or}
+use Rattle.std.specs.Prelude.{List, [], ◌∷◌, ◌++◌, length, take, slice_index, slice_get, unwrap_or}
 use Rattle.std.proofs.Common.{◌||◌, ◌≡◌, ◌≢◌, ℕ, zero, suc, ◌+◌, ◌-◌, ◌*◌, ◌/◌, ◌^◌, ◌<◌, ◌≤◌, ◌⊎◌, inl, inr, ⊎_elim, nat_le, nat_lt, Bool, true, false, cond, ◌==◌, ◌&&◌, refl, sym, ap, ◌∙◌, subst, arith, ne_eqb, Option, None, Some}
 use Rattle.std.proofs.lemmas.Bool.{leb-true, cases_lt, cases_Bool, eqb-true, both_ways, and_parts, and_from, cond-true, cond-false, false_from_ne_true}
-use Rattle.std.proofs.lemmas.List.{length-append, get_or-take}
+use Rattle.std.proofs.lemmas.List.{length-append}
 use Rattle.std.proofs.lemmas.Option.{slice_get_within}
 use Rattle.std.proofs.Math.ListN.{get_or-append}
 use Rattle.std.proofs.Math.Seq.{get_or-append_seam}
 use Rattle.pm_layout.specs.declared.shape.Shape.{Shape}
 use Rattle.pm_layout.specs.Areas.{word_of_generation, word_of_seal, word_of_entry, line_of_slot}
 use Rattle.pm_record.specs.Undo.{undo_of}
-use Rattle.pm_record.specs.declared.undo.Undo.{Undo}
 use Rattle.pm_view.specs.Changes.{Undrained}
 use Rattle.pm_view.specs.Claims.{class, first, pictured}
 use Rattle.pm_view.specs.Counts.{MayCount}
 use Rattle.pm_view.specs.Limits.{greatest_generation}
-use Rattle.pm_view.specs.Log.{Phase, Open, Recorded, Log, old_in, old_of, place_at, recorded, with_slot}
+use Rattle.pm_view.specs.Log.{Open, Recorded, Log, old_in, old_of, place_at, recorded, with_slot}
 use Rattle.pm_view.specs.Parts.{Part, SlotPart, part_of}
 use Rattle.pm_view.specs.Places.{Place, InRun, InHuge, Descr, RootWord, Small, Big, block_of, is_data, is_place, word_of, place_after, distance}
 use Rattle.pm_view.specs.View.{View}
-use Rattle.pm_world.specs.States.{State, Diff, Cells, given, live, read, put1}
+use Rattle.pm_world.specs.States.{given, read, put1}
 use Rattle.pm_world.specs.Sights.{is_pictured, is_recorded, is_logged, call_of, sight_of}
 use Rattle.pm_world.specs.Lanes.{owns, SightFits, Flies}
 use Rattle.pm_world.specs.Lawful.{CanRecordAt, AppendsToSlot, MayStore}

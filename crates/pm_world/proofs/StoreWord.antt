@@ -1,8 +1,8 @@
 -- A USER WORD IS STORED: under its drained record, or in a block of the lane's own.
-use Rattle.std.specs.Prelude.{List, [], ◌∷◌, All, length, not}
+use Rattle.std.specs.Prelude.{[], ◌∷◌, length, not}
 use Rattle.std.specs.Int.{bit_at}
 use Rattle.std.specs.Option.{option_map}
-use Rattle.std.proofs.Common.{◌≡◌, ◌≢◌, ℕ, zero, suc, ◌+◌, ◌-◌, ◌*◌, ◌/◌, ◌%◌, ◌<◌, ◌≤◌, ◌⊎◌, inl, inr, ⊎_elim, nat_le, nat_lt, Bool, true, false, cond, ◌==◌, ◌&&◌, ◌||◌, eqb, refl, sym, ap, ◌∙◌, subst, arith, eq-eqb, ne_eqb, Option, None, Some}
+use Rattle.std.proofs.Common.{◌≡◌, ◌≢◌, ℕ, ◌+◌, ◌-◌, ◌*◌, ◌/◌, ◌%◌, ◌<◌, ◌≤◌, ◌⊎◌, inl, inr, ⊎_elim, nat_le, nat_lt, Bool, true, false, cond, ◌==◌, ◌&&◌, ◌||◌, refl, sym, ap, ◌∙◌, subst, arith, eq-eqb, ne_eqb, Option, None, Some}
 use Rattle.std.proofs.lemmas.Bool.{cases_eq, cases_lt, cases_Bool, eqb-true, ltb-true, lt-ltb, both_ways, and_parts, and_from, or_cases, or_left, or_right, cond-false, false_from_ne_true}
 use Rattle.pm_layout.specs.declared.shape.Shape.{Shape}
 use Rattle.pm_layout.specs.Areas.{word_of_generation, word_of_seal, word_of_entry, line_of_slot}
@@ -20,7 +20,7 @@ use Rattle.pm_view.specs.View.{View}
 use Rattle.pm_view.specs.Views.{part_in}
 use Rattle.pm_world.specs.States.{State, Diff, Cells, given, there, live, shown, bright_huge, cell, read, put1}
 use Rattle.pm_world.specs.Sights.{Hold, is_pictured, picture, is_use, is_recorded, is_logged, sight_of}
-use Rattle.pm_world.specs.Lanes.{Ghost, own, owns, is_in_making, is_decided, in_flight, open_soils, soils, FlightFits, SightFits, Flies, GeoFits, TurnBefore}
+use Rattle.pm_world.specs.Lanes.{Ghost, own, owns, is_in_making, is_decided, in_flight, open_soils, soils, FlightFits, SightFits, Flies, TurnBefore}
 use Rattle.pm_world.specs.Lawful.{MayWrite, MayFill, MayStore}
 use Rattle.pm_world.specs.Logs.{slot_list, AreaChange, LogFits}
 use Rattle.pm_world.specs.Laws.{Turn}
@@ -29,7 +29,7 @@ use Rattle.pm_world.specs.World.{Opening, Views, Past, origin, ghost_of, settled
 use Rattle.pm_world.proofs.SlotWords.{slot_range}
 use Rattle.pm_world.proofs.AfterStore.{after_store, store_world, keeps_at}
 use Rattle.pm_world.proofs.Cells.{cells_stored, bits_else, descriptor_else}
-use Rattle.pm_world.proofs.Entering.{block_known, logged_recorded}
+use Rattle.pm_world.proofs.Entering.{block_known}
 use Rattle.pm_world.proofs.EntryBits.{data_bit, huge_plain, run_plain}
 use Rattle.pm_world.proofs.Frame.{mine_own, own_has, no_run, small_cases}
 use Rattle.pm_world.proofs.Going.{at_phase}
@@ -40,7 +40,7 @@ use Rattle.pm_world.proofs.StoreArea.{area_apart, undrained_by, logged_else}
 use Rattle.pm_world.proofs.Stored.{OwnWords}
 use Rattle.pm_world.specs.Laws.{KeepsAt}
 use Rattle.pm_world.proofs.WordsApart.{one_cell}
-use Rattle.pm_world.proofs.Writing.{Writes, one_cell_twin, written_fits}
+use Rattle.pm_world.proofs.Writing.{Writes, written_fits}
 
 -- ---- places that are one word
 twin_twin : (p : Place) → twin (twin p) ≡ p

@@ -17,7 +17,7 @@ use Rattle.pm_world.specs.Moves.{Moves}
 use Rattle.pm_world.specs.Lawful.{IsLawful}
 use Rattle.pm_world.specs.Course.{past_after}
 use Rattle.pm_world.specs.World.{Opening, Views, Past, World, origin, ghost_of, settled_words}
-use Rattle.pm_world.specs.Crash.{Survives, NoneTorn, MeansKept, is_kept}
+use Rattle.pm_world.specs.Crash.{Survives, NoneTorn, MeansKept}
 
 -- lane k's view is v, the others' are as before
 pub record Turn (views new : Views) (k : ℕ) (v : View) : Type 0 where

@@ -1,8 +1,8 @@
 -- How a lane's log, as its view has it, stands in its area of the pool: the generation, the seal, the entries in their pairs and the records in their slots.
-use Rattle.std.specs.Prelude.{◌≡◌, ◌≢◌, ◌⊎◌, ℕ, suc, ◌+◌, ◌-◌, ◌*◌, ◌/◌, ◌^◌, ◌<◌, ◌≤◌, Bool, true, false, cond, ◌==◌, not, All, Any, Contains, List, [], ◌∷◌, ◌++◌, length, replicate, slice_get, slice_index, Option, None, Some, IfSome}
+use Rattle.std.specs.Prelude.{◌≡◌, ◌≢◌, ◌⊎◌, ℕ, suc, ◌+◌, ◌-◌, ◌*◌, ◌^◌, ◌<◌, ◌≤◌, Bool, true, false, cond, ◌==◌, All, Contains, List, [], ◌∷◌, ◌++◌, length, replicate, slice_get, slice_index, None, Some, IfSome}
 use Rattle.std.specs.Int.{bit_at}
 use Rattle.pm_layout.specs.declared.shape.Shape.{Shape}
-use Rattle.pm_layout.specs.Areas.{undo_slots, slot_words, old_words, redo_entries, word_of_generation, word_of_seal, line_of_slot}
+use Rattle.pm_layout.specs.Areas.{undo_slots, slot_words, old_words, redo_entries, word_of_generation, line_of_slot}
 use Rattle.pm_view.specs.Limits.{greatest_generation}
 use Rattle.pm_record.specs.Undo.{undo_of, undo_words}
 use Rattle.pm_record.specs.declared.undo.Undo.{Undo}
@@ -11,7 +11,7 @@ use Rattle.pm_record.specs.declared.redo.Op.TheVariants.{Set}
 use Rattle.pm_view.specs.Bits.{all_bits}
 use Rattle.pm_view.specs.Changes.{Undrained}
 use Rattle.pm_view.specs.Claims.{is_run}
-use Rattle.pm_view.specs.Places.{Place, InRun, InHuge, Descr, RootWord, word_of, is_place, is_data, place_after}
+use Rattle.pm_view.specs.Places.{Place, Descr, word_of, is_place, is_data, place_after}
 use Rattle.pm_view.specs.Entries.{Entry, entry_head, given_bit}
 use Rattle.pm_view.specs.Parts.{Part, GenerationPart, SealPart, EntryPart, SlotPart, DescriptorPart, OtherPart, part_of}
 use Rattle.pm_view.specs.Log.{Phase, Idle, Open, Drawn, Sealing, Applying, Clearing, Retiring, Voiding, Recorded, Log, old_in, old_of}
