@@ -54,6 +54,10 @@ pub mod EntryBits
 pub mod StoreEntry
 pub mod StoreEnd
 pub mod RecordBits
+pub mod StepFlush
+pub mod Known
+pub mod StepLoad
+pub mod StepLearn
 pub mod StepVacate
 pub mod StepDrops
 pub mod CrashDescriptors
@@ -61,6 +65,7 @@ pub mod Recording
 pub mod StoreRecord
 pub mod Writing
 pub mod StoreWord
+pub mod BlocksKnown
 pub mod StepChunks
 pub mod CrashFaults
 pub mod CrashClashes

@@ -102,17 +102,17 @@ module _ (o : Opening) (mem new : Memory) (views views' : Views) (g : Past) (x :
   lane_after : is_early (views k).log.phase ≡ true
       → ((p : Place) (b : ℕ) → is_recorded (views k).log.records p ≡ true → owns g.geo (settled_words o g) (sight_of (views k)).hold p b ≡ true → owns g.geo (settled_words o g) (sight_of claimed_view).hold p b ≡ true)
       → ((p : Place) → is_recorded (views k).log.records p ≡ true → (B : Block) → (sight_of (views k)).hold.here B ≡ true → (sight_of claimed_view).hold.here B ≡ true)
-      → ((p : Place) (b : ℕ) → is_data p ≡ true → given ((sight_of (views k)).picture p b) ≡ true → given ((sight_of claimed_view).picture p b) ≡ true)
+      → ((p : Place) (b : ℕ) → is_recorded (views k).log.records p ≡ true → is_data p ≡ true → given ((sight_of (views k)).picture p b) ≡ true → given ((sight_of claimed_view).picture p b) ≡ true)
       → (o.lanes ≡ 1 → (w y : ℕ) → pictured (views k).fixed.shape claims' w ≡ Some y → mem (PoolWord w) ≡ y) → LaneFits o new g k claimed_view
   lane_after early owned heres seen known = let f = x.each_lane k ink in lane_again o mem new g k (views k) f pool_word claims' seen' (views k).zones (views k).occupancy
       (phase_early o.shape k (sight_of (views k)).picture (sight_of claimed_view).picture (views k).log (views k).changes (views k).log.phase early f.log.phase) owned (λ t. absurd (both_ways (is_decided (views k).log.phase) (early_undecided (views k).log.phase early).0 t))
-      (λ u p q. let y = f.recorded u p q in (y.0, λ b. let z = y.1 b in (heres p q (block_of g.geo p b) z.0, seen p b y.0 z.1))) (λ z. ap (λ n. n == suc k) (zone_lock z) ∙ f.zones z)
+      (λ u p q. let y = f.recorded u p q in (y.0, λ b. let z = y.1 b in (heres p q (block_of g.geo p b) z.0, seen p b q y.0 z.1))) (λ z. ap (λ n. n == suc k) (zone_lock z) ∙ f.zones z)
       (λ one. record { words = λ w y e. pool_word w ∙ known one w y e; occupancy = λ at y e. let z = (f.alone one).occupancy at y e in (same (occ_at at) (occ_sort at (LockWord l) (λ q. omega arith) (λ q. omega arith)) ∙ z.0, z.1) })
 
   pub claims_step : is_early (views k).log.phase ≡ true
       → ((p : Place) (b : ℕ) → is_recorded (views k).log.records p ≡ true → owns g.geo (settled_words o g) (sight_of (views k)).hold p b ≡ true → owns g.geo (settled_words o g) (sight_of claimed_view).hold p b ≡ true)
       → ((p : Place) → is_recorded (views k).log.records p ≡ true → (B : Block) → (sight_of (views k)).hold.here B ≡ true → (sight_of claimed_view).hold.here B ≡ true)
-      → ((p : Place) (b : ℕ) → is_data p ≡ true → given ((sight_of (views k)).picture p b) ≡ true → given ((sight_of claimed_view).picture p b) ≡ true)
+      → ((p : Place) (b : ℕ) → is_recorded (views k).log.records p ≡ true → is_data p ≡ true → given ((sight_of (views k)).picture p b) ≡ true → given ((sight_of claimed_view).picture p b) ≡ true)
       → (o.lanes ≡ 1 → (w y : ℕ) → pictured (views k).fixed.shape claims' w ≡ Some y → mem (PoolWord w) ≡ y)
       → ((m j : ℕ) → j ≢ k → (cells_of o.shape new).writer m j ≡ (cells_of o.shape mem).writer m j) → ((m j : ℕ) → j ≢ k → (cells_of o.shape new).reader m j ≡ (cells_of o.shape mem).reader m j)
       → may_draw claimed_view ≡ may_draw (views k) → Bits o.shape o.lanes (origin o) relocked_cells (λ j. sight_of (views' j)) (ghost_of g) → World o new views' g

@@ -4,13 +4,17 @@ ghost use Rattle.pm_objects.specs.declared.history.Value.{Value};
 ghost use Rattle.pm_view.specs.declared.occ.Occ.{Occ};
 ghost use Rattle.pm_view.specs.Log.{Idle, Open, Drawn};
 ghost use Rattle.pm_view.specs.Parts.{SlotPart, EntryPart, GenerationPart, SealPart, ChunkPart};
-ghost use Rattle.pm_view.specs.Steps.Step.{Drain, TakeWrite, TakeRead, Raise, Give, ZoneTry, ZoneGive};
+ghost use Rattle.pm_view.specs.Steps.Step.{Load, Or, And, Flush, Drain, TakeWrite, TakeRead, Raise, Give, ZoneTry, ZoneGive};
 ghost use Rattle.pm_view.specs.Steps.Step.{Occupied, Occupy, Vacate, Draw, NumberSeen, StopSeen, SetStop, Tell};
 ghost use Rattle.pm_world.specs.Decisions.{DecidedStoresKeep};
 ghost use Rattle.pm_world.specs.Laws.{Keeps, KeepsAt, RightsApart};
 
 /// A law: each lawful step of a lane keeps the world, whatever the other lanes hold, and is answered as its view knows. No code runs.
 pub fn lawful_steps_keep_the_world()
+    ensures load { (w found : ℕ) → Keeps (Load w found) }
+    ensures set_bits { (w bits found : ℕ) → Keeps (Or w bits found) }
+    ensures keep_bits { (w bits found : ℕ) → Keeps (And w bits found) }
+    ensures flush { (line : ℕ) → Keeps (Flush line) }
     ensures drain { Keeps Drain }
     ensures take_write { (line : ℕ) (won : Bool) → Keeps (TakeWrite line won) }
     ensures take_read { (line : ℕ) (won : Bool) → Keeps (TakeRead line won) }

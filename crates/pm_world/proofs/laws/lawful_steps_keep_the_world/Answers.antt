@@ -1,13 +1,28 @@
 use Rattle.pm_world.proofs.StepChunks as step_chunks
 use Rattle.pm_world.proofs.StepDrain as step_drain
 use Rattle.pm_world.proofs.StepDraw as step_draw
+use Rattle.pm_world.proofs.StepFlush as step_flush
+use Rattle.pm_world.proofs.StepLearn as step_learn
 use Rattle.pm_world.proofs.StepLocks as step_locks
 use Rattle.pm_world.proofs.StepNumber as step_number
 use Rattle.pm_world.proofs.StepOccupies as step_occupies
 use Rattle.pm_world.proofs.StepPlain as step_plain
+use Rattle.pm_world.proofs.StepShared as step_shared
 use Rattle.pm_world.proofs.StepVacate as step_vacate
 use Rattle.pm_world.proofs.StepZones as step_zones
 use Rattle.pm_world.proofs.laws.lawful_steps_keep_the_world.Goals as goal
+
+pub returns-clause-load : goal.returns-clause-load
+returns-clause-load _ = λ w found. step_learn.load_keeps w found
+
+pub returns-clause-set_bits : goal.returns-clause-set_bits
+returns-clause-set_bits _ = λ w bits found. step_shared.or_keeps w bits found
+
+pub returns-clause-keep_bits : goal.returns-clause-keep_bits
+returns-clause-keep_bits _ = λ w bits found. step_shared.and_keeps w bits found
+
+pub returns-clause-flush : goal.returns-clause-flush
+returns-clause-flush _ = λ line. step_flush.flush_keeps line
 
 pub returns-clause-drain : goal.returns-clause-drain
 returns-clause-drain _ = step_drain.drain_keeps
