@@ -49,3 +49,4 @@ pub mod EntryBits
 pub mod StoreEntry
 pub mod StoreEnd
 pub mod RecordBits
+pub mod StepMark

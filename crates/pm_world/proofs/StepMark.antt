@@ -1,0 +1,206 @@
+-- A CHUNK IS MARKED AS A RUN by the store of its descriptor, and the world is kept.
+use Rattle.std.specs.Prelude.{List, [], ◌∷◌, All, length, slice_index, slice_index_or, bit_and, if◌then◌else◌}
+use Rattle.std.specs.Int.{bit_at}
+use Rattle.std.specs.List.{list_any}
+use Rattle.std.specs.Option.{option_map, ForSome}
+use Rattle.std.proofs.Common.{◌≡◌, ◌≢◌, ℕ, zero, suc, ◌+◌, ◌-◌, ◌*◌, ◌/◌, ◌%◌, ◌^◌, ◌<◌, ◌≤◌, ◌⊎◌, inl, inr, ⊎_elim, nat_le, nat_lt, Bool, true, false, cond, not, eqb, ◌==◌, ◌&&◌, ◌||◌, refl, sym, ap, ◌∙◌, subst, arith, eq-eqb, ne_eqb, Option, None, Some}
+use Rattle.std.proofs.lemmas.Bool.{cases_eq, cases_Bool, both_ways, eqb-true, ltb-true, and_parts, and_from, and_left, and_right, or_cases, not-true, cond-true, cond-false, cond_both, false_from_ne_true}
+use Rattle.std.proofs.lemmas.List.Folds.{list_any_none}
+use Rattle.std.proofs.lemmas.Nat.{and_mask}
+use Rattle.std.proofs.lemmas.Nat.Bits.{bit_at-zero}
+use Rattle.pm_layout.specs.declared.shape.Shape.{Shape}
+use Rattle.pm_layout.specs.Areas.{word_of_generation, word_of_seal, word_of_entry, line_of_slot}
+use Rattle.pm_layout.specs.Sizes.{blocks_of}
+use Rattle.pm_layout.specs.Chunks.{words_of, chunks_of, page_of_chunk, word_of_chunk, word_of_descriptor, word_of_root, is_descriptor_word, is_chunk_page, chunk_at, chunk_described}
+use Rattle.pm_view.specs.Bits.{all_bits}
+use Rattle.pm_view.specs.Changes.{Undrained, is_dirty_bit}
+use Rattle.pm_view.specs.Claims.{Claim, Marked, Knows, locked, reads, class, making, header_in, found, here, mine, span, first, geometry, pictured, is_held}
+use Rattle.pm_view.specs.Counts.{MayCount, IsAtStop}
+use Rattle.pm_view.specs.Entries.{latest, redos, turn}
+use Rattle.pm_view.specs.Limits.{greatest_generation}
+use Rattle.pm_view.specs.Log.{Phase, Open, Log, place_at}
+use Rattle.pm_view.specs.Parts.{Part, GenerationPart, SealPart, EntryPart, SlotPart, RootPart, DescriptorPart, ChunkPart, OtherPart, is_entry_word, is_slot_word, pool_part, part_of, place_in}
+use Rattle.pm_view.specs.Places.{Place, InRun, InHuge, Descr, RootWord, Block, Small, Big, Root, part, block_of, is_data, is_place, word_of}
+use Rattle.pm_view.specs.View.{View}
+use Rattle.pm_view.specs.Views.{part_in, value_in, changed}
+use Rattle.pm_world.specs.States.{State, given, diff, read, put1, Cells}
+use Rattle.pm_world.specs.Sights.{Hold, Sight, hold_of, is_pictured, picture, is_use, is_soiled, is_recorded, is_logged, is_made, fresh, sight_of}
+use Rattle.pm_world.specs.Lanes.{Ghost, owns, is_decided, Flies, SightFits, Bits}
+use Rattle.pm_world.specs.Logs.{AreaChange, IsOld, PhaseFits, LogFits}
+use Rattle.pm_world.specs.Lawful.{MayMark, MayStore}
+use Rattle.pm_world.specs.Laws.{Turn}
+use Rattle.pm_world.specs.Memory.{Memory, PoolWord, LockWord, RunWord, ZoneWord, ZoneLock, CommitCounter, StopWord, Becomes, occ_at, bit, run_told, huge_told, bits_of, descriptor_told, cells_by, cells_of}
+use Rattle.pm_world.specs.World.{Opening, Views, Past, origin, ghost_of, settled_words, AloneFits, LaneFits, is_header, World}
+use Rattle.pm_world.proofs.AfterStore.{KeepsWith, keeps_at}
+use Rattle.pm_world.proofs.Cells.{other_sort, other_number, occ_sort, cells_stored, bits_else, descriptor_else}
+use Rattle.pm_world.proofs.Counting.{count_same}
+use Rattle.pm_world.proofs.Frame.{Around, mine_own}
+use Rattle.pm_world.proofs.Occupies.{split}
+use Rattle.pm_world.proofs.OccWorlds.{early_undecided}
+use Rattle.pm_world.proofs.PlacesAt.{is_at}
+use Rattle.pm_world.proofs.Replays.{put1_here, put1_else}
+use Rattle.pm_world.proofs.Runs.{is_of_chunk, with_mark, ghost_with_mark, Marks, marks_run}
+use Rattle.pm_world.proofs.StepDraw.{all_cons}
+use Rattle.pm_world.proofs.StoreArea.{undrained_by, logged_else, over_area}
+use Rattle.pm_world.proofs.Stores.{KeepsAt}
+use Rattle.pm_world.proofs.Worlds.{turned, world_with, stops_stay}
+
+-- ---- which word it is
+abbrev at_part : Part → Option Place
+at_part q = place_in (λ c. 0) q
+
+descriptor_place : (sh : Shape) (lane w c : ℕ) → part_of sh lane w ≡ DescriptorPart c → place_at sh (λ c. 0) w ≡ Some (Descr c)
+descriptor_place sh lane w c e = chain (ap at_part e)
+  where
+    P : Part → Type 0
+    P q = at_part q ≡ Some (Descr c) → at_part (pool_part sh w) ≡ Some (Descr c)
+
+    none_ : None ≡ Some (Descr c) → ⊥
+    none_ r = both_ways false refl (ap given r)
+
+    chain : at_part (part_of sh lane w) ≡ Some (Descr c) → at_part (pool_part sh w) ≡ Some (Descr c)
+    chain = let pool = pool_part sh w in cond_both (w == word_of_generation sh lane) GenerationPart (if w == word_of_seal sh lane then SealPart else if is_entry_word sh lane w then EntryPart else if is_slot_word sh lane w then SlotPart else pool) (λ q. at_part q ≡ Some (Descr c) → at_part (pool_part sh w) ≡ Some (Descr c)) (λ _ r. absurd (none_ r))
+        (λ _. cond_both (w == word_of_seal sh lane) SealPart (if is_entry_word sh lane w then EntryPart else if is_slot_word sh lane w then SlotPart else pool) (λ q. at_part q ≡ Some (Descr c) → at_part (pool_part sh w) ≡ Some (Descr c)) (λ _ r. absurd (none_ r))
+        (λ _. cond_both (is_entry_word sh lane w) EntryPart (if is_slot_word sh lane w then SlotPart else pool) (λ q. at_part q ≡ Some (Descr c) → at_part (pool_part sh w) ≡ Some (Descr c)) (λ _ r. absurd (none_ r))
+        (λ _. cond_both (is_slot_word sh lane w) SlotPart pool (λ q. at_part q ≡ Some (Descr c) → at_part (pool_part sh w) ≡ Some (Descr c)) (λ _ r. absurd (none_ r)) (λ _ r. r))))
+
+-- a descriptor's word is that of its chunk, which the pool has
+pub descriptor_at : (sh : Shape) (lane w c : ℕ) → part_of sh lane w ≡ DescriptorPart c → (w ≡ word_of_descriptor sh c) × (c < chunks_of sh)
+descriptor_at sh lane w c e = let y = is_at sh (λ c. 0) w (Descr c) (descriptor_place sh lane w c e) in (sym y.word, ltb-true c (chunks_of sh) y.inside)
+
+some_class : (lines : ℕ) → 0 < blocks_of lines → 1 ≤ lines
+some_class zero q = absurd (let z : 0 < 0 = q in omega arith)
+some_class (suc n) q = omega arith
+
+other_way : (c d : ℕ) → eqb c d ≡ eqb d c
+other_way c d = ⊎_elim (λ (e : c ≡ d). eq-eqb c d e ∙ sym (eq-eqb d c (sym e))) (λ (ne : c ≢ d). ne_eqb c d ne ∙ sym (ne_eqb d c (λ e. ne (sym e)))) (cases_eq c d)
+
+-- ---- the bits speak of no lane's area
+bits_over : (sh : Shape) (L : ℕ) (o : State) (cells : Cells) (sights : ℕ → Sight) (g : Ghost) (generation seal : ℕ → ℕ) (entry slot : ℕ → ℕ → ℕ → ℕ) → Bits sh L o cells sights g → Bits sh L o (record cells { generation = generation; seal = seal; entry = entry; slot = slot }) sights g
+bits_over sh L o cells sights g generation seal entry slot y = record { each_lane = λ j. over_area sh cells (Rattle.pm_world.specs.Lanes.settled o g) (Flies g j) g j (sights j) generation seal entry slot (y.each_lane j); beyond = y.beyond; unowned = y.unowned; descr = y.descr; occ = y.occ; geo = y.geo; alone = y.alone; counter = y.counter; flying = y.flying }
+
+around_over : (k : ℕ) (h : Hold) (holds : ℕ → Hold) (cells cells' : Cells) (S S' : State) (g g' : Ghost) (generation seal : ℕ → ℕ) (entry slot : ℕ → ℕ → ℕ → ℕ) → Around k h holds cells cells' S S' g g' → Around k h holds cells (record cells' { generation = generation; seal = seal; entry = entry; slot = slot }) S S' g g'
+around_over k h holds cells cells' S S' g g' generation seal entry slot y = record { writer = y.writer; reader = y.reader; pool = y.pool; set = y.set; descr = y.descr; up = y.up; runs = y.runs; holder = y.holder; holder_back = y.holder_back; class = y.class; first = y.first; flies = y.flies }
+
+-- BEFORE ITS CALL IS DECIDED a lane's recorded words are in blocks that it found under its write lock
+abbrev pub RecordedHere : Type 0
+RecordedHere = (o : Opening) (mem : Memory) (views : Views) (g : Past) (k : ℕ) → World o mem views g → k < o.lanes → is_decided (views k).log.phase ≡ false → (p : Place) → is_recorded (views k).log.records p ≡ true → (b : ℕ) → (sight_of (views k)).hold.here (block_of g.geo p b) ≡ true
+
+module _ (recorded : RecordedHere) (o : Opening) (mem new : Memory) (views views' : Views) (g : Past) (x : World o mem views g) (k : ℕ) (ink : k < o.lanes) (w n c : ℕ) (m : MayStore (views k) w n) (due : MayCount (views k)) (a : MayMark (views k) c n)
+    (ph : (views k).log.phase ≡ Open) (is_part : part_in (views k) w ≡ DescriptorPart c) (b : Becomes (PoolWord w) n mem new) where
+  abbrev v : View
+  v = views k
+
+  abbrev sh : Shape
+  sh = (views k).fixed.shape
+
+  abbrev cl : ℕ
+  cl = n / 256
+
+  abbrev S : State
+  S = settled_words o g
+
+  abbrev h : Hold
+  h = (sight_of (views k)).hold
+
+  abbrev claims' : List Claim
+  claims' = Knows w n ∷ Marked c (n / 256) ∷ (views k).claims
+
+  abbrev changes' : List Undrained
+  changes' = undrained_by (views k) w ∷ (views k).changes
+
+  abbrev g' : Past
+  g' = record g { geo = record g.geo { class = put1 g.geo.class c (n / 256) } }
+
+  abbrev v' : View
+  v' = changed (views k) w all_bits n (Marked c (n / 256) ∷ (views k).claims) (views k).log
+
+  fl : LaneFits o mem g k (views k)
+  fl = x.each_lane k ink
+
+  fk : SightFits o.shape (cells_of o.shape mem) S (Flies (ghost_of g) k) (ghost_of g) k (sight_of (views k))
+  fk = x.bits.each_lane k
+
+  at : w ≡ word_of_descriptor (views k).fixed.shape c
+  at = (descriptor_at (views k).fixed.shape (views k).fixed.lane w c is_part).0
+
+  at_o : w ≡ word_of_descriptor o.shape c
+  at_o = subst (λ s. w ≡ word_of_descriptor s c) (x.each_lane k ink).shape at
+
+  inside : c < chunks_of o.shape
+  inside = subst (λ s. c < chunks_of s) (x.each_lane k ink).shape (descriptor_at (views k).fixed.shape (views k).fixed.lane w c is_part).1
+
+  lane_in : (views k).fixed.lane < (views k).fixed.shape.lanes
+  lane_in = subst (λ s. (views k).fixed.lane < s.lanes) (sym (x.each_lane k ink).shape) (subst (λ l. l < o.shape.lanes) (sym (x.each_lane k ink).lane) (let most = x.most_lanes in omega arith))
+
+  part_o : part_of o.shape k w ≡ DescriptorPart c
+  part_o = subst (λ s. part_of s k w ≡ DescriptorPart c) (x.each_lane k ink).shape (subst (λ l. part_of (views k).fixed.shape l w ≡ DescriptorPart c) (x.each_lane k ink).lane is_part)
+
+  class_is_lines : n / 256 ≡ a.lines
+  class_is_lines = let e = a.is in omega arith
+
+  run_word : (n % 256 == 1) ≡ true
+  run_word = let e = a.is in eq-eqb (n % 256) 1 (omega arith)
+
+  early : is_decided (views k).log.phase ≡ false
+  early = subst (λ z. is_decided z ≡ false) (sym ph) refl
+
+  flight : Rattle.pm_world.specs.Lanes.in_flight (views k).log.phase ≡ false
+  flight = subst (λ z. Rattle.pm_world.specs.Lanes.in_flight z ≡ false) (sym ph) refl
+
+  first_c : g.geo.first c ≡ c
+  first_c = eqb-true (g.geo.first c) c (fk.hold.mine (Big c) a.own).1
+
+  no_run_c : g.runs c ≡ false
+  no_run_c = fk.hold.free c (subst (λ d. h.mine (Big d) ≡ true) (sym first_c) a.own)
+
+  unfound : (d i : ℕ) → d ≡ c → found (views k).fixed.shape (views k).claims (Small d i) ≡ false
+  unfound d i e = false_from_ne_true (found (views k).fixed.shape (views k).claims (Small d i)) (λ t. both_ways (g.runs c) no_run_c (ap g.runs (sym e) ∙ (and_parts (g.runs d) (nat_lt i (blocks_of (g.geo.class d))) (fk.hold.found (Small d i) t).1).0))
+
+  -- ---- THE SIGHT after the store
+  here_is : (B : Block) → here (views k).fixed.shape (Knows w n ∷ Marked c (n / 256) ∷ (views k).claims) B ≡ here (views k).fixed.shape (views k).claims B
+  here_is (Small d i) = ⊎_elim (λ (e : d ≡ c). and_left (found sh (views k).claims (Small d i)) (locked (views k).claims (header_in sh claims' (Small d i))) (unfound d i e) ∙ sym (and_left (found sh (views k).claims (Small d i)) (locked (views k).claims (header_in sh (views k).claims (Small d i))) (unfound d i e)))
+      (λ (ne : d ≢ c). ap (λ z. found sh (views k).claims (Small d i) && locked (views k).claims (Rattle.pm_layout.specs.Chunks.line_of_chunk sh d + (1 + cond z cl (class (views k).claims d) * i))) (ne_eqb c d (λ e. ne (sym e)))) (cases_eq d c)
+  here_is (Big d) = refl
+  here_is Root = refl
+
+  hold_is : hold_of (views k).fixed.shape (Knows w n ∷ Marked c (n / 256) ∷ (views k).claims) ≡ with_mark (sight_of (views k)).hold c (n / 256)
+  hold_is = λ i. record (sight_of (views k)).hold { here = λ B. here_is B i; making = λ d. other_way c d i || making sh (views k).claims d; class = λ d. cond (other_way c d i) cl (class (views k).claims d) }
+
+  apart : (q : Place) → is_pictured q ≡ true → w ≢ word_of (views k).fixed.shape q
+  apart (InRun d u) t e = let l = ltb-true u 512 (and_parts (is_data (InRun d u)) (nat_lt u 512) t).1 in let z = at in omega arith
+  apart (InHuge d u) t e = let l = ltb-true u 512 t in let z = at in omega arith
+  apart (Descr d) t e = both_ways false refl t
+  apart RootWord t e = let z = at in omega arith
+
+  pictured_else : (u : ℕ) → w ≢ u → pictured (views k).fixed.shape (Knows w n ∷ Marked c (n / 256) ∷ (views k).claims) u ≡ pictured (views k).fixed.shape (views k).claims u
+  pictured_else u ne = cond-false (w == u) (Some n) (pictured sh (views k).claims u) (ne_eqb w u ne)
+
+  picture_is : (q : Place) (i : ℕ) → picture (views k).fixed.shape (Knows w n ∷ Marked c (n / 256) ∷ (views k).claims) q i ≡ picture (views k).fixed.shape (views k).claims q i
+  picture_is q i = split (is_pictured q) (λ z. cond z (option_map (λ y. bit_at y i == 1) (pictured sh claims' (word_of sh q))) None ≡ cond z (option_map (λ y. bit_at y i == 1) (pictured sh (views k).claims (word_of sh q))) None)
+      (λ t. ap (option_map (λ y. bit_at y i == 1)) (pictured_else (word_of sh q) (apart q t))) (λ _. refl)
+
+  none_made : (B : Block) → is_made (turn (latest (redos (views k).log.entries)) B) ≡ false
+  none_made B = ap (λ es. is_made (turn (latest (redos es)) B)) a.unentered ∙ go B
+    where
+      go : (B : Block) → is_made (turn (latest []) B) ≡ false
+      go (Small d i) = refl
+      go (Big d) = refl
+      go Root = refl
+
+  fresh_is : (q : Place) (i : ℕ) → fresh (views k).fixed.shape (Knows w n ∷ Marked c (n / 256) ∷ (views k).claims) (views k).log q i ≡ fresh (views k).fixed.shape (views k).claims (views k).log q i
+  fresh_is q i = ap (λ y. cond (is_data q && (y || is_recorded (views k).log.records q)) (picture sh claims' q i) None) (none_made (block_of (geometry sh claims') q i))
+      ∙ (ap (λ y. cond (is_data q && (false || is_recorded (views k).log.records q)) y None) (picture_is q i)
+      ∙ sym (ap (λ y. cond (is_data q && (y || is_recorded (views k).log.records q)) (picture sh (views k).claims q i) None) (none_made (block_of (geometry sh (views k).claims) q i))))
+
+  logged_is : (q : Place) → is_logged (views k).fixed.shape (views k).fixed.lane (undrained_by (views k) w ∷ (views k).changes) (views k).log.records q ≡ is_logged (views k).fixed.shape (views k).fixed.lane (views k).changes (views k).log.records q
+  logged_is q = logged_else sh (views k).fixed.lane (undrained_by (views k) w) (views k).changes 0 (views k).log.records q (λ i l e. let z = at in let y = lane_in in let most = fl.log.records_most in let r : w / 8 ≡ line_of_slot sh (views k).fixed.lane i = e in omega arith)
+
+  abbrev so : Place → ℕ → Bool
+  so = is_soiled (views k).fixed.shape (hold_of (views k).fixed.shape (Knows w n ∷ Marked c (n / 256) ∷ (views k).claims)) (undrained_by (views k) w ∷ (views k).changes)
+
+  abbrev marked : Sight
+  marked = record (sight_of (views k)) { hold = with_mark (sight_of (views k)).hold c (n / 256); soiled = is_soiled (views k).fixed.shape (hold_of (views k).fixed.shape (Knows w n ∷ Marked c (n / 256) ∷ (views k).claims)) (undrained_by (views k) w ∷ (views k).changes) }
+
+  sight_is : sight_of (changed (views k) w all_bits n (Marked c (n / 256) ∷ (views k).claims) (views k).log) ≡ record (sight_of (views k)) { hold = with_mark (sight_of (views k)).hold c (n / 256); soiled = is_soiled (views k).fixed.shape (hold_of (views k).fixed.shape (Knows w n ∷ Marked c (n / 256) ∷ (views k).claims)) (undrained_by (views k) w ∷ (views k).changes) }
+  sight_is = λ i. record marked { hold = hold_is i; call = record { entries = redos (views k).log.entries; fresh = λ q j. fresh_is q j i }; picture = λ q j. picture_is q j i; logged = λ q. logged_is q i }
