@@ -204,3 +204,110 @@ module _ (recorded : RecordedHere) (o : Opening) (mem new : Memory) (views views
 
   sight_is : sight_of (changed (views k) w all_bits n (Marked c (n / 256) ∷ (views k).claims) (views k).log) ≡ record (sight_of (views k)) { hold = with_mark (sight_of (views k)).hold c (n / 256); soiled = is_soiled (views k).fixed.shape (hold_of (views k).fixed.shape (Knows w n ∷ Marked c (n / 256) ∷ (views k).claims)) (undrained_by (views k) w ∷ (views k).changes) }
   sight_is = λ i. record marked { hold = hold_is i; call = record { entries = redos (views k).log.entries; fresh = λ q j. fresh_is q j i }; picture = λ q j. picture_is q j i; logged = λ q. logged_is q i }
+
+  -- ---- THE BITS after the store
+  abbrev words : ℕ → ℕ
+  words = put1 (λ u. mem (PoolWord u)) w n
+
+  abbrev cells : Cells
+  cells = cells_of o.shape mem
+
+  -- nothing of the chunk is recorded, nor made final
+  of_block : (q : Place) (i : ℕ) → is_data q ≡ true → is_of_chunk c q ≡ true → is_recorded (views k).log.records q ≡ true → ⊥
+  of_block (InRun d u) i dt t r = let j = part (g.geo.class d) u i in both_ways (found sh (views k).claims (Small d j)) (unfound d j (eqb-true d c t)) (and_parts (found sh (views k).claims (Small d j)) (locked (views k).claims (header_in sh (views k).claims (Small d j))) (recorded o mem views g k x ink early (InRun d u) r i)).0
+  of_block (InHuge d u) i dt t r = let f : g.geo.first d ≡ c = ap g.geo.first (eqb-true d c t) ∙ first_c in let y = fk.hold.here (Big (g.geo.first d)) (recorded o mem views g k x ink early (InHuge d u) r i) in
+      both_ways (Rattle.pm_world.specs.States.there S (Big c)) (fk.hold.mine (Big c) a.own).2 (subst (λ e. Rattle.pm_world.specs.States.there S (Big e) ≡ true) f (fk.hold.found (Big (g.geo.first d)) y.1).2)
+  of_block (Descr d) i dt t r = both_ways false refl dt
+  of_block RootWord i dt t r = both_ways false refl dt
+
+  undiffed : (q : Place) (i : ℕ) → is_of_chunk c q ≡ true → given (diff (sight_of (views k)).call q i) ≡ false
+  undiffed q i t = ap (λ es. given (diff (record (sight_of (views k)).call { entries = redos es }) q i)) a.unentered
+      ∙ (ap (λ y. given (cond (is_data q && (y || is_recorded (views k).log.records q)) (picture sh (views k).claims q i) None)) (none_made (block_of (geometry sh (views k).claims) q i)) ∙ ap given (cond-false (is_data q && (false || is_recorded (views k).log.records q)) (picture sh (views k).claims q i) None
+      (false_from_ne_true (is_data q && is_recorded (views k).log.records q) (λ y. let z = and_parts (is_data q) (is_recorded (views k).log.records q) y in of_block q i z.0 t z.1))))
+
+  -- its bitmap is 0
+  value_is : pictured (views k).fixed.shape (views k).claims (word_of_chunk (views k).fixed.shape c) ≡ Some 0
+  value_is = go (Rattle.pm_view.specs.View.runs_one (views k) || is_held sh (views k).claims (word_of_chunk sh c)) a.no_block
+    where
+      go : (t : Bool) → cond t (pictured sh (views k).claims (word_of_chunk sh c)) None ≡ Some 0 → pictured sh (views k).claims (word_of_chunk sh c) ≡ Some 0
+      go true e = e
+      go false e = absurd (both_ways false refl (ap given e))
+
+  own_c : (q : ℕ) → owns g.geo S (sight_of (views k)).hold (InHuge c 0) q ≡ true
+  own_c q = subst (λ d. Rattle.pm_world.specs.Lanes.own h (Big d) ≡ true) (sym first_c) (mine_own h (Big c) a.own)
+
+  empty : (i : ℕ) → read (cells_of o.shape mem).pool (InRun c 0) i ≡ false
+  empty i = (fk.bits (InHuge c 0) i (own_c i)).3 false (ap (option_map (λ y. bit_at y i == 1)) (ap (pictured sh (views k).claims) (let q : word_of_chunk sh c + 0 ≡ word_of_chunk sh c = omega arith in q) ∙ value_is) ∙ ap (λ y. Some (y == 1)) (bit_at-zero i))
+
+  as_huge : (u i : ℕ) (y : Bool) → (sight_of (views k)).picture (InRun c u) i ≡ Some y → (sight_of (views k)).picture (InHuge c u) i ≡ Some y
+  as_huge u i y = go (nat_le 8 u) (nat_lt u 512) (option_map (λ z. bit_at z i == 1) (pictured sh (views k).claims (word_of_chunk sh c + u)))
+    where
+      go : (d l : Bool) (z : Option Bool) → cond (d && l) z None ≡ Some y → cond l z None ≡ Some y
+      go true l z e = e
+      go false l z e = absurd (both_ways false refl (ap given e))
+
+  -- nothing of it is undrained
+  untouched : (u i : ℕ) → u < 512 → is_dirty_bit (views k).changes (word_of_chunk (views k).fixed.shape c + u) i ≡ false
+  untouched u i l = list_any_none (λ (d : Undrained). d.word == (word_of_chunk sh c + u) && bit_at d.mask i == 1) (views k).changes (λ j d y. let e = slice_index_or (views k).changes j d in
+      false_from_ne_true (e.word == (word_of_chunk sh c + u) && bit_at e.mask i == 1) (λ z. let q = eqb-true e.word (word_of_chunk sh c + u) (and_parts (e.word == (word_of_chunk sh c + u)) (bit_at e.mask i == 1) z).0 in
+      a.drained j d y (let r : e.word / 512 ≡ page_of_chunk sh c = omega arith in r)))
+
+  -- the changes that cover another word are the old ones
+  dirty_else : (q : Place) (i : ℕ) → w ≢ word_of (views k).fixed.shape q → is_dirty_bit (undrained_by (views k) w ∷ (views k).changes) (word_of (views k).fixed.shape q) i ≡ true → is_dirty_bit (views k).changes (word_of (views k).fixed.shape q) i ≡ true
+  dirty_else q i ne t = sym (ap (λ y. (y && (bit_at all_bits i == 1)) || is_dirty_bit (views k).changes (word_of sh q) i) (ne_eqb w (word_of sh q) ne)) ∙ t
+
+  fewer : (q : Place) (i : ℕ) → is_soiled (views k).fixed.shape (hold_of (views k).fixed.shape (Knows w n ∷ Marked c (n / 256) ∷ (views k).claims)) (undrained_by (views k) w ∷ (views k).changes) q i ≡ true → ((sight_of (views k)).soiled q i ≡ true) × (is_of_chunk c q ≡ false)
+  fewer (InRun d u) i t = let use_ = nat_lt u 512 && not (cond (c == d) cl (class (views k).claims d) == 0) in let y = and_parts use_ (is_dirty_bit changes' (word_of sh (InRun d u)) i) t in
+      let z = and_parts (nat_lt u 512) (not (cond (c == d) cl (class (views k).claims d) == 0)) y.0 in let l = ltb-true u 512 z.0 in
+      let dirty = dirty_else (InRun d u) i (λ e. let s = at in omega arith) y.1 in
+      let ne : d ≢ c = λ e. both_ways (is_dirty_bit (views k).changes (word_of_chunk sh d + u) i) (ap (λ r. is_dirty_bit (views k).changes (word_of_chunk sh r + u) i) e ∙ untouched u i l) dirty in
+      (and_from (nat_lt u 512 && not (class (views k).claims d == 0)) (is_dirty_bit (views k).changes (word_of sh (InRun d u)) i) (sym (ap (λ r. nat_lt u 512 && not (cond r cl (class (views k).claims d) == 0)) (ne_eqb c d (λ e. ne (sym e)))) ∙ y.0) dirty, ne_eqb d c ne)
+  fewer (InHuge d u) i t = let use_ = nat_lt u 512 && (cond (c == d) cl (class (views k).claims d) == 0) in let y = and_parts use_ (is_dirty_bit changes' (word_of sh (InHuge d u)) i) t in
+      let z = and_parts (nat_lt u 512) (cond (c == d) cl (class (views k).claims d) == 0) y.0 in let l = ltb-true u 512 z.0 in
+      let dirty = dirty_else (InHuge d u) i (λ e. let s = at in omega arith) y.1 in
+      let ne : d ≢ c = λ e. both_ways (is_dirty_bit (views k).changes (word_of_chunk sh d + u) i) (ap (λ r. is_dirty_bit (views k).changes (word_of_chunk sh r + u) i) e ∙ untouched u i l) dirty in
+      (and_from (nat_lt u 512 && (class (views k).claims d == 0)) (is_dirty_bit (views k).changes (word_of sh (InHuge d u)) i) (sym (ap (λ r. nat_lt u 512 && (cond r cl (class (views k).claims d) == 0)) (ne_eqb c d (λ e. ne (sym e)))) ∙ y.0) dirty, ne_eqb d c ne)
+  fewer (Descr d) i t = let y = and_parts (not ((c == d) || making sh (views k).claims d)) (is_dirty_bit changes' (word_of sh (Descr d)) i) t in
+      let z = not-true ((c == d) || making sh (views k).claims d) y.0 in
+      let ne : d ≢ c = λ e. both_ways ((c == d) || making sh (views k).claims d) z (ap (λ r. r || making sh (views k).claims d) (eq-eqb c d (sym e))) in
+      let dirty = dirty_else (Descr d) i (λ e. let s = at in ne (omega arith)) y.1 in
+      (and_from (not (making sh (views k).claims d)) (is_dirty_bit (views k).changes (word_of sh (Descr d)) i) (sym (ap (λ r. not (r || making sh (views k).claims d)) (ne_eqb c d (λ e. ne (sym e)))) ∙ y.0) dirty, ne_eqb d c ne)
+  fewer RootWord i t = (dirty_else RootWord i (λ e. let s = at in omega arith) t, refl)
+
+  -- the pool's other places, and what the descriptor tells
+  same_pool : (q : Place) (i : ℕ) → (q ≡ Descr c → ⊥) → bits_of o.shape (put1 (λ u. mem (PoolWord u)) w n) q i ≡ bits_of o.shape (λ u. mem (PoolWord u)) q i
+  same_pool (InRun d u) i ne = split (nat_lt u 512) (λ z. ((nat_lt d (chunks_of o.shape) && z) && bit (words (word_of o.shape (InRun d u))) i) ≡ ((nat_lt d (chunks_of o.shape) && z) && bit (mem (PoolWord (word_of o.shape (InRun d u)))) i))
+      (λ t. let l = ltb-true u 512 t in ap (λ y. (nat_lt d (chunks_of o.shape) && true) && bit y i) (put1_else (λ u. mem (PoolWord u)) w n (word_of o.shape (InRun d u)) (λ e. let s = at_o in omega arith)))
+      (λ _. and_left (nat_lt d (chunks_of o.shape) && false) (bit (words (word_of o.shape (InRun d u))) i) (and_right (nat_lt d (chunks_of o.shape)) false refl) ∙ sym (and_left (nat_lt d (chunks_of o.shape) && false) (bit (mem (PoolWord (word_of o.shape (InRun d u)))) i) (and_right (nat_lt d (chunks_of o.shape)) false refl)))
+  same_pool (InHuge d u) i ne = split (nat_lt u 512) (λ z. ((nat_lt d (chunks_of o.shape) && z) && bit (words (word_of o.shape (InHuge d u))) i) ≡ ((nat_lt d (chunks_of o.shape) && z) && bit (mem (PoolWord (word_of o.shape (InHuge d u)))) i))
+      (λ t. let l = ltb-true u 512 t in ap (λ y. (nat_lt d (chunks_of o.shape) && true) && bit y i) (put1_else (λ u. mem (PoolWord u)) w n (word_of o.shape (InHuge d u)) (λ e. let s = at_o in omega arith)))
+      (λ _. and_left (nat_lt d (chunks_of o.shape) && false) (bit (words (word_of o.shape (InHuge d u))) i) (and_right (nat_lt d (chunks_of o.shape)) false refl) ∙ sym (and_left (nat_lt d (chunks_of o.shape) && false) (bit (mem (PoolWord (word_of o.shape (InHuge d u)))) i) (and_right (nat_lt d (chunks_of o.shape)) false refl)))
+  same_pool (Descr d) i ne = bits_else o.shape (λ u. mem (PoolWord u)) w n (Descr d) i (λ e. let s = at_o in ne (ap (λ r. Descr r) (let q : d ≡ c = omega arith in q)))
+  same_pool RootWord i ne = bits_else o.shape (λ u. mem (PoolWord u)) w n RootWord i (λ e. let s = at_o in omega arith)
+
+  here_now : put1 (λ u. mem (PoolWord u)) w n (word_of_descriptor o.shape c) ≡ n
+  here_now = ap (put1 (λ u. mem (PoolWord u)) w n) (sym at_o) ∙ put1_here (λ u. mem (PoolWord u)) w n
+
+  clear : (i : ℕ) → bits_of o.shape (put1 (λ u. mem (PoolWord u)) w n) (Descr c) i ≡ false
+  clear i = and_right (is_place o.shape (Descr c)) (huge_told (words (word_of_descriptor o.shape c)) i) (ap (λ y. huge_told y i) here_now ∙ and_left (not (n % 256 == 1)) (bit n i) (ap not run_word))
+
+  descr_is : (d : ℕ) → descriptor_told o.shape (put1 (λ u. mem (PoolWord u)) w n) d ≡ put1 (descriptor_told o.shape (λ u. mem (PoolWord u))) c (n / 256) d
+  descr_is d = ⊎_elim (λ (e : d ≡ c). ap (descriptor_told o.shape words) e ∙ (cond-true (is_place o.shape (Descr c)) (run_told (words (word_of_descriptor o.shape c))) 0 (Rattle.std.proofs.lemmas.Bool.lt-ltb c (chunks_of o.shape) inside) ∙ (ap run_told here_now ∙ (cond-true (n % 256 == 1) (n / 256) 0 run_word
+      ∙ (sym (put1_here (descriptor_told o.shape (λ u. mem (PoolWord u))) c (n / 256)) ∙ ap (put1 (descriptor_told o.shape (λ u. mem (PoolWord u))) c (n / 256)) (sym e))))))
+      (λ (ne : d ≢ c). descriptor_else o.shape (λ u. mem (PoolWord u)) w n d (λ e. let s = at_o in ne (omega arith)) ∙ sym (put1_else (descriptor_told o.shape (λ u. mem (PoolWord u))) c (n / 256) d ne)) (cases_eq d c)
+
+  marks : Marks o.shape o.lanes (origin o) (cells_of o.shape mem) (λ j. sight_of (views j)) (ghost_of g) x.bits k ink c (n / 256) (bits_of o.shape (put1 (λ u. mem (PoolWord u)) w n))
+      (is_soiled (views k).fixed.shape (hold_of (views k).fixed.shape (Knows w n ∷ Marked c (n / 256) ∷ (views k).claims)) (undrained_by (views k) w ∷ (views k).changes))
+  marks = record {
+    own_ = a.own;
+    one = a.one;
+    unknown = a.unknown;
+    some_ = subst (λ z. 1 ≤ z) (sym class_is_lines) (some_class a.lines a.some_blocks);
+    blocks = subst (λ z. 0 < blocks_of z) (sym class_is_lines) a.some_blocks;
+    empty = empty;
+    undiffed = undiffed;
+    pictured = as_huge;
+    fewer = fewer;
+    clear = clear;
+    same_pool = same_pool;
+  }
