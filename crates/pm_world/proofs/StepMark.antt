@@ -1,5 +1,5 @@
 -- A CHUNK IS MARKED AS A RUN by the store of its descriptor, and the world is kept.
-use Rattle.std.specs.Prelude.{List, [], ◌∷◌, All, length, slice_index, slice_index_or, bit_and, if◌then◌else◌}
+use Rattle.std.specs.Prelude.{List, [], ◌∷◌, All, length, slice_index, slice_index_or, bit_and, IsSomeAnd, if◌then◌else◌}
 use Rattle.std.specs.Int.{bit_at}
 use Rattle.std.specs.List.{list_any}
 use Rattle.std.specs.Option.{option_map, ForSome}
@@ -7,9 +7,11 @@ use Rattle.std.proofs.Common.{◌≡◌, ◌≢◌, ℕ, zero, suc, ◌+◌, ◌
 use Rattle.std.proofs.lemmas.Bool.{cases_eq, cases_Bool, both_ways, eqb-true, ltb-true, and_parts, and_from, and_left, and_right, or_cases, not-true, cond-true, cond-false, cond_both, false_from_ne_true}
 use Rattle.std.proofs.lemmas.List.Folds.{list_any_none}
 use Rattle.std.proofs.lemmas.Nat.{and_mask}
+use Rattle.std.proofs.lemmas.Option.{slice_get_within}
+use Rattle.pm_record.specs.Undo.{undo_of}
 use Rattle.std.proofs.lemmas.Nat.Bits.{bit_at-zero}
 use Rattle.pm_layout.specs.declared.shape.Shape.{Shape}
-use Rattle.pm_layout.specs.Areas.{word_of_generation, word_of_seal, word_of_entry, line_of_slot}
+use Rattle.pm_layout.specs.Areas.{undo_slots, word_of_generation, word_of_seal, word_of_entry, line_of_slot}
 use Rattle.pm_layout.specs.Sizes.{blocks_of}
 use Rattle.pm_layout.specs.Chunks.{words_of, chunks_of, page_of_chunk, word_of_chunk, word_of_descriptor, word_of_root, is_descriptor_word, is_chunk_page, chunk_at, chunk_described}
 use Rattle.pm_view.specs.Bits.{all_bits}
@@ -26,7 +28,7 @@ use Rattle.pm_view.specs.Views.{part_in, value_in, changed}
 use Rattle.pm_world.specs.States.{State, given, diff, read, put1, Cells}
 use Rattle.pm_world.specs.Sights.{Hold, Sight, hold_of, is_pictured, picture, is_use, is_soiled, is_recorded, is_logged, is_made, fresh, sight_of}
 use Rattle.pm_world.specs.Lanes.{Ghost, owns, is_decided, Flies, SightFits, Bits}
-use Rattle.pm_world.specs.Logs.{AreaChange, IsOld, PhaseFits, LogFits}
+use Rattle.pm_world.specs.Logs.{slot_list, AreaChange, IsOld, PhaseFits, LogFits}
 use Rattle.pm_world.specs.Lawful.{MayMark, MayStore}
 use Rattle.pm_world.specs.Laws.{Turn}
 use Rattle.pm_world.specs.Memory.{Memory, PoolWord, LockWord, RunWord, ZoneWord, ZoneLock, CommitCounter, StopWord, Becomes, occ_at, bit, run_told, huge_told, bits_of, descriptor_told, cells_by, cells_of}
@@ -43,7 +45,7 @@ use Rattle.pm_world.proofs.Runs.{is_of_chunk, with_mark, ghost_with_mark, Marks,
 use Rattle.pm_world.proofs.StepDraw.{all_cons}
 use Rattle.pm_world.proofs.StoreArea.{undrained_by, logged_else, over_area}
 use Rattle.pm_world.proofs.Stores.{KeepsAt}
-use Rattle.pm_world.proofs.Worlds.{turned, world_with, stops_stay}
+use Rattle.pm_world.proofs.Worlds.{parts_short, slot_taken, turned, world_with, stops_stay}
 
 -- ---- which word it is
 abbrev at_part : Part → Option Place
@@ -311,3 +313,127 @@ module _ (recorded : RecordedHere) (o : Opening) (mem new : Memory) (views views
     clear = clear;
     same_pool = same_pool;
   }
+
+  -- ---- THE WORLD after the store
+  other_word : (u : ℕ) → u ≢ w → new (PoolWord u) ≡ mem (PoolWord u)
+  other_word u ne = b.0 (PoolWord u) (other_number (PoolWord u) (PoolWord w) ne)
+
+  abbrev put_cells : Cells
+  put_cells = cells_by o.shape (put1 (λ u. mem (PoolWord u)) w n) (λ l. mem (LockWord l)) (λ d. mem (RunWord d)) (λ z. mem (ZoneWord z)) (λ z. mem (ZoneLock z)) (mem CommitCounter) (mem StopWord)
+
+  abbrev run_cells : Cells
+  run_cells = record (cells_of o.shape mem) { pool = bits_of o.shape (put1 (λ u. mem (PoolWord u)) w n); descr = put1 (descriptor_told o.shape (λ u. mem (PoolWord u))) c (n / 256) }
+
+  abbrev marked_cells : Cells
+  marked_cells = record (record (cells_of o.shape mem) { pool = bits_of o.shape (put1 (λ u. mem (PoolWord u)) w n); descr = put1 (descriptor_told o.shape (λ u. mem (PoolWord u))) c (n / 256) })
+      { generation = put_cells.generation; seal = put_cells.seal; entry = put_cells.entry; slot = put_cells.slot }
+
+  cells_marked : cells_of o.shape new ≡ marked_cells
+  cells_marked = cells_stored o.shape mem new w n b ∙ (λ j. record marked_cells { descr = λ d. descr_is d j })
+
+  -- the log stands as it did
+  recorded_owned : (q : Place) (i : ℕ) → is_recorded (views k).log.records q ≡ true → owns g.geo (settled_words o g) (sight_of (views k)).hold q i ≡ true → owns g'.geo (settled_words o g) (with_mark (sight_of (views k)).hold c (n / 256)) q i ≡ true
+  recorded_owned (InRun d u) i r t = let y = recorded o mem views g k x ink early (InRun d u) r i in let z = (fk.hold.found (Small d (part (g.geo.class d) u i)) (fk.hold.here (Small d (part (g.geo.class d) u i)) y).1).1 in
+      let ne : d ≢ c = λ e. both_ways (g.runs c) no_run_c (ap g.runs (sym e) ∙ (and_parts (g.runs d) (nat_lt (part (g.geo.class d) u i) (blocks_of (g.geo.class d))) z).0) in
+      subst (λ s. (h.mine (Small d (part (cond s cl (g.geo.class d)) u i)) || (h.here (Small d (part (cond s cl (g.geo.class d)) u i)) || (s || h.making d))) ≡ true) (sym (ne_eqb d c ne)) t
+  recorded_owned (InHuge d u) i r t = t
+  recorded_owned (Descr d) i r t = t
+  recorded_owned RootWord i r t = t
+
+  abbrev LogOf : Sight → Type 0
+  LogOf y = LogFits o.shape k ((cells_of o.shape new).generation k) ((cells_of o.shape new).seal k) ((cells_of o.shape new).entry k) ((cells_of o.shape new).slot k) (settled_words o g) (owns g'.geo (settled_words o g) y.hold) y.picture (views k).log (undrained_by (views k) w ∷ (views k).changes)
+
+  known_zero : IsOld 0 (undrained_by (views k) w)
+  known_zero = (refl, ap (option_map (λ old. bit_and old all_bits)) (ap (value_in (views k)) at ∙ a.clear) ∙ ap Some (and_mask 0 64))
+
+  log_marked : LogOf (record (sight_of (views k)) { hold = with_mark (sight_of (views k)).hold c (n / 256); soiled = is_soiled (views k).fixed.shape (hold_of (views k).fixed.shape (Knows w n ∷ Marked c (n / 256) ∷ (views k).claims)) (undrained_by (views k) w ∷ (views k).changes) })
+  log_marked = let l = fl.log in let most = l.entries_most in let less = l.records_most in let spot = at_o in let lanes = x.most_lanes in record {
+    first = l.first;
+    last = l.last;
+    below = l.below;
+    stored = other_word (word_of_generation o.shape k) (λ q. omega arith) ∙ l.stored;
+    bump = l.bump;
+    sealed = other_word (word_of_seal o.shape k) (λ q. omega arith) ∙ l.sealed;
+    entries_most = l.entries_most;
+    records_most = l.records_most;
+    pairs = λ i d q. let z = l.pairs i d q in let r = slice_get_within (views k).log.entries i d q in (other_word (word_of_entry o.shape k i + 0) (λ s. omega arith) ∙ z.0, other_word (word_of_entry o.shape k i + 1) (λ s. omega arith) ∙ z.1, z.2, z.3);
+    pair_part = λ i q. let r = parts_short o.shape k (sight_of (views k)).picture (views k).log (views k).changes (views k).log.phase l.phase in other_word (word_of_entry o.shape k (length (views k).log.entries) + i) (λ s. omega arith) ∙ l.pair_part i q;
+    records = λ i d q. let z = l.records i d q in let r = slice_get_within (views k).log.records i d q in (λ y s. other_word (8 * line_of_slot o.shape k i + y) (λ t. omega arith) ∙ z.0 y s, z.1, z.2, z.3, z.4, z.5);
+    once = l.once;
+    olds = λ q y r i. let z = l.olds q y r i in (recorded_owned q i (ap given r) z.0, z.1);
+    slot_part = λ i q. let r = parts_short o.shape k (sight_of (views k)).picture (views k).log (views k).changes (views k).log.phase l.phase in let s = slot_taken (views k).log i q in other_word (8 * line_of_slot o.shape k (length (views k).log.records) + i) (λ t. omega arith) ∙ l.slot_part i q;
+    stale = λ i u q z t. l.stale i u q z (sym (ap undo_of (slots i z)) ∙ t);
+    area_changes = all_cons (λ (d : Undrained). AreaChange (views k).log.phase (length (views k).log.entries) (views k).log.generation (part_of o.shape k d.word) d) (undrained_by (views k) w) (views k).changes
+        (subst (λ z. AreaChange z (length (views k).log.entries) (views k).log.generation (part_of o.shape k w) (undrained_by (views k) w)) (sym ph) (subst (λ q. AreaChange Open (length (views k).log.entries) (views k).log.generation q (undrained_by (views k) w)) (sym part_o) known_zero)) l.area_changes;
+    phase = subst (λ z. PhaseFits o.shape k (sight_of (views k)).picture (views k).log (undrained_by (views k) w ∷ (views k).changes) z) (sym ph) (subst (λ z. PhaseFits o.shape k (sight_of (views k)).picture (views k).log (views k).changes z) ph l.phase);
+  }
+    where
+      slots : (i : ℕ) → i < undo_slots o.shape → slot_list (λ y. new (PoolWord (8 * line_of_slot o.shape k i + y))) ≡ slot_list (λ y. mem (PoolWord (8 * line_of_slot o.shape k i + y)))
+      slots i l = let spot = at_o in let lanes = x.most_lanes in λ t. one 0 (omega arith) t ∷ one 1 (omega arith) t ∷ one 2 (omega arith) t ∷ one 3 (omega arith) t ∷ one 4 (omega arith) t ∷ one 5 (omega arith) t ∷ one 6 (omega arith) t ∷ one 7 (omega arith) t ∷ []
+        where
+          one : (y : ℕ) → y < 8 → new (PoolWord (8 * line_of_slot o.shape k i + y)) ≡ mem (PoolWord (8 * line_of_slot o.shape k i + y))
+          one y q = let spot = at_o in let lanes = x.most_lanes in other_word (8 * line_of_slot o.shape k i + y) (λ s. omega arith)
+
+  alone_marked : AloneFits mem (views k) → AloneFits new (changed (views k) w all_bits n (Marked c (n / 256) ∷ (views k).claims) (views k).log)
+  alone_marked z = record {
+    words = λ u y e. ⊎_elim (λ (q : w ≡ u). ap (λ i. new (PoolWord i)) (sym q) ∙ (b.1 ∙ some_same n y (sym (cond-true (w == u) (Some n) (pictured sh (views k).claims u) (eq-eqb w u q)) ∙ e)))
+        (λ (ne : w ≢ u). other_word u (λ q. ne (sym q)) ∙ z.words u y (sym (pictured_else u ne) ∙ e)) (cases_eq w u);
+    occupancy = λ spot y e. (b.0 (occ_at spot) (occ_sort spot (PoolWord w) (λ q. omega arith) (λ q. omega arith)) ∙ (z.occupancy spot y e).0, (z.occupancy spot y e).1);
+  }
+    where
+      value : Option ℕ → ℕ
+      value None = 0
+      value (Some y) = y
+
+      some_same : (d e : ℕ) → Some d ≡ Some e → d ≡ e
+      some_same d e q = ap value q
+
+  counts_on : (s : Option ℕ) (d : ℕ) → ForSome s (λ stop. d < stop) → ForSome s (λ stop. d + 1 ≤ stop)
+  counts_on s d e y q = let l = e y q in omega arith
+
+  stop_stays : (s : Option ℕ) (d : ℕ) → IsSomeAnd s (λ stop. stop ≤ d) → IsSomeAnd s (λ stop. stop ≤ d + 1)
+  stop_stays None d e = e
+  stop_stays (Some stop) d e = omega arith
+
+  lane_marked : LaneFits o new g' k (changed (views k) w all_bits n (Marked c (n / 256) ∷ (views k).claims) (views k).log)
+  lane_marked = record {
+    lane = fl.lane;
+    shape = fl.shape;
+    lanes = fl.lanes;
+    log = subst (λ y. LogFits o.shape k ((cells_of o.shape new).generation k) ((cells_of o.shape new).seal k) ((cells_of o.shape new).entry k) ((cells_of o.shape new).slot k) (settled_words o g) (owns g'.geo (settled_words o g) y.hold) y.picture (views k).log (undrained_by (views k) w ∷ (views k).changes)) (sym sight_is) log_marked;
+    made = λ t. absurd (both_ways (is_decided (views k).log.phase) early t);
+    number = fl.number;
+    zones = λ z. ap (λ y. y == suc k) (b.0 (ZoneLock z) (other_sort (ZoneLock z) (PoolWord w) (λ q. omega arith))) ∙ fl.zones z;
+    masks = all_cons (λ (d : Undrained). (d.mask < 2 ^ 64) × (d.word < words_of o.shape)) (undrained_by (views k) w) (views k).changes (omega arith, subst (λ s. w < words_of s) fl.shape m.inside) fl.masks;
+    room = let r = m.room in omega arith;
+    within = counts_on (views k).fixed.stop (views k).calls due;
+    alone = λ one. alone_marked (fl.alone one);
+    entries = fl.entries;
+  }
+
+  small_word : (u : ℕ) → new (PoolWord u) < 2 ^ 64
+  small_word u = ⊎_elim (λ (q : u ≡ w). subst (λ y. y < 2 ^ 64) (sym (ap (λ i. new (PoolWord i)) q ∙ b.1)) m.small) (λ (ne : u ≢ w). subst (λ y. y < 2 ^ 64) (sym (other_word u ne)) (x.small u)) (cases_eq u w)
+
+  mark_world : Turn views views' k (changed (views k) w all_bits n (Marked c (n / 256) ∷ (views k).claims) (views k).log) → World o new views' (record g { geo = record g.geo { class = put1 g.geo.class c (n / 256) } })
+  mark_world t = let spot = at_o in let lanes = x.most_lanes in let far = turned views views' k v' t in
+      let step = marks_run o.shape o.lanes (origin o) (cells_of o.shape mem) (λ j. sight_of (views j)) (ghost_of g) x.bits k ink c (n / 256) (bits_of o.shape (put1 (λ u. mem (PoolWord u)) w n)) so marks early flight (λ j. sight_of (views' j)) (record { here = far.here ∙ sight_is; else_ = far.else_ }) in
+      world_with o mem views g x k ink new views' g' (settled_words o g) v' refl
+      (subst (λ y. Around k (sight_of (views k)).hold (λ j. (sight_of (views j)).hold) (cells_of o.shape mem) y (settled_words o g) (settled_words o g) (ghost_of g) (ghost_of g')) (sym cells_marked)
+      (around_over k (sight_of (views k)).hold (λ j. (sight_of (views j)).hold) (cells_of o.shape mem) run_cells (settled_words o g) (settled_words o g) (ghost_of g) (ghost_of g') put_cells.generation put_cells.seal put_cells.entry put_cells.slot step.0))
+      record {
+        generation = λ j l ne. other_word (word_of_generation o.shape j) (λ q. omega arith);
+        seal = λ j l ne. other_word (word_of_seal o.shape j) (λ q. omega arith);
+        entry = λ j i half l r s ne. other_word (word_of_entry o.shape j i + half) (λ q. omega arith);
+        slot = λ j i y l r s ne. other_word (8 * line_of_slot o.shape j i + y) (λ q. omega arith);
+        zone = λ z j ne. ap (λ y. y == suc j) (b.0 (ZoneLock z) (other_sort (ZoneLock z) (PoolWord w) (λ q. omega arith)));
+        entries = λ j ne. refl;
+      } t
+      (subst (λ y. Bits o.shape o.lanes (origin o) y (λ j. sight_of (views' j)) (ghost_of g')) (sym cells_marked)
+      (bits_over o.shape o.lanes (origin o) run_cells (λ j. sight_of (views' j)) (ghost_of g') put_cells.generation put_cells.seal put_cells.entry put_cells.slot step.1))
+      lane_marked x.of_lanes small_word (λ u e. let l = ltb-true u 512 (and_parts (nat_lt u 512) (not (u == word_of_root o.shape)) e).0 in other_word u (λ q. omega arith) ∙ x.header u e)
+      (let d = count_same views views' k v' t refl o.lanes in let r = x.counter_room in let e = b.0 CommitCounter (other_sort CommitCounter (PoolWord w) (λ q. omega arith)) in omega arith)
+      (⊎_elim (λ (q : mem StopWord ≡ 0). inl (b.0 StopWord (other_sort StopWord (PoolWord w) (λ z. omega arith)) ∙ q)) (λ (q : (j : ℕ) × (j < o.lanes) × IsAtStop (views j)). inr (q.0, q.1, stops_stay views views' k v' t (stop_stays (views k).fixed.stop (views k).calls) q.0 q.2)) x.stop_word)
+
+-- THE STORE OF A RUN'S DESCRIPTOR KEEPS THE WORLD, where recorded words are in blocks that their lane found
+pub store_mark : RecordedHere → (c : ℕ) → KeepsAt Open (DescriptorPart c)
+store_mark recorded c = keeps_at Open (DescriptorPart c) (λ w n o mem new views views' g k x ink m due a e p b t. mark_world recorded o mem new views views' g x k ink w n c m due a e p b t)
