@@ -20,13 +20,12 @@ use Rattle.pm_world.specs.States.{State, Cells}
 use Rattle.pm_world.specs.Sights.{sight_of}
 use Rattle.pm_world.specs.Lanes.{Flies, flies_at, is_decided, SightFits, Bits}
 use Rattle.pm_world.specs.Lawful.{StoreFits, MayStore}
-use Rattle.pm_world.specs.Laws.{Turn}
+use Rattle.pm_world.specs.Laws.{KeepsAt, Turn}
 use Rattle.pm_world.specs.Memory.{Memory, PoolWord, ZoneLock, CommitCounter, StopWord, occ_at, Becomes, cells_of}
-use Rattle.pm_world.specs.World.{Opening, Views, Past, origin, ghost_of, settled_words, NumberFits, AloneFits, AreaFits, LaneFits, is_header, World}
+use Rattle.pm_world.specs.World.{Opening, Views, Past, origin, ghost_of, settled_words, NumberFits, AloneFits, AreaFits, RecordedFits, LaneFits, is_header, World}
 use Rattle.pm_world.proofs.Cells.{other_sort, other_number, occ_sort}
 use Rattle.pm_world.proofs.Counting.{count_same}
 use Rattle.pm_world.proofs.StepDraw.{all_cons}
-use Rattle.pm_world.proofs.Stores.{KeepsAt}
 use Rattle.pm_world.proofs.Stored.{OwnWords, around_own, stored}
 use Rattle.pm_world.proofs.Worlds.{AreasAside, turned, world_with, stops_stay}
 
@@ -34,10 +33,16 @@ use Rattle.pm_world.proofs.Worlds.{AreasAside, turned, world_with, stops_stay}
 abbrev pub after_store : View → ℕ → ℕ → Log → View
 after_store v w n log = changed v w all_bits n v.claims log
 
-counts_on : (s : Option ℕ) (c : ℕ) → ForSome s (λ stop. c < stop) → ForSome s (λ stop. c + 1 ≤ stop)
+-- a word that is stored is known
+still_given : (t e : Bool) (n : ℕ) (a : Option ℕ) (f : ℕ → Bool) → Rattle.pm_world.specs.States.given (cond t (Rattle.std.specs.Option.option_map f a) None) ≡ true → Rattle.pm_world.specs.States.given (cond t (Rattle.std.specs.Option.option_map f (cond e (Some n) a)) None) ≡ true
+still_given true true n a f q = refl
+still_given true false n a f q = q
+still_given false e n a f q = q
+
+pub counts_on : (s : Option ℕ) (c : ℕ) → ForSome s (λ stop. c < stop) → ForSome s (λ stop. c + 1 ≤ stop)
 counts_on s c e y q = let l = e y q in omega arith
 
-stop_stays : (s : Option ℕ) (c : ℕ) → IsSomeAnd s (λ stop. stop ≤ c) → IsSomeAnd s (λ stop. stop ≤ c + 1)
+pub stop_stays : (s : Option ℕ) (c : ℕ) → IsSomeAnd s (λ stop. stop ≤ c) → IsSomeAnd s (λ stop. stop ≤ c + 1)
 stop_stays None c e = e
 stop_stays (Some stop) c e = omega arith
 
@@ -62,8 +67,8 @@ module _ (o : Opening) (mem new : Memory) (views views' : Views) (g : Past) (x :
   pub store_world : (log : Log) → 512 ≤ w → ((j i : ℕ) → j < o.shape.lanes → j ≢ k → i < 1024 → w ≢ word_of_generation o.shape j + i)
       → OwnWords (settled_words o g) (ghost_of g) (sight_of (views k)).hold (cells_of o.shape mem) (cells_of o.shape new) → ((i : ℕ) → flies_at (views k).log.phase i → flies_at log.phase i)
       → SightFits o.shape (cells_of o.shape new) (settled_words o g) (Flies (ghost_of g) k) (ghost_of g) k (sight_of (after_store (views k) w n log)) → AreaFits o new g k (after_store (views k) w n log) → NumberFits log.phase (views k).number
-      → (is_decided log.phase ≡ true → (c : ℕ) → making (views k).fixed.shape (views k).claims c ≡ false) → Turn views views' k (after_store (views k) w n log) → World o new views' g
-  store_world log page apart own flies sight area number made t = world_with o mem views g x k ink new views' g (settled_words o g) (after_store (views k) w n log) refl
+      → (is_decided log.phase ≡ true → (c : ℕ) → making (views k).fixed.shape (views k).claims c ≡ false) → (is_decided log.phase ≡ false → (p : Rattle.pm_view.specs.Places.Place) → Rattle.pm_world.specs.Sights.is_recorded log.records p ≡ true → RecordedFits g.geo (sight_of (views k)) p) → Turn views views' k (after_store (views k) w n log) → World o new views' g
+  store_world log page apart own flies sight area number made recorded t = world_with o mem views g x k ink new views' g (settled_words o g) (after_store (views k) w n log) refl
       (around_own (settled_words o g) (ghost_of g) k (sight_of (views k)).hold (λ j. (sight_of (views j)).hold) (cells_of o.shape mem) (cells_of o.shape new) own)
       record {
         generation = λ j l ne. other_word (word_of_generation o.shape j) (λ q. apart j 0 l ne (omega arith) (omega arith));
@@ -89,6 +94,7 @@ module _ (o : Opening) (mem new : Memory) (views views' : Views) (g : Past) (x :
         lanes = f.lanes;
         log = area;
         made = made;
+        recorded = λ u p q. let y = recorded u p q in (y.0, λ c. let z = y.1 c in (z.0, still_given (Rattle.pm_world.specs.Sights.is_pictured p) (w == Rattle.pm_view.specs.Places.word_of (views k).fixed.shape p) n (pictured (views k).fixed.shape (views k).claims (Rattle.pm_view.specs.Places.word_of (views k).fixed.shape p)) (λ y. Rattle.std.specs.Int.bit_at y c == 1) z.1));
         number = number;
         zones = λ z. ap (λ y. y == suc k) (b.0 (ZoneLock z) (other_sort (ZoneLock z) (PoolWord w) (λ q. omega arith))) ∙ f.zones z;
         masks = all_cons (λ (c : Undrained). (c.mask < 2 ^ 64) × (c.word < words_of o.shape)) record { word = w; mask = all_bits; old = Rattle.std.specs.Option.option_map (λ old. Rattle.std.specs.Prelude.bit_and old all_bits) (value_in (views k) w); flushed = false } (views k).changes (omega arith, subst (λ s. w < words_of s) f.shape m.inside) f.masks;

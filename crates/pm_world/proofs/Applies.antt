@@ -1,16 +1,16 @@
 -- AN ENTRY OF A DECIDED CALL IS APPLIED, over bits: its bits come to be the settled ones, and no other bit changes that a meaning looks at.
-use Rattle.std.specs.Prelude.{List, [], ◌∷◌}
-use Rattle.std.proofs.Common.{◌≡◌, ◌≢◌, ℕ, suc, ◌+◌, ◌<◌, ◌≤◌, ◌⊎◌, inl, inr, ⊎_elim, Bool, true, false, cond, ◌==◌, ◌&&◌, ◌||◌, eqb, refl, sym, ap, ◌∙◌, subst, arith, eq-eqb, Option, None, Some}
-use Rattle.std.proofs.lemmas.Bool.{cases_Bool, both_ways, and_parts, and_from, cond-true}
+use Rattle.std.specs.Prelude.{List}
+use Rattle.std.proofs.Common.{◌≡◌, ℕ, ◌⊎◌, inl, inr, ⊎_elim, Bool, true, false, ◌==◌, refl, sym, ap, ◌∙◌, subst, eq-eqb, Option, None, Some}
+use Rattle.std.proofs.lemmas.Bool.{both_ways, and_parts, and_from, cond-true}
 use Rattle.pm_layout.specs.declared.shape.Shape.{Shape}
 use Rattle.pm_view.specs.Places.{Place, InRun, InHuge, Descr, RootWord, Block, block_of, twin, same_place}
 use Rattle.pm_view.specs.Entries.{Entry, Redo, given_bit, delta, latest, redos, turn, first_of_two}
-use Rattle.pm_view.specs.Log.{Phase, Applying}
-use Rattle.pm_world.specs.States.{State, Diff, diff, given, live, read, Cells}
+use Rattle.pm_view.specs.Log.{Applying}
+use Rattle.pm_world.specs.States.{State, Diff, given, live, read, Cells}
 use Rattle.pm_world.specs.Sights.{Hold, Sight}
 use Rattle.pm_world.specs.Lanes.{Ghost, owns, sees, is_in_making, blank, BitFits, is_size, HoldFits, SightFits, GeoFits}
 use Rattle.pm_world.proofs.Decides.{some_of, first_none, first_left}
-use Rattle.pm_world.proofs.Frame.{is_single, some_first, fresh_given, twin_dead}
+use Rattle.pm_world.proofs.Frame.{is_single, some_first, twin_dead}
 use Rattle.pm_world.proofs.StepDrain.{and_false}
 use Rattle.pm_world.proofs.Stored.{OwnWords}
 
@@ -26,7 +26,7 @@ twin_twin (InHuge c w) = refl
 twin_twin (Descr c) = refl
 twin_twin RootWord = refl
 
-twin_making : (h : Hold) (p : Place) → is_in_making h (twin p) ≡ is_in_making h p
+pub twin_making : (h : Hold) (p : Place) → is_in_making h (twin p) ≡ is_in_making h p
 twin_making h (InRun c w) = refl
 twin_making h (InHuge c w) = refl
 twin_making h (Descr c) = refl

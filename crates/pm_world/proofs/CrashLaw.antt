@@ -38,14 +38,14 @@ use Rattle.pm_world.proofs.ImageSays.{stands_in, spoken, spoken_is, spoken_beyon
 
 -- ---- places in the pool
 
-place_inside : (sh : Shape) (p : Place) → is_place sh p ≡ true → word_of sh p < words_of sh
+pub place_inside : (sh : Shape) (p : Place) → is_place sh p ≡ true → word_of sh p < words_of sh
 place_inside sh (InRun c w) e = let t = and_parts (nat_lt c (chunks_of sh)) (nat_lt w 512) e in let a = ltb-true c (chunks_of sh) t.0 in let b = ltb-true w 512 t.1 in omega arith
 place_inside sh (InHuge c w) e = let t = and_parts (nat_lt c (chunks_of sh)) (nat_lt w 512) e in let a = ltb-true c (chunks_of sh) t.0 in let b = ltb-true w 512 t.1 in omega arith
 place_inside sh (Descr c) e = let a = ltb-true c (chunks_of sh) e in omega arith
 place_inside sh RootWord e = omega arith
 
 -- a descriptor's word is such to each lane of the pool
-descriptor_part : (sh : Shape) (k c : ℕ) → k < sh.lanes → c < chunks_of sh → part_of sh k (word_of_descriptor sh c) ≡ DescriptorPart (chunk_described sh (word_of_descriptor sh c))
+pub descriptor_part : (sh : Shape) (k c : ℕ) → k < sh.lanes → c < chunks_of sh → part_of sh k (word_of_descriptor sh c) ≡ DescriptorPart (chunk_described sh (word_of_descriptor sh c))
 descriptor_part sh k c ink inside = let w : ℕ = word_of_descriptor sh c in
     let page : w / 512 ≡ page_of_zone sh (c / 64) = omega arith in
     let zone : is_in_zone sh (w / 512) ≡ true = and_from (leb (page_of_zone sh 0) (w / 512)) (ltb (w / 512) (page_of_zone sh sh.zones)) (le-leb (page_of_zone sh 0) (w / 512) (omega arith)) (lt-ltb (w / 512) (page_of_zone sh sh.zones) (omega arith)) in
@@ -58,7 +58,7 @@ descriptor_part sh k c ink inside = let w : ℕ = word_of_descriptor sh c in
     ∙ cond-true (is_descriptor_word sh w) _ _ (and_from (is_in_zone sh (w / 512) && page_in_zone sh (w / 512) == 0) (nat_lt (w % 512) 64) (and_from (is_in_zone sh (w / 512)) (page_in_zone sh (w / 512) == 0) zone first) low)))))
 
 -- a change of a descriptor is of the whole word: where the lane makes a run its old value is 0, or the call is decided
-descriptor_change : (ph : Phase) (count n d : ℕ) (c : Undrained) → AreaChange ph count n (DescriptorPart d) c → (c.mask ≡ all_bits) × (IsOld 0 c ⊎ (is_decided ph ≡ true))
+pub descriptor_change : (ph : Phase) (count n d : ℕ) (c : Undrained) → AreaChange ph count n (DescriptorPart d) c → (c.mask ≡ all_bits) × (IsOld 0 c ⊎ (is_decided ph ≡ true))
 descriptor_change Idle count n d c e = absurd e
 descriptor_change Open count n d c e = (e.0, inl e)
 descriptor_change (Drawn m) count n d c e = absurd e
@@ -79,30 +79,30 @@ run_not_huge word lines b e some = go (is_run word) e
     go true e = refl
     go false e = absurd (omega arith)
 
-inside_told : (t : Bool) (x lines : ℕ) → cond t x 0 ≡ lines → 1 ≤ lines → x ≡ lines
+pub inside_told : (t : Bool) (x lines : ℕ) → cond t x 0 ≡ lines → 1 ≤ lines → x ≡ lines
 inside_told true x lines e some = e
 inside_told false x lines e some = absurd (omega arith)
 
 -- no part has an entry of the word
-no_part : (w : ℕ) (f : ℕ → List Redo) (from n : ℕ) → ((j : ℕ) → j < from + n → of_word w (f j) ≡ []) → of_word w (flat_map f (range_with_len from n)) ≡ []
+pub no_part : (w : ℕ) (f : ℕ → List Redo) (from n : ℕ) → ((j : ℕ) → j < from + n → of_word w (f j) ≡ []) → of_word w (flat_map f (range_with_len from n)) ≡ []
 no_part w f from zero h = refl
 no_part w f from (suc n) h = filter-append (λ (e : Redo). eqb e.place (8 * w)) (f from) (flat_map f (range_with_len (from + 1) n))
     ∙ (ap (λ (es : List Redo). es ++ of_word w (flat_map f (range_with_len (from + 1) n))) (h from (omega arith)) ∙ no_part w f (from + 1) n (λ j l. h j (omega arith)))
 
 module _ (o : Opening) (mem : Memory) (views : Views) (g : Past) (x : World o mem views g) (image : List ℕ) (sv : Survives o mem views image) (torn : NoneTorn o views image) where
-  abbrev im : State
+  abbrev pub im : State
   im = bits_of o.shape (slice_index image)
 
-  abbrev rec : State
+  abbrev pub rec : State
   rec = bits_of o.shape (recovered image o.shape.lanes)
 
   abbrev m : State
   m = read (cells_of o.shape mem).pool
 
-  abbrev says : ℕ → Place → ℕ → Option Bool
+  abbrev pub says : ℕ → Place → ℕ → Option Bool
   says = spoken o mem views g x image sv torn
 
-  fit : (k : ℕ) → SightFits o.shape (cells_of o.shape mem) (settled_words o g) (Flies (ghost_of g) k) (ghost_of g) k (sight_of (views k))
+  pub fit : (k : ℕ) → SightFits o.shape (cells_of o.shape mem) (settled_words o g) (Flies (ghost_of g) k) (ghost_of g) k (sight_of (views k))
   fit k = x.bits.each_lane k
 
   -- ---- WHICH BITS ARE AS IN MEMORY
@@ -110,7 +110,7 @@ module _ (o : Opening) (mem : Memory) (views : Views) (g : Past) (x : World o me
   abbrev Soils : Place → ℕ → Type 0
   Soils p b = (k : ℕ) × (((sight_of (views k)).soiled p b ≡ true) ⊎ ((sight_of (views k)).soiled (twin p) b ≡ true))
 
-  soils : (k : ℕ) → k < o.lanes → (p : Place) (b : ℕ) → is_use (sight_of (views k)).hold p ≡ true → is_dirty_bit (views k).changes (word_of o.shape p) b ≡ true → (sight_of (views k)).soiled p b ≡ true
+  pub soils : (k : ℕ) → k < o.lanes → (p : Place) (b : ℕ) → is_use (sight_of (views k)).hold p ≡ true → is_dirty_bit (views k).changes (word_of o.shape p) b ≡ true → (sight_of (views k)).soiled p b ≡ true
   soils k ink p b u d = and_from (is_use (sight_of (views k)).hold p) (is_dirty_bit (views k).changes (word_of (views k).fixed.shape p) b) u (ap (λ s. is_dirty_bit (views k).changes (word_of s p) b) (x.each_lane k ink).shape ∙ d)
 
   in_chunk : (k c w b : ℕ) → k < o.lanes → nat_lt w 512 ≡ true → is_dirty_bit (views k).changes (word_of o.shape (InRun c w)) b ≡ true → ((sight_of (views k)).soiled (InRun c w) b ≡ true) ⊎ ((sight_of (views k)).soiled (InHuge c w) b ≡ true)
@@ -138,7 +138,7 @@ module _ (o : Opening) (mem : Memory) (views : Views) (g : Past) (x : World o me
             (eq-eqb (bit_at t.seen.mask b) 1 (ap (λ n. bit_at n b) ch.0 ∙ bit_at_ones 64 b small))))),
       )) (cases_Bool ((sight_of (views t.lane)).hold.making c))
 
-  pool : (p : Place) (b : ℕ) → InPool o.shape p b → (im p b ≡ m p b) ⊎ Soils p b
+  pub pool : (p : Place) (b : ℕ) → InPool o.shape p b → (im p b ≡ m p b) ⊎ Soils p b
   pool (InRun c w) b i = ⊎_elim (λ e. inl (ap (λ t. is_place o.shape (InRun c w) && t) e)) (λ (y : (k : ℕ) × (k < o.lanes) × (is_dirty_bit (views k).changes (word_of o.shape (InRun c w)) b ≡ true)). inr (y.0, in_chunk y.0 c w b y.1 (and_parts (nat_lt c (chunks_of o.shape)) (nat_lt w 512) i.0).1 y.2))
       (bit_left o mem views g x image sv (word_of o.shape (InRun c w)) b (place_inside o.shape (InRun c w) i.0) i.1)
   pool (InHuge c w) b i = ⊎_elim (λ e. inl (ap (λ t. is_place o.shape (InHuge c w) && t) e)) (λ (y : (k : ℕ) × (k < o.lanes) × (is_dirty_bit (views k).changes (word_of o.shape (InHuge c w)) b ≡ true)). inr (y.0, other_way (in_chunk y.0 c w b y.1 (and_parts (nat_lt c (chunks_of o.shape)) (nat_lt w 512) i.0).1 y.2)))
@@ -149,10 +149,10 @@ module _ (o : Opening) (mem : Memory) (views : Views) (g : Past) (x : World o me
 
   -- ---- LOGS OF TWO LANES speak of no common bit
 
-  apart : (j k : ℕ) → j ≢ k → (p : Place) (b : ℕ) → owns g.geo (settled_words o g) (sight_of (views j)).hold p b ≡ true → owns g.geo (settled_words o g) (sight_of (views k)).hold p b ≡ false
+  pub apart : (j k : ℕ) → j ≢ k → (p : Place) (b : ℕ) → owns g.geo (settled_words o g) (sight_of (views j)).hold p b ≡ true → owns g.geo (settled_words o g) (sight_of (views k)).hold p b ≡ false
   apart j k ne = owns_apart o.shape (cells_of o.shape mem) (settled_words o g) (Flies (ghost_of g) j) (Flies (ghost_of g) k) (ghost_of g) x.bits.geo x.bits.alone j k (sight_of (views j)) (sight_of (views k)) (fit j) (fit k) ne
 
-  away : (j k : ℕ) → j ≢ k → (p : Place) (b : ℕ) → owns g.geo (settled_words o g) (sight_of (views j)).hold p b ≡ true → owns g.geo (settled_words o g) (sight_of (views k)).hold (twin p) b ≡ false
+  pub away : (j k : ℕ) → j ≢ k → (p : Place) (b : ℕ) → owns g.geo (settled_words o g) (sight_of (views j)).hold p b ≡ true → owns g.geo (settled_words o g) (sight_of (views k)).hold (twin p) b ≡ false
   away j k ne = twin_apart o.shape (cells_of o.shape mem) (settled_words o g) (Flies (ghost_of g) j) (Flies (ghost_of g) k) (ghost_of g) x.bits.geo x.bits.alone j k (sight_of (views j)) (sight_of (views k)) (fit j) (fit k) ne
 
   -- where a record gives a word, no lane has an entry of it
@@ -177,13 +177,13 @@ module _ (o : Opening) (mem : Memory) (views : Views) (g : Past) (x : World o me
       (λ (z : Current o mem views g x image sv torn k ink × (is_decided (views k).log.phase ≡ false)). let s = speaks_of o mem views g x image sv torn k ink z.0 z.1 w b e in
       no_part w (entries image) 0 o.shape.lanes (λ j l. no_entry k ink z.0 z.1 w s.0 s.2 j (omega arith))) z) (three_cases o mem views g x image sv torn k ink)
 
-  sets : (c j : ℕ) → is_place o.shape (Descr c) ≡ true → j < o.shape.lanes → SetsWord (word_of_descriptor o.shape c) (entries image j)
+  pub sets : (c j : ℕ) → is_place o.shape (Descr c) ≡ true → j < o.shape.lanes → SetsWord (word_of_descriptor o.shape c) (entries image j)
   sets c j e inj = ⊎_elim (λ (z : Silent o mem views g x image sv torn j inj). subst (SetsWord (word_of_descriptor o.shape c)) (sym z.none_sealed) tt)
       (λ z. ⊎_elim (λ (z : Sealed o mem views g x image sv torn j inj). subst (SetsWord (word_of_descriptor o.shape c)) (sym z.all_sealed) (sets_descriptor o.shape j inj (views j).log.entries c (sealed_stand o mem views g x image sv torn j inj z) e))
       (λ z. subst (SetsWord (word_of_descriptor o.shape c)) (sym z.0.none_sealed) tt) z) (three_cases o mem views g x image sv torn j inj)
 
   -- no record is of a descriptor
-  bare_descriptor : (c k b : ℕ) → is_place o.shape (Descr c) ≡ true → k < o.shape.lanes → given (record_bit (records image k) (word_of_descriptor o.shape c) b) ≡ false
+  pub bare_descriptor : (c k b : ℕ) → is_place o.shape (Descr c) ≡ true → k < o.shape.lanes → given (record_bit (records image k) (word_of_descriptor o.shape c) b) ≡ false
   bare_descriptor c k b e ink = let w = word_of_descriptor o.shape c in ⊎_elim (λ (z : Silent o mem views g x image sv torn k ink). ap given (bare_bit o mem views g x image sv torn k ink z.bare w b))
       (λ z. ⊎_elim (λ (z : Sealed o mem views g x image sv torn k ink). ap given (bare_bit o mem views g x image sv torn k ink z.bare w b))
       (λ (z : Current o mem views g x image sv torn k ink × (is_decided (views k).log.phase ≡ false)). false_from_ne_true (given (record_bit (records image k) w b)) (λ t. let s = (speaks_of o mem views g x image sv torn k ink z.0 z.1 w b t).2 in
@@ -207,7 +207,7 @@ module _ (o : Opening) (mem : Memory) (views : Views) (g : Past) (x : World o me
           ∙ (ap (λ d. over d (huge_told (slice_index image w) b)) (sym (spoken_is o mem views g x image sv torn k ink (Descr c) b)) ∙ ap (λ t. over (says k (Descr c) b) (t && huge_told (slice_index image w) b)) (sym i.0)))
       go RootWord i others = whole RootWord i others
 
-  image_says : Image o.shape o.shape.lanes (read (cells_of o.shape mem).pool) (settled_words o g) (ghost_of g) (λ k. sight_of (views k)) (bits_of o.shape (slice_index image)) (bits_of o.shape (recovered image o.shape.lanes)) (spoken o mem views g x image sv torn) (stands o mem views g x image sv torn)
+  pub image_says : Image o.shape o.shape.lanes (read (cells_of o.shape mem).pool) (settled_words o g) (ghost_of g) (λ k. sight_of (views k)) (bits_of o.shape (slice_index image)) (bits_of o.shape (recovered image o.shape.lanes)) (spoken o mem views g x image sv torn) (stands o mem views g x image sv torn)
   image_says = record { pool = pool; logs = λ k ink. lane_says o mem views g x image sv torn k ink; no_logs = λ k out. spoken_beyond o mem views g x image sv torn k out; joins = joins }
 
   -- ---- THE KEPT CALLS

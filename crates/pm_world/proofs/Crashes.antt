@@ -284,7 +284,7 @@ module _ (sh : Shape) (L pool_lanes : ℕ) (some : 1 ≤ L) (within : L ≤ pool
   spoken_by k ink p b i u (Retiring n) e = ⊎_elim (λ z. by_entries k p b i u z.0) (λ z. by_records k p b i u z.0) (says k ink (Retiring n) e)
   spoken_by k ink p b i u Voiding e = ⊎_elim (λ z. ap given (z.0 p b i)) (λ z. by_records k p b i u z) (says k ink Voiding e)
 
-  unspoken : (k : ℕ) (p : Place) (b : ℕ) → InPool sh p b → IsOther k p b → given (spoken k p b) ≡ false
+  pub unspoken : (k : ℕ) (p : Place) (b : ℕ) → InPool sh p b → IsOther k p b → given (spoken k p b) ≡ false
   unspoken k p b i u = ⊎_elim (λ (ink : k < pool_lanes). spoken_by k ink p b i u (sights k).phase refl) (λ (out : pool_lanes ≤ k). ap given (y.no_logs k out p b i)) (cases_lt k pool_lanes)
 
   -- which lane has the bit undrained

@@ -1,20 +1,19 @@
 -- A CALL IS DECIDED, over bits: what it makes final is settled, and the blocks that it allocates or frees change hands.
 use Rattle.std.specs.Prelude.{List, [], ◌∷◌}
-use Rattle.std.proofs.Common.{◌≡◌, ◌≢◌, ℕ, zero, suc, ◌+◌, ◌*◌, ◌%◌, ◌<◌, ◌≤◌, ◌⊎◌, inl, inr, ⊎_elim, Bool, true, false, cond, nat_le, nat_lt, ◌&&◌, ◌||◌, not, eqb, ◌==◌, refl, sym, ap, ◌∙◌, subst, arith, eq-eqb, ne_eqb, Option, None, Some}
-use Rattle.std.proofs.lemmas.Bool.{cases_eq, cases_Bool, cases_lt, eqb-true, le-leb, lt-ltb, leb-true, ltb-true, both_ways, and_parts, and_from, or_cases, or_left, or_right, or_parts, false_from_ne_true, true_from_ne_false, cond-false}
+use Rattle.std.proofs.Common.{◌≡◌, ◌≢◌, ℕ, zero, suc, ◌+◌, ◌*◌, ◌%◌, ◌<◌, ◌≤◌, ◌⊎◌, inl, inr, ⊎_elim, Bool, true, false, cond, nat_le, nat_lt, ◌&&◌, ◌||◌, not, ◌==◌, refl, sym, ap, ◌∙◌, subst, arith, ne_eqb, Option, None, Some}
+use Rattle.std.proofs.lemmas.Bool.{cases_eq, cases_Bool, cases_lt, eqb-true, le-leb, lt-ltb, ltb-true, both_ways, and_parts, and_from, or_cases, or_left, or_right, false_from_ne_true, true_from_ne_false, cond-false}
 use Rattle.pm_layout.specs.declared.shape.Shape.{Shape}
-use Rattle.pm_layout.specs.Sizes.{blocks_of}
-use Rattle.pm_view.specs.Places.{Place, InRun, InHuge, Descr, RootWord, Block, Small, Big, Root, block_of, place_of, bit_of, header, in_span, is_data, twin, same_place}
+use Rattle.pm_view.specs.Places.{Place, InRun, InHuge, Descr, RootWord, Block, Small, Big, Root, block_of, header, in_span, is_data, same_place}
 use Rattle.pm_view.specs.Entries.{Entry, Redo, given_bit, latest, redos, turn, first_of_two}
 use Rattle.pm_view.specs.Log.{Phase, Idle, Open, Sealing, Applying}
 use Rattle.pm_view.specs.Claims.{making_of, found_after, mine_after}
 use Rattle.pm_world.specs.States.{State, Diff, Call, diff, given, over, after_diff, there, val, spans, live, root_line, guards, read, put1, Cells}
 use Rattle.pm_world.specs.Sights.{Hold, Sight}
-use Rattle.pm_world.specs.Lanes.{Ghost, own, rights, owns, sees, has, valid, is_decided, left, blank, BitFits, TurnFlight, TurnAfter, TurnFits, DescrFits, HoldFits, SightFits, settled, Flies, flies_at, atom, is_occupancy, is_taken, GeoFits, Bits}
+use Rattle.pm_world.specs.Lanes.{Ghost, own, rights, owns, sees, has, valid, TurnFlight, TurnAfter, TurnFits, DescrFits, HoldFits, SightFits, settled, Flies, flies_at, is_taken, GeoFits, Bits}
 use Rattle.pm_world.specs.Course.{holder_after}
-use Rattle.pm_world.proofs.Frame.{Around, some_first, fresh_given, own_cases, mine_own, here_own, own_has, found_has, no_run, owned_kept}
-use Rattle.pm_world.proofs.Geometry.{alloc_block, live_same}
-use Rattle.pm_world.proofs.Going.{Turned, Rest, goes_on, same_made}
+use Rattle.pm_world.proofs.Frame.{Around, some_first, mine_own, here_own, own_has, found_has, no_run, owned_kept}
+use Rattle.pm_world.proofs.Geometry.{live_same}
+use Rattle.pm_world.proofs.Going.{Turned, goes_on, same_made}
 use Rattle.pm_world.proofs.Replays.{put1_here, put1_else, over_none, replay_same, replay_last}
 
 -- the ghosts once call n is decided, which is this, of lane l

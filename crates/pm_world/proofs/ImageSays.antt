@@ -63,7 +63,7 @@ module _ (o : Opening) (mem : Memory) (views : Views) (g : Past) (x : World o me
     pub sealed_stand : Sealed o mem views g x image sv torn k ink → AllStand o.shape k ink (views k).log.entries
     sealed_stand s = log_stands o.shape k ink (views k).log s.whole (λ i e at. ((log_fits o mem views g x k ink).pairs i e at).3)
 
-    sealed_redoes : Sealed o mem views g x image sv torn k ink → Redoes o.shape (sight_of (views k)) (spoken k)
+    pub sealed_redoes : Sealed o mem views g x image sv torn k ink → Redoes o.shape (sight_of (views k)) (spoken k)
     sealed_redoes s p b i h = spoken_is k ink p b ∙ (ap (first_of_two (entry_bit (entries image k) (word_of o.shape p) b)) (bare_bit s.bare (word_of o.shape p) b) ∙ (first_none (entry_bit (entries image k) (word_of o.shape p) b)
         ∙ (ap (λ es. entry_bit es (word_of o.shape p) b) s.all_sealed ∙ entry_bits o.shape k ink (views k).log.entries p b (sealed_stand s) i.0 h)))
       where

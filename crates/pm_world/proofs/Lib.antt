@@ -28,6 +28,7 @@ pub mod StepClaims
 pub mod StepLocks
 pub mod Looks
 pub mod Descriptors
+pub mod Learns
 pub mod StepZones
 pub mod StepNumber
 pub mod Occupies
@@ -35,6 +36,7 @@ pub mod Vacates
 pub mod Runs
 pub mod WordPlaces
 pub mod OccWorlds
+pub mod RowBits
 pub mod StepOccupies
 pub mod Decides
 pub mod StepDrain
@@ -43,6 +45,9 @@ pub mod AfterStore
 pub mod StoreArea
 pub mod StepChange
 pub mod Applies
+pub mod StepApply
+pub mod StepEntries
+pub mod StepShared
 pub mod PlacesAt
 pub mod Entering
 pub mod EntryBits
@@ -50,3 +55,8 @@ pub mod StoreEntry
 pub mod StoreEnd
 pub mod RecordBits
 pub mod StepMark
+pub mod StepVacate
+pub mod StepDrops
+pub mod CrashDescriptors
+pub mod Recording
+pub mod StoreRecord

@@ -1,13 +1,13 @@
 -- A change of one occupancy word keeps the world: what its lane owes beside the bits.
-use Rattle.std.specs.Prelude.{[], ◌∷◌, List, length}
-use Rattle.std.proofs.Common.{◌≡◌, ◌≢◌, ℕ, suc, ◌+◌, ◌*◌, ◌^◌, ◌<◌, ◌≤◌, ◌⊎◌, inl, inr, ⊎_elim, Bool, true, false, eqb, ◌==◌, refl, sym, ap, ◌∙◌, subst, arith, Option, None, Some}
+use Rattle.std.specs.Prelude.{List, length}
+use Rattle.std.proofs.Common.{◌≡◌, ◌≢◌, ℕ, suc, ◌+◌, ◌*◌, ◌^◌, ◌<◌, inl, inr, ⊎_elim, true, false, ◌==◌, refl, sym, ap, ◌∙◌, subst, arith, Some}
 use Rattle.std.proofs.lemmas.Bool.{both_ways}
 use Rattle.pm_layout.specs.declared.shape.Shape.{Shape}
 use Rattle.pm_layout.specs.Areas.{word_of_generation, word_of_seal, word_of_entry, line_of_slot}
 use Rattle.pm_record.specs.Undo.{undo_of}
 use Rattle.pm_view.specs.Limits.{greatest_generation}
 use Rattle.pm_view.specs.declared.occ.Occ.{Occ}
-use Rattle.pm_view.specs.Places.{Place, Block, Geometry}
+use Rattle.pm_view.specs.Places.{Place, InRun, InHuge, Descr, RootWord, Block, Geometry, block_of, is_data}
 use Rattle.pm_view.specs.Changes.{Undrained}
 use Rattle.pm_view.specs.Claims.{Claim, pictured}
 use Rattle.pm_view.specs.Counts.{IsAtStop}
@@ -15,17 +15,17 @@ use Rattle.pm_view.specs.Log.{Phase, Idle, Open, Drawn, Sealing, Applying, Clear
 use Rattle.pm_view.specs.Steps.{Step}
 use Rattle.pm_view.specs.View.{View, Seen}
 use Rattle.pm_view.specs.Views.{occupancy_of}
-use Rattle.pm_world.specs.States.{State, Diff, Cells}
-use Rattle.pm_world.specs.Sights.{Sight, sight_of}
+use Rattle.pm_world.specs.States.{State, Diff, given, Cells}
+use Rattle.pm_world.specs.Sights.{Hold, sight_of}
 use Rattle.pm_world.specs.Lanes.{owns, is_decided, in_flight, Bits}
 use Rattle.pm_world.specs.Logs.{slot_list, PhaseFits}
 use Rattle.pm_world.specs.Memory.{Location, PoolWord, ZoneLock, CommitCounter, StopWord, Memory, Becomes, occ_at, cells_of}
-use Rattle.pm_world.specs.World.{Opening, Views, Past, origin, ghost_of, settled_words, is_at_page, LaneFits, may_draw, may_draw_count, World}
+use Rattle.pm_world.specs.World.{Opening, Views, Past, origin, ghost_of, settled_words, is_at_page, may_draw, may_draw_count, World}
 use Rattle.pm_world.specs.Laws.{Turn}
 use Rattle.pm_world.proofs.Cells.{sort, occ_sort}
 use Rattle.pm_world.proofs.Counting.{count_same}
-use Rattle.pm_world.proofs.Frame.{Around}
-use Rattle.pm_world.proofs.Worlds.{Aside, world_after, stops_stay}
+use Rattle.pm_world.proofs.Frame.{Around, here_own}
+use Rattle.pm_world.proofs.Worlds.{world_after, stops_stay}
 
 pub early_undecided : (ph : Phase) → is_early ph ≡ true → (is_decided ph ≡ false) × (in_flight ph ≡ false)
 early_undecided Idle e = (refl, refl)
@@ -48,6 +48,13 @@ early_phase sh lane d d' l changes Clearing e f = f
 early_phase sh lane d d' l changes (Retiring n) e f = f
 early_phase sh lane d d' l changes Voiding e f = absurd (both_ways false refl e)
 
+-- data of a block that is found under its write lock is the lane's to change
+pub data_owned : (h : Hold) (G : Geometry) (S : State) (p : Place) (c : ℕ) → is_data p ≡ true → h.here (block_of G p c) ≡ true → owns G S h p c ≡ true
+data_owned h G S (InRun d u) c e t = here_own h (block_of G (InRun d u) c) t
+data_owned h G S (InHuge d u) c e t = here_own h (block_of G (InHuge d u) c) t
+data_owned h G S (Descr d) c e t = absurd (both_ways false refl e)
+data_owned h G S RootWord c e t = absurd (both_ways false refl e)
+
 module _ (o : Opening) (mem new : Memory) (views views' : Views) (g : Past) (x : World o mem views g) (k : ℕ) (ink : k < o.lanes) (at : Occ) (y : ℕ) (b : Becomes (occ_at at) y mem new)
     (claims : List Claim) (occupancy : List Seen) (seen : List Step) (geo : Geometry) (holder : Block → ℕ) where
   abbrev v' : View
@@ -69,6 +76,8 @@ module _ (o : Opening) (mem new : Memory) (views views' : Views) (g : Past) (x :
   pub record OwesOcc : Type 0 where
     pub early : is_early (views k).log.phase ≡ true
     pub olds : (p : Place) (c : ℕ) → Rattle.pm_world.specs.States.given (Rattle.pm_view.specs.Log.old_of (views k).log.records p) ≡ true → owns g.geo (settled_words o g) (sight_of (views k)).hold p c ≡ true → owns geo (settled_words o g) (sight_of (record (views k) { claims = claims; occupancy = occupancy; seen = seen })).hold p c ≡ true
+    pub recorded : (p : Place) (c : ℕ) → is_data p ≡ true → (sight_of (views k)).hold.here (block_of g.geo p c) ≡ true → given ((sight_of (views k)).picture p c) ≡ true
+        → ((sight_of (record (views k) { claims = claims; occupancy = occupancy; seen = seen })).hold.here (block_of geo p c) ≡ true) × (given ((sight_of (record (views k) { claims = claims; occupancy = occupancy; seen = seen })).picture p c) ≡ true)
     pub words : (w z : ℕ) → pictured (views k).fixed.shape claims w ≡ Some z → pictured (views k).fixed.shape (views k).claims w ≡ Some z
     pub occs : o.lanes ≡ 1 → (other : Occ) (z : ℕ) → occupancy_of occupancy other ≡ Some z → (new (occ_at other) ≡ z) × (is_at_page other ≡ true)
     pub draws : may_draw (record (views k) { claims = claims; occupancy = occupancy; seen = seen }) ≡ may_draw (views k)
@@ -107,6 +116,7 @@ module _ (o : Opening) (mem new : Memory) (views views' : Views) (g : Past) (x :
           phase = early_phase o.shape k (sight_of (views k)).picture (sight_of v').picture (views k).log (views k).changes (views k).log.phase w.early l.phase;
         };
         made = λ t. absurd (both_ways (Rattle.pm_world.specs.Lanes.is_decided (views k).log.phase) (early_undecided (views k).log.phase w.early).0 t);
+        recorded = λ u p q. let z = f.recorded u p q in (z.0, λ c. let r = z.1 c in w.recorded p c z.0 r.0 r.1);
         number = f.number;
         zones = λ z. ap (λ m. m == suc k) (lock z) ∙ f.zones z;
         masks = f.masks;

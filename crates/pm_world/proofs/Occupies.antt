@@ -4,15 +4,15 @@ use Rattle.std.proofs.lemmas.Bool.{cases_eq, cases_Bool, eqb-true, both_ways, le
 use Rattle.pm_layout.specs.declared.shape.Shape.{Shape}
 use Rattle.pm_layout.specs.Sizes.{blocks_of}
 use Rattle.pm_view.specs.Places.{Place, InRun, InHuge, Descr, RootWord, Block, Small, Big, Root, Geometry, part, block_of, header, in_span, is_data, same}
-use Rattle.pm_view.specs.Entries.{latest, turn, first_of_two}
+use Rattle.pm_view.specs.Entries.{latest, turn}
 use Rattle.pm_view.specs.Log.{Phase, Idle, Open, Drawn, Sealing, Applying, Clearing, Retiring, Voiding}
 use Rattle.pm_view.specs.Claims.{making_of}
-use Rattle.pm_world.specs.States.{State, Diff, Call, diff, given, there, lit, bright_huge, live, guards, read, claimed, Cells}
+use Rattle.pm_world.specs.States.{State, Diff, diff, given, there, lit, bright_huge, live, guards, read, claimed, Cells}
 use Rattle.pm_world.specs.Sights.{Hold, Sight}
 use Rattle.pm_world.specs.Lanes.{Ghost, own, rights, owns, has, valid, is_decided, in_flight, left, blank, BitFits, open_soils, soils, TurnFits, settled, SightFits, Flies, is_occupancy, is_taken, is_size, DescrFits, GeoFits, Bits}
-use Rattle.pm_world.proofs.Geometry.{same_true, same_refl}
+use Rattle.pm_world.proofs.Geometry.{same_true}
 use Rattle.pm_world.proofs.Frame.{Around, own_cases, mine_own, own_has, maker_no_run, turn_stays, stay_fits, some_first, fresh_given, soiled_owned}
-use Rattle.pm_world.proofs.Going.{Turned, goes_on, own_fits, same_made, still_flying}
+use Rattle.pm_world.proofs.Going.{Turned, goes_on, same_made, still_flying}
 
 -- by cases of a test that stands in several places
 pub split : (t : Bool) (P : Bool → Type 0) → (t ≡ true → P true) → (t ≡ false → P false) → P t
@@ -255,7 +255,7 @@ module _ (sh : Shape) (L : ℕ) (o : State) (cells : Cells) (sights : ℕ → Si
   abbrev hk : Hold
   hk = (sights k).hold
 
-  abbrev first' : ℕ → ℕ
+  abbrev pub first' : ℕ → ℕ
   first' c = cond (in_span f₀ n c) f₀ (cond (in_span f₀ n (g.geo.first c)) c (g.geo.first c))
 
   in_f : in_span f₀ n f₀ ≡ true
@@ -281,11 +281,11 @@ module _ (sh : Shape) (L : ℕ) (o : State) (cells : Cells) (sights : ℕ → Si
   unfound : (c : ℕ) → Nothing c → (j : ℕ) → has (sights j).hold (Big c) ≡ false
   unfound c z j = or_from (own (sights j).hold (Big c)) ((sights j).hold.found (Big c)) (z.0 j) (false_from_ne_true ((sights j).hold.found (Big c)) (λ t. both_ways (there (settled o g) (Big c)) z.1 ((x.each_lane j).hold.found (Big c) t).2))
 
-  free_chunk : (c : ℕ) → in_span f₀ n c ≡ true → (g.runs c ≡ false) × (there (settled o g) (Big (g.geo.first c)) ≡ false) × (g.holder (Big (g.geo.first c)) ≡ 0)
+  pub free_chunk : (c : ℕ) → in_span f₀ n c ≡ true → (g.runs c ≡ false) × (there (settled o g) (Big (g.geo.first c)) ≡ false) × (g.holder (Big (g.geo.first c)) ≡ 0)
   free_chunk c t = let e = g.geo.first c in let y = found c t in let z = or_parts (g.runs c) (there (settled o g) (Big e) || not (g.holder (Big e) == 0)) (sym (x.occ (Big c) y.0) ∙ y.1) in
       let w = or_parts (there (settled o g) (Big e)) (not (g.holder (Big e) == 0)) z.1 in (z.0, w.0, eqb-true (g.holder (Big e)) 0 (true_from_ne_false (eqb (g.holder (Big e)) 0) (λ q. both_ways (not (g.holder (Big e) == 0)) w.1 (ap not q))))
 
-  none_in : (c : ℕ) → in_span f₀ n c ≡ true → Nothing (g.geo.first c)
+  pub none_in : (c : ℕ) → in_span f₀ n c ≡ true → Nothing (g.geo.first c)
   none_in c t = let y = free_chunk c t in (unowned_big (g.geo.first c) y.1 y.2, y.1, y.2)
 
   none_loose : (c : ℕ) → (g.geo.first c ≡ c → ⊥) → Nothing c
@@ -295,7 +295,7 @@ module _ (sh : Shape) (L : ℕ) (o : State) (cells : Cells) (sights : ℕ → Si
       unheld zero e = e
       unheld (suc j) e = let f = x.each_lane j in absurd (ne (eqb-true (g.geo.first c) c (f.hold.mine (Big c) (f.hold.holds (Big c) e)).1))
 
-  none_f : Nothing f₀
+  pub none_f : Nothing f₀
   none_f = ⊎_elim (λ (e : g.geo.first f₀ ≡ f₀). subst Nothing e (none_in f₀ in_f)) (λ (ne : g.geo.first f₀ ≢ f₀). none_loose f₀ ne) (cases_eq (g.geo.first f₀) f₀)
 
   -- a chunk is of the new claim; or it was named to be of a block of which a chunk is taken, and is its own; or its block stays
@@ -321,7 +321,7 @@ module _ (sh : Shape) (L : ℕ) (o : State) (cells : Cells) (sights : ℕ → Si
   claim_same : (y : ℕ) → (Nothing y → ⊥) → (c : ℕ) → eqb (first' c) y ≡ eqb (g.geo.first c) y
   claim_same y some_ c = ⊎_elim (λ (t : first' c ≡ g.geo.first c). ap (λ a. eqb a y) t) (λ (t : Nothing (g.geo.first c) × Nothing (first' c)). ne_eqb (first' c) y (λ s. some_ (subst Nothing s t.1)) ∙ sym (ne_eqb (g.geo.first c) y (λ s. some_ (subst Nothing s t.0)))) (moves c)
 
-  chunks_of_new : (c : ℕ) → eqb (first' c) f₀ ≡ in_span f₀ n c
+  pub chunks_of_new : (c : ℕ) → eqb (first' c) f₀ ≡ in_span f₀ n c
   chunks_of_new c = ⊎_elim (λ (t : New c). eq-eqb (first' c) f₀ t.1 ∙ sym t.0)
       (λ (r : Loose c ⊎ Stays c). ⊎_elim (λ (t : Loose c). ne_eqb (first' c) f₀ (λ s. not_f c t.0 (sym t.2 ∙ s)) ∙ sym t.0) (λ (t : Stays c). ne_eqb (first' c) f₀ (λ s. not_f (g.geo.first c) t.1 (sym t.2 ∙ s)) ∙ sym t.0) r) (cases c)
 
@@ -364,13 +364,13 @@ module _ (sh : Shape) (L : ℕ) (o : State) (cells : Cells) (sights : ℕ → Si
   less_small c i = ap (λ t. (t || hk.mine (Small c i)) || (hk.here (Small c i) || hk.making c)) (no_small c i)
 
   -- of what the lane owned the blocks stay
-  blocks_stay : (p : Place) (b : ℕ) → owns g.geo (settled o g) (sights k).hold p b ≡ true → block_of (claimed g.geo f₀ n) p b ≡ block_of g.geo p b
+  pub blocks_stay : (p : Place) (b : ℕ) → owns g.geo (settled o g) (sights k).hold p b ≡ true → block_of (claimed g.geo f₀ n) p b ≡ block_of g.geo p b
   blocks_stay (InRun c w) b t = refl
   blocks_stay (InHuge c w) b t = ⊎_elim (λ (e : first' c ≡ g.geo.first c). ap (λ a. Big a) e) (λ (z : Nothing (g.geo.first c) × Nothing (first' c)). absurd (owned_some (g.geo.first c) t z.0)) (moves c)
   blocks_stay (Descr c) b t = ⊎_elim (λ (e : first' c ≡ g.geo.first c). ap (λ a. Big a) e) (λ (z : Nothing (g.geo.first c) × Nothing (first' c)). absurd (owned_some (g.geo.first c) t z.0)) (moves c)
   blocks_stay RootWord b t = refl
 
-  owns_more : (p : Place) (b : ℕ) → owns g.geo (settled o g) (sights k).hold p b ≡ true → owns (claimed g.geo f₀ n) (settled o g) (with_claim (sights k).hold new f₀ n) p b ≡ true
+  pub owns_more : (p : Place) (b : ℕ) → owns g.geo (settled o g) (sights k).hold p b ≡ true → owns (claimed g.geo f₀ n) (settled o g) (with_claim (sights k).hold new f₀ n) p b ≡ true
   owns_more (InRun c w) b t = more_has (block_of g.geo (InRun c w) b) t
   owns_more (InHuge c w) b t = subst (λ B. own h' B ≡ true) (sym (blocks_stay (InHuge c w) b t)) (more_has (Big (g.geo.first c)) t)
   owns_more (Descr c) b t = subst (λ B. own h' B ≡ true) (sym (blocks_stay (Descr c) b t)) (more_has (Big (g.geo.first c)) t)

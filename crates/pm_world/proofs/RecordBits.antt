@@ -42,7 +42,7 @@ module _ (sh : Shape) (cells : Cells) (S : State) (flies : ℕ → Diff → Type
       ∙ ap (option_map (λ z. bit z b)) (some_num (Rattle.pm_view.specs.View.runs_one v || Rattle.pm_view.specs.Claims.is_held v.fixed.shape v.claims (word_of v.fixed.shape p)) (pictured v.fixed.shape v.claims (word_of v.fixed.shape p)) y e)
 
   -- of a living word that the lane owns and knows, under no drained record, the settled value is the known one
-  settled_known : (p : Place) (y : ℕ) → is_pictured p ≡ true → knows v (word_of v.fixed.shape p) ≡ Some y → live S g.geo g.runs p ≡ true → (sight_of v).logged p ≡ false → (b : ℕ) → owns g.geo S (sight_of v).hold p b ≡ true → (S p b ≡ bit y b) × (read cells.pool p b ≡ bit y b)
+  pub settled_known : (p : Place) (y : ℕ) → is_pictured p ≡ true → knows v (word_of v.fixed.shape p) ≡ Some y → live S g.geo g.runs p ≡ true → (sight_of v).logged p ≡ false → (b : ℕ) → owns g.geo S (sight_of v).hold p b ≡ true → (S p b ≡ bit y b) × (read cells.pool p b ≡ bit y b)
   settled_known p y t e al lg b o = let z = f.bits p b o in let m = z.3 (bit y b) (told p y t e b) in (sym (z.0 al refl (ap (λ q. q && true) lg)) ∙ m, m)
 
   -- an object's size is under no drained record
@@ -107,7 +107,7 @@ module _ (sh : Shape) (cells : Cells) (S : State) (flies : ℕ → Diff → Type
         (and_from (S (InRun c 0) n) (lit (S (size_at (g.geo.class c) c n)) l) (ap (S (InRun c 0)) e ∙ there_) (le-leb l ((val (S (size_at (g.geo.class c) c n)) 0 64 + 63) / 64) (omega arith)))))
 
     -- the word is alive, where its line is one that the object has
-    run_alive : (size : ℕ) → knows v (size_in v (InRun c u)) ≡ Some size → offset_in v (InRun c u) / 8 ≤ (size + 63) / 64 → live S g.geo g.runs (InRun c u) ≡ true
+    pub run_alive : (size : ℕ) → knows v (size_in v (InRun c u)) ≡ Some size → offset_in v (InRun c u) / 8 ≤ (size + 63) / 64 → live S g.geo g.runs (InRun c u) ≡ true
     run_alive size e within = let p = size_at (g.geo.class c) c ((u / 8 - 1) / g.geo.class c) in let l = (u / 8 - 1) % g.geo.class c in
         let e' : knows v (word_of v.fixed.shape p) ≡ Some size = ap (λ n. knows v (Rattle.pm_layout.specs.Chunks.word_of_chunk v.fixed.shape c + (8 * (1 + n * ((u / 8 - 1) / n)) + 1))) (sym known) ∙ e in
         let lg = unlogged_size p (Small c ((u / 8 - 1) / g.geo.class c)) size_is (size_block 0) here_ in
@@ -134,7 +134,7 @@ module _ (sh : Shape) (cells : Cells) (S : State) (flies : ℕ → Diff → Type
     twice : g.geo.first (g.geo.first c) ≡ g.geo.first c
     twice = geo.twice c
 
-    huge_alive : (size : ℕ) → knows v (size_in v (InHuge c u)) ≡ Some size → offset_in v (InHuge c u) / 8 ≤ (size + 63) / 64 → live S g.geo g.runs (InHuge c u) ≡ true
+    pub huge_alive : (size : ℕ) → knows v (size_in v (InHuge c u)) ≡ Some size → offset_in v (InHuge c u) / 8 ≤ (size + 63) / 64 → live S g.geo g.runs (InHuge c u) ≡ true
     huge_alive size e within = let y = g.geo.first c in let p = InHuge y 1 in let l = 64 * (c - y) + u / 8 in
         let e' : knows v (word_of v.fixed.shape p) ≡ Some size = ap (λ n. knows v (Rattle.pm_layout.specs.Chunks.word_of_chunk v.fixed.shape n + 1)) (sym first_is) ∙ e in
         let s : is_size g.geo p ≡ true = and_from (g.geo.first y == y) true (eq-eqb (g.geo.first y) y twice) refl in

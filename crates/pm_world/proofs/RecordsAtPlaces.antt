@@ -20,13 +20,13 @@ use Rattle.pm_view.specs.View.{View, runs_one}
 use Rattle.pm_view.specs.Founds.{knows}
 use Rattle.pm_world.specs.States.{State, Diff, given, live, read}
 use Rattle.pm_world.specs.Sights.{is_pictured, picture, is_recorded, is_logged, is_logged_from, is_slot_drained, sight_of}
-use Rattle.pm_world.specs.Lanes.{is_decided, left, own, owns, has, SightFits, Flies}
+use Rattle.pm_world.specs.Lanes.{is_decided, is_in_making, left, own, owns, has, SightFits, Flies}
 use Rattle.pm_world.specs.Logs.{IsRecordAt}
 use Rattle.pm_world.specs.Lawful.{CanRecord, MayChangeAt}
 use Rattle.pm_world.specs.Memory.{Memory, bit, cells_of}
-use Rattle.pm_world.specs.World.{Opening, Views, Past, World, settled_words, ghost_of}
+use Rattle.pm_world.specs.World.{Opening, Views, Past, RecordedFits, World, settled_words, ghost_of}
 use Rattle.pm_world.specs.Crash.{Survives, NoneTorn}
-use Rattle.pm_world.proofs.Frame.{is_single, here_own, own_has}
+use Rattle.pm_world.proofs.Frame.{is_single, here_own, own_has, maker_owns, maker_no_run}
 use Rattle.pm_world.proofs.Crashes.{InPool, Restores}
 use Rattle.pm_world.proofs.RecoveredBits.{record_bit, entry_bit, log_bit}
 use Rattle.pm_world.proofs.SurvivingWords.{log_fits}
@@ -153,13 +153,13 @@ left_none Clearing p b e = refl
 left_none (Retiring n) p b e = refl
 left_none Voiding p b e = refl
 
-data_pictured : (sh : Shape) (p : Place) → is_data p ≡ true → is_place sh p ≡ true → is_pictured p ≡ true
+pub data_pictured : (sh : Shape) (p : Place) → is_data p ≡ true → is_place sh p ≡ true → is_pictured p ≡ true
 data_pictured sh (InRun c w) e i = and_from (nat_le 8 w) (nat_lt w 512) e (and_parts (nat_lt c (chunks_of sh)) (nat_lt w 512) i).1
 data_pictured sh (InHuge c w) e i = (and_parts (nat_lt c (chunks_of sh)) (nat_lt w 512) i).1
 data_pictured sh (Descr c) e i = absurd (both_ways false refl e)
 data_pictured sh RootWord e i = refl
 
-known_pictured : (t : Bool) (y : Option ℕ) (x : ℕ) → cond t y None ≡ Some x → y ≡ Some x
+pub known_pictured : (t : Bool) (y : Option ℕ) (x : ℕ) → cond t y None ≡ Some x → y ≡ Some x
 known_pictured true y x e = e
 known_pictured false y x e = absurd (none-some x e)
 
@@ -198,12 +198,34 @@ module _ (o : Opening) (mem : Memory) (views : Views) (g : Past) (x : World o me
   changes_own (Descr d) b e may = absurd may
   changes_own RootWord b e may = absurd (both_ways false refl e)
 
+  -- and makes no run of it
+  changes_unmade : (p : Place) → is_data p ≡ true → MayChangeAt (views k) p → is_in_making (sight_of (views k)).hold p ≡ false
+  changes_unmade (InRun d w) e may = let l = leb-true 8 w e in let z : (w == 0) ≡ false = ne_eqb w 0 (λ q. omega arith) in let i = (w / 8 - 1) / class (views k).claims d in
+      let h : (sight_of (views k)).hold.here (Small d i) ≡ true = sym (ap (λ n. (sight_of (views k)).hold.here (Small d n)) (cond-false (w == 0) 64 i z)) ∙ may.0 in
+      false_from_ne_true ((sight_of (views k)).hold.making d) (λ t. both_ways (g.runs d) (maker_no_run o.shape (cells_of o.shape mem) (settled_words o g) (Flies (ghost_of g) k) (ghost_of g) x.bits.geo k (sight_of (views k)) f d t)
+      (and_parts (g.runs d) (nat_lt i (Rattle.pm_layout.specs.Sizes.blocks_of (g.geo.class d))) (f.hold.found (Small d i) (f.hold.here (Small d i) h).1).1).0)
+  changes_unmade (InHuge d w) e may = let y = first (views k).fixed.shape (views k).claims d in let own_ = here_own (sight_of (views k)).hold (Big y) may.0 in
+      let same = eqb-true (g.geo.first d) y (f.hold.span y (own_has (sight_of (views k)).hold (Big y) own_) d ∙ may.2) in
+      false_from_ne_true ((sight_of (views k)).hold.making d) (λ t. let z = (maker_owns o.shape (cells_of o.shape mem) (settled_words o g) (Flies (ghost_of g) k) (ghost_of g) x.bits.geo k (sight_of (views k)) f d t).1 in
+      both_ways (settled_words o g (Descr d) 1) (f.hold.mine (Big d) (f.hold.making d t).0).2 (ap (λ n. settled_words o g (Descr n) 1) (sym z ∙ same) ∙ (f.hold.found (Big y) (f.hold.here (Big y) may.0).1).2))
+  changes_unmade (Descr d) e may = absurd may
+  changes_unmade RootWord e may = refl
+
+  changes_found : (p : Place) → RecordedFits g.geo (sight_of (views k)) p → is_in_making (sight_of (views k)).hold p ≡ false
+  changes_found (InRun d w) r = let y = (r.1 0).0 in false_from_ne_true ((sight_of (views k)).hold.making d) (λ m. both_ways (g.runs d) (maker_no_run o.shape (cells_of o.shape mem) (settled_words o g) (Flies (ghost_of g) k) (ghost_of g) x.bits.geo k (sight_of (views k)) f d m)
+      (and_parts (g.runs d) (nat_lt (Rattle.pm_view.specs.Places.part (g.geo.class d) w 0) (Rattle.pm_layout.specs.Sizes.blocks_of (g.geo.class d))) (f.hold.found (block_of g.geo (InRun d w) 0) (f.hold.here (block_of g.geo (InRun d w) 0) y).1).1).0)
+  changes_found (InHuge d w) r = let y = (r.1 0).0 in false_from_ne_true ((sight_of (views k)).hold.making d) (λ m. let n = f.hold.mine (Big d) (f.hold.making d m).0 in both_ways (settled_words o g (Descr d) 1) n.2
+      (ap (λ a. settled_words o g (Descr a) 1) (sym (eqb-true (g.geo.first d) d n.1)) ∙ (f.hold.found (Big (g.geo.first d)) (f.hold.here (Big (g.geo.first d)) y).1).2))
+  changes_found (Descr d) r = absurd (both_ways false refl r.0)
+  changes_found RootWord r = refl
+
   -- WHAT A VALID RECORD SAYS OF A WORD
   pub record Speaks (w : ℕ) (u : Undo) : Type 0 where
     pub place : Place
     pub is_there : is_place o.shape place ≡ true
     pub chunk : is_single place ≡ false
     pub of_word : word_of o.shape place ≡ w
+    pub unmade : is_in_making (sight_of (views k)).hold place ≡ false
     pub own_ : (b : ℕ) → b < 64 → owns g.geo (settled_words o g) (sight_of (views k)).hold place b ≡ true
     pub old : (b : ℕ) → b < 64 → live (settled_words o g) g.geo g.runs place ≡ true → bit (old_word u (8 * w)) b ≡ settled_words o g place b
 
@@ -218,7 +240,7 @@ module _ (o : Opening) (mem : Memory) (views : Views) (g : Past) (x : World o me
           let rec = fits.records j q at in let ch = data_chunk q.place rec.4 in let p = place_after q.place n in
           let has_ : old_of (views k).log.records p ≡ Some (slice_index q.old n) = old_found p (views k).log.records (λ i m s t y z e d. fits.once i m s t p y z e d) j q (slice_index q.old n) at (after_old q.place q.old n ch inside) in
           let olds = fits.olds p (slice_index q.old n) has_ in
-          record { place = p; is_there = rec.5 n inside; chunk = data_chunk p (after_data q.place n rec.4); of_word = after_word o.shape q.place w ch low; own_ = λ b l. (olds b).0; old = λ b l _. ap (λ z. bit z b) old_is ∙ sym ((olds b).1 und) }
+          record { place = p; is_there = rec.5 n inside; chunk = data_chunk p (after_data q.place n rec.4); of_word = after_word o.shape q.place w ch low; unmade = changes_found p ((x.each_lane k c.runs).recorded und p (ap given has_)); own_ = λ b l. (olds b).0; old = λ b l _. ap (λ z. bit z b) old_is ∙ sym ((olds b).1 und) }
 
       making : (q : Recorded) → CanRecord (views k) q → (word_of o.shape q.place ≤ w) × (w < word_of o.shape q.place + length q.old) → old_word u (8 * w) ≡ slice_index q.old (w - word_of o.shape q.place) → Speaks w u
       making q can r old_is = let n : ℕ = w - word_of o.shape q.place in let low = r.0 in let high = r.1 in let inside : n < length q.old = omega arith in let each = can.each n inside in let p = place_after q.place n in
@@ -232,6 +254,7 @@ module _ (o : Opening) (mem : Memory) (views : Views) (g : Past) (x : World o me
             is_there = sym (ap (λ s. is_place s p) shape_is) ∙ each.place;
             chunk = data_chunk p each.plain;
             of_word = after_word o.shape q.place w ch low;
+            unmade = changes_unmade p each.plain each.own;
             own_ = λ b l. own_ b;
             old = λ b l lv. let bf = f.bits p b (own_ b) in ap (λ z. bit z b) old_is ∙ (sym (bf.3 (bit (slice_index q.old n) b) (seen b))
                 ∙ bf.0 lv (left_none (views k).log.phase p b und) (ap (λ t. t && not (is_decided (views k).log.phase)) lg));
@@ -242,7 +265,7 @@ module _ (o : Opening) (mem : Memory) (views : Views) (g : Past) (x : World o me
   speaks_of w b e = ⊎_elim (λ (n : find (λ r. covers r (8 * w)) (records image k) ≡ None). absurd (both_ways false refl (sym (ap (λ d. given (option_map (λ r. bit (old_word r (8 * w)) b) d)) n) ∙ e)))
       (λ (y : (u : Undo) × (find (λ r. covers r (8 * w)) (records image k) ≡ Some u)). let z = found_slot image k (8 * w) y.0 y.1 in (y.0, y.1, speaks z.0 w y.0 z.1 z.2 z.3)) (some_or (find (λ r. covers r (8 * w)) (records image k)))
 
-  log_is : (w b : ℕ) → log_bit image o.shape.lanes w k b ≡ record_bit (records image k) w b
+  pub log_is : (w b : ℕ) → log_bit image o.shape.lanes w k b ≡ record_bit (records image k) w b
   log_is w b = ap (λ es. first_of_two (entry_bit es w b) (record_bit (records image k) w b)) c.none_sealed
 
   -- THE RECORDS RESTORE

@@ -99,7 +99,7 @@ entry_bit-none (d ∷ t) w b e = go (entry_bit-none t w b) (eqb d.place (8 * w))
     go r false q = first_none (entry_bit t w b) ∙ r q
 
 -- of parts of which one alone gives the bit
-parts_none : (f : ℕ → List Redo) (w b from n : ℕ) → ((j : ℕ) → from ≤ j → j < from + n → given (entry_bit (f j) w b) ≡ false) → entry_bit (flat_map f (range_with_len from n)) w b ≡ None
+pub parts_none : (f : ℕ → List Redo) (w b from n : ℕ) → ((j : ℕ) → from ≤ j → j < from + n → given (entry_bit (f j) w b) ≡ false) → entry_bit (flat_map f (range_with_len from n)) w b ≡ None
 parts_none f w b from zero h = refl
 parts_none f w b from (suc n) h = entry_bit-append (f from) (flat_map f (range_with_len (from + 1) n)) w b
     ∙ (ap (λ z. first_of_two z (entry_bit (f from) w b)) (parts_none f w b (from + 1) n (λ j l m. h j (omega arith) (omega arith))) ∙ none_of (entry_bit (f from) w b) (h from (omega arith) (omega arith)))
@@ -126,7 +126,7 @@ finds_one p f from (suc n) k l m h = find-append p (f from) (flat_map f (range_w
     or_nothing None = refl
     or_nothing (Some x) = refl
 
-mapped_none : {X : Type 0} → (f : X → Bool) (o : Option X) → given (option_map f o) ≡ false → o ≡ None
+pub mapped_none : {X : Type 0} → (f : X → Bool) (o : Option X) → given (option_map f o) ≡ false → o ≡ None
 mapped_none f None e = refl
 mapped_none f (Some x) e = absurd (both_ways true e refl)
 
@@ -139,7 +139,7 @@ pub sets_append : (w : ℕ) (xs ys : List Redo) → SetsWord w xs → SetsWord w
 sets_append w [] ys a b = b
 sets_append w (e ∷ t) ys a b = (a.0, sets_append w t ys a.1 b)
 
-sets_parts : (w : ℕ) (f : ℕ → List Redo) (from n : ℕ) → ((j : ℕ) → j < from + n → SetsWord w (f j)) → SetsWord w (flat_map f (range_with_len from n))
+pub sets_parts : (w : ℕ) (f : ℕ → List Redo) (from n : ℕ) → ((j : ℕ) → j < from + n → SetsWord w (f j)) → SetsWord w (flat_map f (range_with_len from n))
 sets_parts w f from zero h = tt
 sets_parts w f from (suc n) h = sets_append w (f from) (flat_map f (range_with_len (from + 1) n)) (h from (omega arith)) (sets_parts w f (from + 1) n (λ j l. h j (omega arith)))
 
@@ -196,6 +196,14 @@ module _ (image : List ℕ) (lanes w : ℕ) where
   by_record : of_word w all_entries ≡ [] → recovered image lanes w ≡ restored (find (λ u. covers u (8 * w)) (flat_map (records image) (range_with_len 0 lanes))) (8 * w) (slice_index image w)
   unfolding recovered entries_for record_for
   by_record none = ap (λ es. recovered_by es (find (λ u. covers u (8 * w)) (flat_map (records image) (range_with_len 0 lanes))) (8 * w) (slice_index image w)) none
+
+  -- where no log has the word, it is the image's
+  pub recovered_plain : of_word w all_entries ≡ [] → ((j : ℕ) → j < lanes → find (λ u. covers u (8 * w)) (records image j) ≡ None) → recovered image lanes w ≡ slice_index image w
+  recovered_plain none bare = by_record none ∙ ap (λ o. restored o (8 * w) (slice_index image w)) (finds_none (λ u. covers u (8 * w)) (records image) 0 lanes (λ j l m. bare j (omega arith)))
+
+  -- where entries set it, it is what the last one sets
+  pub recovered_set : (s : IsSet w all_entries (slice_index image w)) → 0 < 64 → recovered image lanes w ≡ s.value
+  recovered_set s some = by_entries (λ none. both_ways true (ap given (sym (s.bits 0 some) ∙ entry_bit-none all_entries w 0 none)) refl) ∙ s.is
 
   pub empty_or : (es : List Redo) → (es ≡ []) ⊎ (es ≢ [])
   empty_or [] = inl refl

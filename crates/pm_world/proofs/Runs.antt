@@ -1,13 +1,12 @@
 -- Chunks become runs, over bits: a chunk is marked as one by the store of its descriptor, and the drain of that makes it one.
-use Rattle.std.proofs.Common.{◌≡◌, ◌≢◌, ℕ, zero, suc, ◌+◌, ◌-◌, ◌*◌, ◌/◌, ◌%◌, ◌<◌, ◌≤◌, ◌⊎◌, inl, inr, ⊎_elim, nat_le, nat_lt, Bool, true, false, cond, not, ◌&&◌, ◌||◌, eqb, ◌==◌, refl, sym, ap, ◌∙◌, subst, arith, eq-eqb, ne_eqb, Option, None, Some}
-use Rattle.std.proofs.lemmas.Bool.{cases_eq, cases_Bool, eqb-true, leb-true, ltb-true, both_ways, and_parts, and_from, and_left, and_right, or_cases, or_left, or_right, or_parts, or_from, not_from_true, not_from_false, not-true, cond-true, cond-false, false_from_ne_true, true_from_ne_false}
+use Rattle.std.proofs.Common.{◌≡◌, ◌≢◌, ℕ, suc, ◌+◌, ◌-◌, ◌/◌, ◌%◌, ◌<◌, ◌≤◌, ◌⊎◌, inl, ⊎_elim, nat_le, nat_lt, Bool, true, false, cond, not, ◌&&◌, ◌||◌, eqb, ◌==◌, refl, sym, ap, ◌∙◌, subst, arith, eq-eqb, ne_eqb, Option, None, Some}
+use Rattle.std.proofs.lemmas.Bool.{cases_eq, cases_Bool, eqb-true, leb-true, ltb-true, both_ways, and_parts, and_from, and_left, and_right, or_cases, or_left, or_right, or_from, not_from_true, not_from_false, not-true, cond-true, cond-false, false_from_ne_true, true_from_ne_false}
 use Rattle.pm_layout.specs.declared.shape.Shape.{Shape}
 use Rattle.pm_layout.specs.Sizes.{blocks_of}
-use Rattle.pm_view.specs.Places.{Place, InRun, InHuge, Descr, RootWord, Block, Small, Big, Root, Geometry, part, block_of, header, in_span, is_data}
-use Rattle.pm_view.specs.Entries.{latest, turn, first_of_two}
+use Rattle.pm_view.specs.Places.{Place, InRun, InHuge, Descr, RootWord, Block, Small, Big, Root, part, block_of, header, in_span, is_data}
+use Rattle.pm_view.specs.Entries.{latest, turn}
 use Rattle.pm_view.specs.Log.{Phase, Idle, Open, Drawn, Sealing, Applying, Clearing, Retiring, Voiding}
-use Rattle.pm_view.specs.Claims.{making_of}
-use Rattle.pm_world.specs.States.{State, Diff, Call, diff, given, over, after_diff, there, lit, size_at, bright, shown, live, guards, read, put1, Cells}
+use Rattle.pm_world.specs.States.{State, diff, given, over, after_diff, there, lit, size_at, bright, shown, live, read, put1, Cells}
 use Rattle.pm_world.specs.Sights.{Hold, Sight}
 use Rattle.pm_world.specs.Lanes.{Ghost, own, owns, has, valid, is_in_making, is_decided, in_flight, left, blank, BitFits, open_soils, soils, TurnFits, BornFits, settled, SightFits, Flies, is_occupancy, is_taken, Bits}
 use Rattle.pm_world.proofs.Geometry.{huge_line}
@@ -170,7 +169,7 @@ module _ (sh : Shape) (L : ℕ) (o : State) (cells : Cells) (sights : ℕ → Si
   less_owned RootWord b t = t
 
   -- a bit that it no longer owns is of a chunk that becomes a run
-  dropped : (p : Place) (b : ℕ) → owns g.geo (settled o g) (sights k).hold p b ≡ true → (is_in_making (sights k).hold p ≡ false) → owns g.geo (settled o g) (with_runs (sights k).hold dirty) p b ≡ true
+  pub dropped : (p : Place) (b : ℕ) → owns g.geo (settled o g) (sights k).hold p b ≡ true → (is_in_making (sights k).hold p ≡ false) → owns g.geo (settled o g) (with_runs (sights k).hold dirty) p b ≡ true
   dropped (InRun c w) b t e = small_kept c (part (g.geo.class c) w b) (unmade c e) t
   dropped (InHuge c w) b t e = big_kept (g.geo.first c) (false_from_ne_true (becoming h dirty (g.geo.first c)) (λ y. let m = becomes_made (g.geo.first c) y in both_ways (h.making c) e (ap h.making (alone_in (g.geo.first c) c m refl) ∙ m))) t
   dropped (Descr c) b t e = big_kept (g.geo.first c) (false_from_ne_true (becoming h dirty (g.geo.first c)) (λ y. let m = becomes_made (g.geo.first c) y in both_ways (h.making c) e (ap h.making (alone_in (g.geo.first c) c m refl) ∙ m))) t

@@ -1,30 +1,27 @@
 -- A CALL THAT IS DECIDED IS APPLIED: its entries are stored in their order, the lane's next generation among them, and the seal is cleared.
 use Rattle.std.specs.Prelude.{List, [], ◌∷◌, ◌++◌, All, Contains, length, slice_get, bit_and, if◌then◌else◌}
 use Rattle.std.specs.Option.{option_map}
-use Rattle.std.proofs.Common.{◌≡◌, ◌≢◌, ℕ, zero, suc, ◌+◌, ◌*◌, ◌-◌, ◌/◌, ◌%◌, ◌^◌, ◌<◌, ◌≤◌, ◌⊎◌, inl, inr, ⊎_elim, Bool, true, false, cond, not, ◌&&◌, ◌||◌, eqb, ◌==◌, refl, sym, ap, ◌∙◌, subst, arith, Option, None, Some, append_assoc}
-use Rattle.std.proofs.lemmas.Bool.{cases_eq, cases_Bool, both_ways, eqb-true, cond_both, true_from_ne_false}
+use Rattle.std.proofs.Common.{◌≡◌, ◌≢◌, ℕ, zero, suc, ◌+◌, ◌*◌, ◌/◌, ◌%◌, ◌^◌, ◌<◌, ◌≤◌, inr, true, false, ◌==◌, refl, sym, ap, ◌∙◌, subst, arith, Option, None, Some, append_assoc}
+use Rattle.std.proofs.lemmas.Bool.{both_ways, eqb-true, cond_both, true_from_ne_false}
 use Rattle.std.proofs.lemmas.Nat.{and_mask}
 use Rattle.std.proofs.Math.Nat.{mod-eq_of_lt}
 use Rattle.pm_layout.specs.declared.shape.Shape.{Shape}
 use Rattle.pm_layout.specs.Areas.{word_of_generation, word_of_seal, word_of_entry, line_of_slot}
-use Rattle.pm_record.specs.declared.redo.Op.TheVariants.{Set}
 use Rattle.pm_view.specs.Bits.{all_bits}
 use Rattle.pm_view.specs.Changes.{Undrained}
-use Rattle.pm_view.specs.Places.{Place, Block, word_of, is_place}
+use Rattle.pm_view.specs.Places.{Place, word_of, is_place}
 use Rattle.pm_view.specs.Entries.{Entry, latest, redos, with_redo}
 use Rattle.pm_view.specs.Parts.{Part, GenerationPart, SealPart, EntryPart, SlotPart, RootPart, DescriptorPart, ChunkPart, OtherPart, is_entry_word, is_slot_word, pool_part, part_of}
 use Rattle.pm_view.specs.Log.{Phase, Applying, Clearing, Log, log_stored}
-use Rattle.pm_view.specs.Limits.{greatest_generation}
-use Rattle.pm_view.specs.Steps.Step.{Store}
 use Rattle.pm_view.specs.View.{View}
 use Rattle.pm_view.specs.Claims.{class}
 use Rattle.pm_view.specs.Views.{value_in, part_in, changed, marked_by}
-use Rattle.pm_world.specs.States.{State, given, read, put1}
+use Rattle.pm_world.specs.States.{given, put1}
 use Rattle.pm_world.specs.Sights.{is_use, is_soiled, sight_of}
 use Rattle.pm_world.specs.Lanes.{owns, SightFits, Flies, flies_at}
 use Rattle.pm_world.specs.Logs.{IsEntryAt, ends_with, AreWhole, AreLeft, AreaChange, IsOld, LogFits}
 use Rattle.pm_world.specs.Lawful.{MayStore, StoreFits, IsNext, Clears}
-use Rattle.pm_world.specs.Laws.{Turn}
+use Rattle.pm_world.specs.Laws.{KeepsAt, Turn}
 use Rattle.pm_world.specs.Memory.{Memory, PoolWord, Becomes, cells_of}
 use Rattle.pm_world.specs.World.{Opening, Views, Past, origin, ghost_of, settled_words, LaneFits, World}
 use Rattle.pm_world.specs.Course.{past_stored}
@@ -34,10 +31,9 @@ use Rattle.pm_world.proofs.Replays.{put1_here, put1_else}
 use Rattle.pm_world.proofs.StepDraw.{all_cons}
 use Rattle.pm_world.proofs.StepDrain.{and_false}
 use Rattle.pm_world.proofs.StoreArea.{area_apart, undrained_by, sight_logged, apart_in, Logged, area_world}
-use Rattle.pm_world.proofs.Stores.{KeepsAt}
 
 -- ---- which words these are
-abbrev tag : Part → ℕ
+abbrev pub tag : Part → ℕ
 tag GenerationPart = 1
 tag SealPart = 2
 tag part = 0
@@ -86,13 +82,13 @@ first_entry e d t u q = (ap (head e) q, ap tail q)
     tail (d ∷ t) = t
 
 -- an entry of no place, among entries of which the last alone is such
-last_one : (done front : List Entry) (e y : Entry) (t : List Entry) → (done ++ e ∷ t) ≡ (front ++ y ∷ []) → e.place ≡ None → All (λ (d : Entry). d.place ≢ None) front → (e ≡ y) × (t ≡ [])
+pub last_one : (done front : List Entry) (e y : Entry) (t : List Entry) → (done ++ e ∷ t) ≡ (front ++ y ∷ []) → e.place ≡ None → All (λ (d : Entry). d.place ≢ None) front → (e ≡ y) × (t ≡ [])
 last_one [] [] e y t q n a = first_entry e y t [] q
 last_one [] (d ∷ front) e y t q n a = absurd (a zero e (omega arith) (sym (ap (λ (z : Entry). z.place) (first_entry e d t (front ++ y ∷ []) q).0) ∙ n))
 last_one (d ∷ done) [] e y t q n a = let z = ap length (first_entry d y (done ++ e ∷ t) [] q).1 in absurd (omega (arith, Rattle.std.proofs.lemmas.List.length-append done (e ∷ t)))
 last_one (d ∷ done) (c ∷ front) e y t q n a = last_one done front e y t (first_entry d c (done ++ e ∷ t) (front ++ y ∷ []) q).1 n (λ i z l. a (suc i) z (omega arith))
 
-entry_at : (done : List Entry) (e : Entry) (t : List Entry) → slice_get (done ++ e ∷ t) (length done) ≡ Some e
+pub entry_at : (done : List Entry) (e : Entry) (t : List Entry) → slice_get (done ++ e ∷ t) (length done) ≡ Some e
 entry_at [] e t = refl
 entry_at (d ∷ done) e t = entry_at done e t
 
@@ -130,26 +126,26 @@ module _ (o : Opening) (mem new : Memory) (views views' : Views) (g : Past) (x :
     clears_log : (views k).log.phase ≡ Applying [] → part_of o.shape k w ≡ SealPart → Clears (views k) n [] → Logged o mem new views views' g x k ink w n 1 at (omega arith) m due b (record (views k).log { phase = Clearing })
     clears_log e part c = let l = log_in (Applying []) e in let whole = l.phase.0 in let left = l.phase.1 in
         let bumped : (views k).log.bumped ≡ true = true_from_ne_false (views k).log.bumped (λ q. let z = (left.to_end q).1 in omega arith) in record {
-      first = l.first;
-      last = l.last;
-      below = l.below;
-      stored = words_else (word_of_generation o.shape k) (λ q. omega arith) ∙ l.stored;
-      bump = bumped;
-      sealed = ap (put1 (λ u. mem (PoolWord u)) w n) (let q : word_of_seal o.shape k ≡ w = omega arith in q) ∙ (put1_here (λ u. mem (PoolWord u)) w n ∙ c.zero_);
-      entries_most = l.entries_most;
-      records_most = l.records_most;
-      pairs = λ i d q. let z = l.pairs i d q in (words_else (word_of_entry o.shape k i + 0) (λ r. omega arith) ∙ z.0, words_else (word_of_entry o.shape k i + 1) (λ r. omega arith) ∙ z.1, z.2, z.3);
-      pair_part = λ i q. words_else (word_of_entry o.shape k (length (views k).log.entries) + i) (λ r. omega arith) ∙ l.pair_part i q;
-      records = λ i r q. let z = l.records i r q in (λ y s. words_else (8 * line_of_slot o.shape k i + y) (λ t. omega arith) ∙ z.0 y s, z.1, z.2, z.3, z.4, z.5);
-      once = l.once;
-      olds = λ p y q i. ((l.olds p y q i).0, λ u. absurd (both_ways true u refl));
-      slot_part = λ i q. words_else (8 * line_of_slot o.shape k (length (views k).log.records) + i) (λ t. omega arith) ∙ l.slot_part i q;
-      stale = λ i u q z t. l.stale i u q z (sym (ap Rattle.pm_record.specs.Undo.undo_of (λ j. slots i j)) ∙ t);
-      area_changes = all_cons (λ (d : Undrained). AreaChange Clearing (length (views k).log.entries) (views k).log.generation (part_of o.shape k d.word) d) (undrained_by (views k) w) (views k).changes
-          (subst (λ q. AreaChange Clearing (length (views k).log.entries) (views k).log.generation q (undrained_by (views k) w)) (sym part) (known_old (views k) w (length (views k).log.entries) (let z = l.entries_most in omega arith) (ap (value_in (views k)) seal_at ∙ c.known)))
-          (λ i d q. let z = ap length c.drained in absurd (omega arith));
-      phase = (record { front = whole.front; are = whole.are; placed = whole.placed }, l.phase.2, l.phase.3);
-    }
+          first = l.first;
+          last = l.last;
+          below = l.below;
+          stored = words_else (word_of_generation o.shape k) (λ q. omega arith) ∙ l.stored;
+          bump = bumped;
+          sealed = ap (put1 (λ u. mem (PoolWord u)) w n) (let q : word_of_seal o.shape k ≡ w = omega arith in q) ∙ (put1_here (λ u. mem (PoolWord u)) w n ∙ c.zero_);
+          entries_most = l.entries_most;
+          records_most = l.records_most;
+          pairs = λ i d q. let z = l.pairs i d q in (words_else (word_of_entry o.shape k i + 0) (λ r. omega arith) ∙ z.0, words_else (word_of_entry o.shape k i + 1) (λ r. omega arith) ∙ z.1, z.2, z.3);
+          pair_part = λ i q. words_else (word_of_entry o.shape k (length (views k).log.entries) + i) (λ r. omega arith) ∙ l.pair_part i q;
+          records = λ i r q. let z = l.records i r q in (λ y s. words_else (8 * line_of_slot o.shape k i + y) (λ t. omega arith) ∙ z.0 y s, z.1, z.2, z.3, z.4, z.5);
+          once = l.once;
+          olds = λ p y q i. ((l.olds p y q i).0, λ u. absurd (both_ways true u refl));
+          slot_part = λ i q. words_else (8 * line_of_slot o.shape k (length (views k).log.records) + i) (λ t. omega arith) ∙ l.slot_part i q;
+          stale = λ i u q z t. l.stale i u q z (sym (ap Rattle.pm_record.specs.Undo.undo_of (λ j. slots i j)) ∙ t);
+          area_changes = all_cons (λ (d : Undrained). AreaChange Clearing (length (views k).log.entries) (views k).log.generation (part_of o.shape k d.word) d) (undrained_by (views k) w) (views k).changes
+              (subst (λ q. AreaChange Clearing (length (views k).log.entries) (views k).log.generation q (undrained_by (views k) w)) (sym part) (known_old (views k) w (length (views k).log.entries) (let z = l.entries_most in omega arith) (ap (value_in (views k)) seal_at ∙ c.known)))
+              (λ i d q. let z = ap length c.drained in absurd (omega arith));
+          phase = (record { front = whole.front; are = whole.are; placed = whole.placed }, l.phase.2, l.phase.3);
+        }
       where
         seal_at : w ≡ word_of_seal (views k).fixed.shape (views k).fixed.lane
         seal_at = at ∙ subst (λ s. word_of_generation o.shape k + 1 ≡ word_of_seal s (views k).fixed.lane) (sym (x.each_lane k ink).shape) (subst (λ l. word_of_generation o.shape k + 1 ≡ word_of_seal o.shape l) (sym (x.each_lane k ink).lane) (omega arith))
@@ -177,7 +173,7 @@ module _ (o : Opening) (mem new : Memory) (views views' : Views) (g : Past) (x :
 
     -- THE SEAL IS TO BE CLEARED
     pub clears : (views k).log.phase ≡ Applying [] → part_of o.shape k w ≡ SealPart → Clears (views k) n [] → Turn views views' k (after_store (views k) w n (record (views k).log { phase = Clearing })) → World o new views' g
-    clears e part c t = area_world o mem new views views' g x k ink w n 1 at (omega arith) m due b (record (views k).log { phase = Clearing }) (λ j q. absurd (subst (λ z. flies_at z j) e q)) (clears_sight e c.drained) (clears_log e part c) tt (λ _. (x.each_lane k ink).made (ap Rattle.pm_world.specs.Lanes.is_decided e)) t
+    clears e part c t = area_world o mem new views views' g x k ink w n 1 at (omega arith) m due b (record (views k).log { phase = Clearing }) (λ j q. absurd (subst (λ z. flies_at z j) e q)) (clears_sight e c.drained) (clears_log e part c) tt (λ _. (x.each_lane k ink).made (ap Rattle.pm_world.specs.Lanes.is_decided e)) (λ u. absurd (both_ways true u refl)) t
 
   -- the next generation is stored
   module _ (at : w ≡ word_of_generation o.shape k + 0) (e : Entry) (t : List Entry) (ph : (views k).log.phase ≡ Applying (e ∷ t)) (part : part_of o.shape k w ≡ GenerationPart) (word : e.word ≡ w) (value : e.value ≡ n) (known : value_in (views k) w ≡ Some (views k).log.generation) where
@@ -261,7 +257,7 @@ module _ (o : Opening) (mem new : Memory) (views views' : Views) (g : Past) (x :
 
     -- THE ENTRY THAT ENDS THE GENERATION IS APPLIED
     pub ends_generation : Turn views views' k (after_store (views k) w n (record (views k).log { phase = Applying t; bumped = true })) → World o new views' g
-    ends_generation y = area_world o mem new views views' g x k ink w n 0 at (omega arith) m due b (record (views k).log { phase = Applying t; bumped = true }) (λ j q. absurd (subst (λ z. flies_at z j) ph q)) ended_sight ended_log tt (λ _. (x.each_lane k ink).made (ap Rattle.pm_world.specs.Lanes.is_decided ph)) y
+    ends_generation y = area_world o mem new views views' g x k ink w n 0 at (omega arith) m due b (record (views k).log { phase = Applying t; bumped = true }) (λ j q. absurd (subst (λ z. flies_at z j) ph q)) ended_sight ended_log tt (λ _. (x.each_lane k ink).made (ap Rattle.pm_world.specs.Lanes.is_decided ph)) (λ u. absurd (both_ways true u refl)) y
 
 -- ---- a store, its phase and its part written out
 abbrev Stored : Views → Views → ℕ → ℕ → ℕ → Phase → Part → Type 0

@@ -1,16 +1,15 @@
 -- ONCE NOTHING IS UNDRAINED the log goes on: a call is decided, or aborted, or its seal is cleared.
 use Rattle.std.specs.Prelude.{List, [], ◌∷◌, ◌++◌, length, slice_get, slice_index, Contains}
-use Rattle.std.proofs.Common.{◌≡◌, ◌≢◌, ℕ, zero, suc, ◌+◌, ◌*◌, ◌/◌, ◌%◌, ◌^◌, ◌<◌, ◌≤◌, ◌⊎◌, inl, inr, ⊎_elim, Bool, true, false, cond, not, ◌&&◌, ◌||◌, eqb, ◌==◌, refl, sym, ap, ◌∙◌, subst, arith, eq-eqb, ne_eqb, Option, None, Some}
-use Rattle.std.proofs.lemmas.Bool.{cond-true, cond-false, cases_eq, cases_Bool, cases_lt, both_ways, and_parts, or_cases, false_from_ne_true}
+use Rattle.std.proofs.Common.{◌≡◌, ◌≢◌, ℕ, suc, ◌+◌, ◌*◌, ◌^◌, ◌<◌, ◌≤◌, inl, inr, ⊎_elim, Bool, true, false, cond, not, ◌&&◌, ◌||◌, ◌==◌, refl, sym, ap, ◌∙◌, subst, arith, eq-eqb, ne_eqb, Option, None, Some}
+use Rattle.std.proofs.lemmas.Bool.{cond-true, cond-false, cases_Bool, cases_lt, both_ways, and_parts, or_cases}
 use Rattle.std.proofs.lemmas.Option.{slice_get-get_or}
 use Rattle.std.proofs.lemmas.Nat.Bits.{bit_at_above}
 use Rattle.pm_layout.specs.declared.shape.Shape.{Shape}
 use Rattle.pm_view.specs.Limits.{greatest_generation}
-use Rattle.pm_layout.specs.Areas.{undo_slots}
 use Rattle.pm_record.specs.Undo.{is_record, undo_in, undo_of}
 use Rattle.pm_record.specs.declared.undo.Undo.{Undo}
 use Rattle.pm_view.specs.Changes.{Undrained, drained}
-use Rattle.pm_view.specs.Places.{Place, InRun, InHuge, Descr, RootWord, Block, Small, Big, Root, block_of, header, is_data, is_place}
+use Rattle.pm_view.specs.Places.{Place, Descr, RootWord, Block, Small, Big, Root, block_of, header, is_data, is_place}
 use Rattle.pm_view.specs.Entries.{Entry, latest, redos, turn, first_of_two}
 use Rattle.pm_view.specs.Log.{Phase, Idle, Open, Drawn, Sealing, Applying, Clearing, Retiring, Voiding, Recorded, Log, old_in, old_of, next_log, log_drained}
 use Rattle.pm_view.specs.Claims.{Claim, Decided, Drained, class, making, locked, found, here, header_in, found_after, pictured}
@@ -18,24 +17,26 @@ use Rattle.pm_view.specs.View.{View}
 use Rattle.pm_view.specs.Steps.Step.{Drain}
 use Rattle.pm_view.specs.Views.{decided_by, drained_to}
 use Rattle.pm_view.specs.Counts.{IsAtStop}
+use Rattle.pm_view.specs.Counts.{MayCount}
 use Rattle.pm_world.specs.States.{State, Diff, diff, given, live, read, put1, Cells}
 use Rattle.pm_world.specs.Sights.{Sight, is_use, is_soiled, is_recorded, is_slot_drained, is_logged_from, is_logged, fresh, is_made, call_in, sight_of}
 use Rattle.pm_world.specs.Lanes.{Ghost, own, owns, has, left, is_decided, BitFits, TurnFlight, TurnFits, SightFits, settled, Flies, flies_at, Bits}
 use Rattle.pm_world.specs.Logs.{IsRecordAt, slot_list, spelled, ends_with, used_slots, seal_in, BumpFits, PhaseFits, AreWhole, AreLeft, OldFits, AreRestored, LogFits}
 use Rattle.pm_world.specs.Memory.{Memory, PoolWord, CommitCounter, StopWord, bit, cells_of}
-use Rattle.pm_world.specs.World.{Opening, Views, Past, origin, ghost_of, settled_words, NumberFits, AreaFits, LaneFits, may_draw, may_draw_count, World}
+use Rattle.pm_world.specs.World.{Opening, Views, Past, origin, ghost_of, settled_words, NumberFits, AreaFits, LaneFits, World}
 use Rattle.pm_world.specs.Course.{holder_after, past_made, past_decided, past_drained}
 use Rattle.pm_world.specs.Laws.{Turn, Keeps}
+use Rattle.pm_world.proofs.StepDrops.{dropped_world}
 use Rattle.pm_world.proofs.Counting.{count_same}
-use Rattle.pm_world.proofs.Decides.{decided_ghost, decided_sight, some_of, none_of, over_idle, over_open, owned_now, around, decides}
-use Rattle.pm_world.proofs.Frame.{Around, mine_own, found_has, own_has}
-use Rattle.pm_world.proofs.Going.{Turned, at_phase, unchanged}
+use Rattle.pm_world.proofs.Decides.{decided_ghost, decided_sight, over_idle, over_open, owned_now, around, decides}
+use Rattle.pm_world.proofs.Frame.{Around, mine_own, own_has}
+use Rattle.pm_world.proofs.Going.{at_phase, unchanged}
 use Rattle.pm_world.proofs.StepPlain.{plain_step}
 use Rattle.pm_world.proofs.Stores.{drops, Drops, goes_on_to, GoesOnAt}
-use Rattle.pm_world.proofs.Worlds.{Aside, turned, world_after, stops_stay}
+use Rattle.pm_world.proofs.Worlds.{turned, world_after, stops_stay}
 
 -- ---- numbers
-high_bit : (x b : ℕ) → x < 2 ^ 64 → 64 ≤ b → bit x b ≡ false
+pub high_bit : (x b : ℕ) → x < 2 ^ 64 → 64 ≤ b → bit x b ≡ false
 high_bit x b l q = ap (λ d. d == 1) (bit_at_above x 64 b l q)
 
 pub and_false : (t : Bool) → (t && false) ≡ false
@@ -131,7 +132,7 @@ logged_recorded sh lane changes j (r ∷ rs) p e = ⊎_elim (λ (t : (given (old
     second None c t = t
     second (Some y) c t = refl
 
-old_some : (d : Option ℕ) → given d ≡ true → (y : ℕ) × (d ≡ Some y)
+pub old_some : (d : Option ℕ) → given d ≡ true → (y : ℕ) × (d ≡ Some y)
 old_some None e = absurd (both_ways false refl e)
 old_some (Some y) e = (y, refl)
 
@@ -182,8 +183,9 @@ module _ (o : Opening) (mem : Memory) (views new : Views) (g : Past) (k : ℕ) (
       → Around k (sight_of (views k)).hold (λ j. (sight_of (views j)).hold) (cells_of o.shape mem) (cells_of o.shape mem) (settled_words o g) (settled_words o g') (ghost_of g) (ghost_of g')
       → Bits o.shape o.lanes (origin o) (cells_of o.shape mem) (λ j. sight_of (new j)) (ghost_of g') → AreaFits o mem g' k v → NumberFits log.phase (views k).number
       → ((w n : ℕ) → pictured (views k).fixed.shape claims w ≡ Some n → pictured (views k).fixed.shape (views k).claims w ≡ Some n)
-      → (is_decided log.phase ≡ true → (c : ℕ) → making (views k).fixed.shape claims c ≡ false) → World o mem new g'
-  world_now claims log decided holder t m bits area number known made = let v = record (views k) { claims = claims; log = log } in let g' = record g { decided = decided; holder = holder } in let f = lane_fits in world_after o mem views g x k ink mem new g' (settled_words o g') v refl m
+      → (is_decided log.phase ≡ true → (c : ℕ) → making (views k).fixed.shape claims c ≡ false)
+      → (is_decided log.phase ≡ false → (p : Place) → is_recorded log.records p ≡ false) → World o mem new g'
+  world_now claims log decided holder t m bits area number known made none_recorded = let v = record (views k) { claims = claims; log = log } in let g' = record g { decided = decided; holder = holder } in let f = lane_fits in world_after o mem views g x k ink mem new g' (settled_words o g') v refl m
       record { generation = λ j ne. refl; seal = λ j ne. refl; entry = λ j i q ne. refl; slot = λ j i q ne. refl; zone = λ z j ne. refl; entries = λ j ne. refl } t bits
       record {
         lane = f.lane;
@@ -191,6 +193,7 @@ module _ (o : Opening) (mem : Memory) (views new : Views) (g : Past) (k : ℕ) (
         lanes = f.lanes;
         log = area;
         made = made;
+        recorded = λ u p q. absurd (both_ways (is_recorded log.records p) (none_recorded u p) q);
         number = number;
         zones = f.zones;
         masks = f.masks;
@@ -234,7 +237,7 @@ module _ (o : Opening) (mem : Memory) (views new : Views) (g : Past) (k : ℕ) (
       (unchanged o.shape o.lanes (origin o) (cells_of o.shape mem) (λ j. sight_of (views j)) (ghost_of g) x.bits k ink (sight_of v) (λ j. sight_of (new j)) refl (λ n y. absurd (subst (λ z. flies_at z n) e y))
       (over_idle o.shape (cells_of o.shape mem) (settled_words o g) (Flies (ghost_of g) k) (ghost_of g) k (sight_of (views k)) (x.bits.each_lane k) (empty_fresh Idle) (nothing Idle) unsoiled (same_bit Clearing e refl (λ p b. refl))) (turned views new k v t))
       (ended o.shape k ((cells_of o.shape mem).generation k) ((cells_of o.shape mem).seal k) ((cells_of o.shape mem).entry k) ((cells_of o.shape mem).slot k) (settled_words o g) (settled_words o g) (owns g.geo (settled_words o g) (sight_of (views k)).hold) (owns g.geo (settled_words o g) (sight_of (views k)).hold) (sight_of (views k)).picture
-      (record (views k).log { phase = Clearing }) (views k).changes l clean l.bump l.sealed l.phase.1 Idle refl refl (refl, refl, refl, refl)) tt (λ w n q. q) (λ t. absurd (both_ways false refl t))
+      (record (views k).log { phase = Clearing }) (views k).changes l clean l.bump l.sealed l.phase.1 Idle refl refl (refl, refl, refl, refl)) tt (λ w n q. q) (λ t. absurd (both_ways false refl t)) (λ _ p. refl)
 
   -- AN ABORTED CALL'S RECORDS ARE VOIDED: each recorded word has its old value again, which is the settled one
   restored_bit : (views k).log.phase ≡ Voiding → (p : Place) (b : ℕ) → owns g.geo (settled_words o g) (sight_of (views k)).hold p b ≡ true → live (settled_words o g) g.geo g.runs p ≡ true → read (cells_of o.shape mem).pool p b ≡ settled_words o g p b
@@ -249,7 +252,7 @@ module _ (o : Opening) (mem : Memory) (views new : Views) (g : Past) (k : ℕ) (
       (unchanged o.shape o.lanes (origin o) (cells_of o.shape mem) (λ j. sight_of (views j)) (ghost_of g) x.bits k ink (sight_of v) (λ j. sight_of (new j)) refl (λ n y. absurd (subst (λ z. flies_at z n) e y))
       (over_open o.shape (cells_of o.shape mem) (settled_words o g) (Flies (ghost_of g) k) (ghost_of g) k (sight_of (views k)) (x.bits.each_lane k) (empty_fresh Open) (nothing Open) unsoiled (restored_bit e)) (turned views new k v t))
       (ended o.shape k ((cells_of o.shape mem).generation k) ((cells_of o.shape mem).seal k) ((cells_of o.shape mem).entry k) ((cells_of o.shape mem).slot k) (settled_words o g) (settled_words o g) (owns g.geo (settled_words o g) (sight_of (views k)).hold) (owns g.geo (settled_words o g) (sight_of (views k)).hold) (sight_of (views k)).picture
-      (record (views k).log { phase = Voiding }) (views k).changes l clean l.bump l.sealed l.phase.1 Open refl refl (omega arith, omega arith)) (subst (λ ph. NumberFits ph (views k).number) e lane_fits.number) (λ w n q. q) (λ t. absurd (both_ways false refl t))
+      (record (views k).log { phase = Voiding }) (views k).changes l clean l.bump l.sealed l.phase.1 Open refl refl (omega arith, omega arith)) (subst (λ ph. NumberFits ph (views k).number) e lane_fits.number) (λ w n q. q) (λ t. absurd (both_ways false refl t)) (λ _ p. refl)
 
   -- A CALL IS DECIDED by its seal, or by the next generation, where it has no entries
   data_only : (p : Place) (b : ℕ) → is_data p ≡ false → given ((sight_of (views k)).call.fresh p b) ≡ false
@@ -290,7 +293,7 @@ module _ (o : Opening) (mem : Memory) (views new : Views) (g : Past) (k : ℕ) (
       (record { here = a.here ∙ sealed_sight n e; else_ = a.else_ }))
       (sealed_log o.shape k ((cells_of o.shape mem).generation k) ((cells_of o.shape mem).seal k) ((cells_of o.shape mem).entry k) ((cells_of o.shape mem).slot k) (settled_words o g) (settled_words o g') (owns g.geo (settled_words o g) (sight_of (views k)).hold) (owns g.geo (settled_words o g') (sight_of v).hold) (sight_of (views k)).picture
       (views k).log (views k).changes lane_fits.log clean n e
-      (λ p b q. subst (λ y. owns g.geo (settled_words o g') y.hold p b ≡ true) (sym (sealed_sight n e)) (owned_now o.shape o.lanes (origin o) (cells_of o.shape mem) (λ j. sight_of (views j)) (ghost_of g) x.bits k ink (views k).fixed.lane lane_fits.lane n (views k).log.entries f only data_only high (λ p b. refl) p b q))) tt (λ w m q. q) (λ t. unmade)
+      (λ p b q. subst (λ y. owns g.geo (settled_words o g') y.hold p b ≡ true) (sym (sealed_sight n e)) (owned_now o.shape o.lanes (origin o) (cells_of o.shape mem) (λ j. sight_of (views j)) (ghost_of g) x.bits k ink (views k).fixed.lane lane_fits.lane n (views k).log.entries f only data_only high (λ p b. refl) p b q))) tt (λ w m q. q) (λ t. unmade) (λ u. absurd (both_ways true u refl))
 
   -- a call without entries, which the next generation decides: it is over at once
   module _ (n : ℕ) (e : (views k).log.phase ≡ Retiring n) where
@@ -364,7 +367,7 @@ module _ (o : Opening) (mem : Memory) (views new : Views) (g : Past) (k : ℕ) (
         (over_idle o.shape (cells_of o.shape mem) (settled (origin o) ghost) (Flies ghost k) ghost k kept kept_fits (empty_fresh Idle) (nothing Idle) unsoiled
         (λ p b q al. (kept_fits.bits p b q).0 al refl (and_false ((sight_of (views k)).logged p)))) (record { here = a.here; else_ = λ j ne. a.else_ j ne ∙ sym (between_else j ne) }))
         (ended o.shape k ((cells_of o.shape mem).generation k) ((cells_of o.shape mem).seal k) ((cells_of o.shape mem).entry k) ((cells_of o.shape mem).slot k) (settled_words o g) (settled_words o g') (owns g.geo (settled_words o g) (sight_of (views k)).hold) (owns g.geo (settled_words o g') (sight_of (views k)).hold) (sight_of (views k)).picture
-        (record (views k).log { phase = Retiring n }) (views k).changes l clean l.bump l.sealed l.phase.1 Idle refl refl (refl, refl, refl, refl)) tt (λ w m q. q) (λ t. absurd (both_ways false refl t))
+        (record (views k).log { phase = Retiring n }) (views k).changes l clean l.bump l.sealed l.phase.1 Idle refl refl (refl, refl, refl, refl)) tt (λ w m q. q) (λ t. absurd (both_ways false refl t)) (λ _ p. refl)
 
 pub goes_on_clearing : GoesOnAt Clearing
 goes_on_clearing = in_phase Clearing (λ o mem views new g k x ink clean unmade e t. cleared o mem views new g k x ink clean e t)
@@ -393,7 +396,7 @@ goes_on_in_each Voiding = goes_on_voiding
 abbrev drop_to : View → List Undrained → View
 drop_to v left = record v { claims = Drained left ∷ v.claims; changes = left; calls = v.calls + 1 }
 
-module _ (drop : Drops) (o : Opening) (mem : Memory) (views new : Views) (g : Past) (k : ℕ) (x : World o mem views g) (ink : k < o.lanes) where
+module _ (drop : Drops) (o : Opening) (mem : Memory) (views new : Views) (g : Past) (k : ℕ) (x : World o mem views g) (ink : k < o.lanes) (due : MayCount (views k)) where
   abbrev dropped : Views
   dropped j = cond (j == k) (drops (views k)) (views j)
 
@@ -415,13 +418,16 @@ module _ (drop : Drops) (o : Opening) (mem : Memory) (views new : Views) (g : Pa
 
   drained_all : drained (views k).changes ≡ [] → Turn views new k (drained_to (views k) []) → World o mem new (past_drained g (views k) [])
   drained_all e t = let here : dropped k ≡ drop_to (views k) [] = dropped_here ∙ ap (drop_to (views k)) e in
-      let w : World o mem dropped (past_made g (views k) []) = subst (λ l. World o mem dropped (past_made g (views k) l)) e (drop o mem views dropped g k x ink (record { here = dropped_here; else_ = dropped_else })) in
+      let w : World o mem dropped (past_made g (views k) []) = subst (λ l. World o mem dropped (past_made g (views k) l)) e (drop o mem views dropped g k x ink due (record { here = dropped_here; else_ = dropped_else })) in
       subst (World o mem new) (decided_drop (views k).log.phase (views k) (past_made g (views k) [])) (subst (λ v. World o mem new (past_decided v.log.phase v (past_made g (views k) []))) here
       (goes_on_in_each (dropped k).log.phase o mem dropped new (past_made g (views k) []) k w ink (ap (λ v. v.changes) here) (subst (λ v. (c : ℕ) → making v.fixed.shape v.claims c ≡ false) (sym here) (λ c. refl)) refl (record { here = t.here ∙ sym (ap goes_on_to here); else_ = λ j ne. t.else_ j ne ∙ sym (dropped_else j ne) })))
 
   drained_world : (left : List Undrained) → drained (views k).changes ≡ left → Turn views new k (drained_to (views k) left) → World o mem new (past_drained g (views k) left)
   drained_world [] e t = drained_all e t
-  drained_world (u ∷ left) e t = subst (λ l. World o mem new (past_made g (views k) l)) e (drop o mem views new g k x ink (subst (λ l. Turn views new k (drop_to (views k) l)) (sym e) t))
+  drained_world (u ∷ left) e t = subst (λ l. World o mem new (past_made g (views k) l)) e (drop o mem views new g k x ink due (subst (λ l. Turn views new k (drop_to (views k) l)) (sym e) t))
 
 pub drain_from : Drops → Keeps Drain
-drain_from drop o mem new views views' g k x ink law moves t = (subst (λ m. World o m views' (past_drained g (views k) (drained (views k).changes))) (λ i l. sym (moves l) i) (drained_world drop o mem views views' g k x ink (drained (views k).changes) refl t), tt)
+drain_from drop o mem new views views' g k x ink law moves t = (subst (λ m. World o m views' (past_drained g (views k) (drained (views k).changes))) (λ i l. sym (moves l) i) (drained_world drop o mem views views' g k x ink (law.due refl) (drained (views k).changes) refl t), tt)
+
+pub drain_keeps : Keeps Drain
+drain_keeps = drain_from (λ o mem views new g k x ink due t. dropped_world o mem views new g x k ink due t)

@@ -266,6 +266,7 @@ module _ (o : Opening) (mem new : Memory) (views views' : Views) (g : Past) (x :
           (subst (λ c. LogFits o.shape k (c.generation k) (c.seal k) (c.entry k) (c.slot k) (settled_words o g) (owns g.geo (settled_words o g) (sight_of (views k)).hold) (sight_of (views k)).picture (record (views k).log { phase = phase_drawn g.length (views k).log.records (views k).log.entries }) (views k).changes) (sym cells_new)
           (subst (λ z. Logged (record (views k).log { phase = z })) (sym e) log));
       made = λ t. absurd (both_ways (Rattle.pm_world.specs.Lanes.is_decided (phase_drawn g.length (views k).log.records (views k).log.entries)) (undecided g.length (views k).log.records (views k).log.entries) t);
+      recorded = λ un p q. f.recorded (ap Rattle.pm_world.specs.Lanes.is_decided a.is_open) p q;
       number = subst (λ z. NumberFits z (Some (suc g.length))) (sym e) number;
       zones = λ z. ap (λ c. c.zone z == suc k) cells_new ∙ f.zones z;
       masks = f.masks;

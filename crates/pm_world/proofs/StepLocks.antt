@@ -80,6 +80,17 @@ module _ (sh : Shape) (lane : ℕ) (t : List Claim) (log : Log) (changes : List 
   took_here hd free B = let m = header_in sh t B in and_at (found sh t B) ((w && (l == m)) || locked t m) (locked t m)
       (λ e. ap (λ z. (w && z) || locked t m) (ne_eqb l m (λ q. both_ways (holds t l) free (subst (λ a. holds t a ≡ true) (sym q) (hd B e)))) ∙ took_else w (locked t m))
 
+  -- data that is known stays so
+  took_known : (p : Place) (b : ℕ) → is_data p ≡ true → picture sh (Took l w ∷ t) p b ≡ picture sh t p b
+  took_known p b d = ap (λ q. cond (is_pictured p) (option_map (λ x. bit_at x b == 1) (cond q None (pictured sh t (word_of sh p)))) None)
+      (false_from_ne_true (takes_root p) (λ q. let y = and_parts (l == 0) (word_of sh p == word_of_root sh) q in at p (eqb-true (word_of sh p) (word_of_root sh) y.1) d))
+    where
+      at : (p : Place) → word_of sh p ≡ word_of_root sh → is_data p ≡ true → ⊥
+      at (InRun c a) e s = absurd (omega arith)
+      at (InHuge c a) e s = absurd (omega arith)
+      at (Descr c) e s = both_ways false refl s
+      at RootWord e s = both_ways false refl s
+
   took_fresh : (p : Place) (b : ℕ) → fresh sh (Took l w ∷ t) log p b ≡ fresh sh t log p b
   took_fresh p b = fresh_same (is_data p && (is_made (turn (latest (redos log.entries)) (block_of (geometry sh t) p b)) || is_recorded log.records p)) (picture sh t p b) (picture sh (Took l w ∷ t) p b) (took_less p b) (took_same p b)
 
@@ -139,6 +150,8 @@ module _ (o : Opening) (mem : Memory) (views : Views) (g : Past) (x : World o me
       let sight = took_sight sh (views k).fixed.lane (views k).claims (views k).log (views k).changes l w found_held free in
       claims_step o mem new views views' g x k ink l same (Took l w ∷ (views k).claims) (s ∷ (views k).seen) t early
       (λ p b _ e. subst (λ z. owns g.geo (settled_words o g) z.hold p b ≡ true) (sym sight) (owned_more o.shape o.lanes (origin o) (cells_of o.shape mem) (λ j. sight_of (views j)) (ghost_of g) x.bits k ink n (λ B y. y) (λ m y. or_right (w && (l == m)) (locked (views k).claims m) y) p b e))
+      (λ p q B y. took_here sh (views k).fixed.lane (views k).claims (views k).log (views k).changes l w found_held free B ∙ y)
+      (λ p b d y. ap given (took_known sh (views k).fixed.lane (views k).claims (views k).log (views k).changes l w p b d) ∙ y)
       (λ one v y e. ((x.each_lane k ink).alone one).words v y (forgot ((l == 0) && (v == word_of_root sh)) (pictured sh (views k).claims v) y e))
       (λ m j ne. r.writer_else m j (inr ne)) (λ m j ne. r.reader_else m j (inr ne)) draws
       (takes o.shape o.lanes (origin o) (cells_of o.shape mem) (λ j. sight_of (views j)) (ghost_of g) x.bits k ink early l (cells_of o.shape new).writer (cells_of o.shape new).reader w free r (λ i ne. none_.writer i ne) (λ i ne e. (readers e).reader i ne)
@@ -203,6 +216,8 @@ raised line true o mem new views views' g k x ink law moves t = let m = raise_mo
       claims_step o mem new views views' g x k ink line moves.0 (Raised line ∷ c) (Raise line true ∷ (views k).seen) t law.allowed.early
           (λ p b _ e. owned_more o.shape o.lanes (origin o) (cells_of o.shape mem) (λ j. sight_of (views j)) (ghost_of g) x.bits k ink n (λ B y. let z = and_parts (found sh c B) (locked c (header_in sh c B)) y in and_from (found sh c B) ((line == header_in sh c B) || locked c (header_in sh c B)) z.0 (or_right (line == header_in sh c B) (locked c (header_in sh c B)) z.1))
           (λ a y. or_right (line == a) (locked c a) y) p b e)
+          (λ p q B y. let z = and_parts (found sh c B) (locked c (header_in sh c B)) y in and_from (found sh c B) ((line == header_in sh c B) || locked c (header_in sh c B)) z.0 (or_right (line == header_in sh c B) (locked c (header_in sh c B)) z.1))
+          (λ p b d y. y)
           (λ one w y e. ((x.each_lane k ink).alone one).words w y e) (λ a j ne. r.writer_else a j (inr ne)) (λ a j ne. r.reader_else a j (inr ne)) refl
           (raises o.shape o.lanes (origin o) (cells_of o.shape mem) (λ j. sight_of (views j)) (ghost_of g) x.bits k ink law.allowed.early line (cells_of o.shape new).writer (cells_of o.shape new).reader law.allowed.held r (λ i ne. m.1.writer i ne) (λ i ne. m.2.reader i ne)
           (here sh (Raised line ∷ c)) is (λ j. sight_of (views' j)) record { here = ap sight_of t.here; else_ = λ j ne. ap sight_of (t.else_ j ne) }),
@@ -338,6 +353,10 @@ module _ (o : Opening) (mem new : Memory) (views views' : Views) (g : Past) (x :
       by_place none_ (Descr d) e w u = both_ways (own gave_held (Big (g.geo.first d))) u (kept none_ (Big (g.geo.first d)) w)
       by_place none_ RootWord e w u = both_ways (is_recorded (views k).log.records RootWord) (ap given (root_unrecorded (views k).log.records (λ j r q. ((x.each_lane k ink).log.records j r q).4))) e
 
+  recorded_here : (p : Place) → is_recorded (views k).log.records p ≡ true → (B : Block) → here (views k).fixed.shape (views k).claims B ≡ true → here (views k).fixed.shape (Gave line ∷ (views k).claims) B ≡ true
+  recorded_here p e B h = ⊎_elim (λ (q : (views k).log.phase ≡ Idle). let z = subst (PhaseFits o.shape k (sight_of (views k)).picture (views k).log (views k).changes) q (x.each_lane k ink).log.phase in absurd (both_ways (is_recorded (views k).log.records p) (ap (λ rs. is_recorded rs p) z.0) e))
+      (λ (q : ((B : Block) → found (views k).fixed.shape (views k).claims B ≡ true → header_in (views k).fixed.shape (views k).claims B ≢ line) × All (λ (e : Entry). e.place ≢ Some RootWord) (views k).log.entries). still_here q.0 B h) phases
+
   pub given_back : World o new views' g
   given_back = let r = relocked_by o mem views g x k ink new line false false moves.0 (subst (λ n. WordMoves k (mem (LockWord line)) n false false) (sym moves.1) (give_moves k (mem (LockWord line)) (low_lane o mem views g x k ink))) in
       let sh = (views k).fixed.shape in let c = (views k).claims in
@@ -345,7 +364,7 @@ module _ (o : Opening) (mem new : Memory) (views views' : Views) (g : Past) (x :
       let hi : (B : Block) → here sh (Gave line ∷ c) B ≡ (found sh (Gave line ∷ c) B && (not (line == header o.shape g.geo B) && locked c (header o.shape g.geo B))) = λ B. and_at (found sh (Gave line ∷ c) B) (not (line == header_in sh c B) && locked c (header_in sh c B)) (not (line == header o.shape g.geo B) && locked c (header o.shape g.geo B))
       (λ e. ap (λ a. not (line == a) && locked c a) (header_found o mem views g x k ink B (and_parts (not (line == header_in sh c B)) (found sh c B) e).1)) in
       claims_step o mem new views views' g x k ink line moves.0 (Gave line ∷ c) (views k).seen t early
-      (λ p b e w. ⊎_elim (λ (q : owns g.geo (settled_words o g) gave_held p b ≡ true). q) (λ (q : owns g.geo (settled_words o g) gave_held p b ≡ false). absurd (recorded_kept p b e w q)) (cases_Bool (owns g.geo (settled_words o g) gave_held p b)))
+      (λ p b e w. ⊎_elim (λ (q : owns g.geo (settled_words o g) gave_held p b ≡ true). q) (λ (q : owns g.geo (settled_words o g) gave_held p b ≡ false). absurd (recorded_kept p b e w q)) (cases_Bool (owns g.geo (settled_words o g) gave_held p b))) recorded_here (λ p b d y. y)
       (λ one w y e. ((x.each_lane k ink).alone one).words w y e) (λ a j ne. r.writer_else a j (inr ne)) (λ a j ne. r.reader_else a j (inr ne)) refl
       (gives o.shape o.lanes (origin o) (cells_of o.shape mem) (λ j. sight_of (views j)) (ghost_of g) x.bits k ink early line (cells_of o.shape new).writer (cells_of o.shape new).reader r (found sh (Gave line ∷ c)) (here sh (Gave line ∷ c)) fi hi
       freed undone (λ j. sight_of (views' j)) record { here = ap sight_of t.here; else_ = λ j ne. ap sight_of (t.else_ j ne) })

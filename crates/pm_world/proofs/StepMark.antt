@@ -30,9 +30,9 @@ use Rattle.pm_world.specs.Sights.{Hold, Sight, hold_of, is_pictured, picture, is
 use Rattle.pm_world.specs.Lanes.{Ghost, owns, is_decided, Flies, SightFits, Bits}
 use Rattle.pm_world.specs.Logs.{slot_list, AreaChange, IsOld, PhaseFits, LogFits}
 use Rattle.pm_world.specs.Lawful.{MayMark, MayStore}
-use Rattle.pm_world.specs.Laws.{Turn}
+use Rattle.pm_world.specs.Laws.{Turn, KeepsAt}
 use Rattle.pm_world.specs.Memory.{Memory, PoolWord, LockWord, RunWord, ZoneWord, ZoneLock, CommitCounter, StopWord, Becomes, occ_at, bit, run_told, huge_told, bits_of, descriptor_told, cells_by, cells_of}
-use Rattle.pm_world.specs.World.{Opening, Views, Past, origin, ghost_of, settled_words, AloneFits, LaneFits, is_header, World}
+use Rattle.pm_world.specs.World.{Opening, Views, Past, origin, ghost_of, settled_words, AloneFits, RecordedFits, LaneFits, is_header, World}
 use Rattle.pm_world.proofs.AfterStore.{KeepsWith, keeps_at}
 use Rattle.pm_world.proofs.Cells.{other_sort, other_number, occ_sort, cells_stored, bits_else, descriptor_else}
 use Rattle.pm_world.proofs.Counting.{count_same}
@@ -44,7 +44,6 @@ use Rattle.pm_world.proofs.Replays.{put1_here, put1_else}
 use Rattle.pm_world.proofs.Runs.{is_of_chunk, with_mark, ghost_with_mark, Marks, marks_run}
 use Rattle.pm_world.proofs.StepDraw.{all_cons}
 use Rattle.pm_world.proofs.StoreArea.{undrained_by, logged_else, over_area}
-use Rattle.pm_world.proofs.Stores.{KeepsAt}
 use Rattle.pm_world.proofs.Worlds.{parts_short, slot_taken, turned, world_with, stops_stay}
 
 -- ---- which word it is
@@ -84,11 +83,7 @@ bits_over sh L o cells sights g generation seal entry slot y = record { each_lan
 around_over : (k : ℕ) (h : Hold) (holds : ℕ → Hold) (cells cells' : Cells) (S S' : State) (g g' : Ghost) (generation seal : ℕ → ℕ) (entry slot : ℕ → ℕ → ℕ → ℕ) → Around k h holds cells cells' S S' g g' → Around k h holds cells (record cells' { generation = generation; seal = seal; entry = entry; slot = slot }) S S' g g'
 around_over k h holds cells cells' S S' g g' generation seal entry slot y = record { writer = y.writer; reader = y.reader; pool = y.pool; set = y.set; descr = y.descr; up = y.up; runs = y.runs; holder = y.holder; holder_back = y.holder_back; class = y.class; first = y.first; flies = y.flies }
 
--- BEFORE ITS CALL IS DECIDED a lane's recorded words are in blocks that it found under its write lock
-abbrev pub RecordedHere : Type 0
-RecordedHere = (o : Opening) (mem : Memory) (views : Views) (g : Past) (k : ℕ) → World o mem views g → k < o.lanes → is_decided (views k).log.phase ≡ false → (p : Place) → is_recorded (views k).log.records p ≡ true → (b : ℕ) → (sight_of (views k)).hold.here (block_of g.geo p b) ≡ true
-
-module _ (recorded : RecordedHere) (o : Opening) (mem new : Memory) (views views' : Views) (g : Past) (x : World o mem views g) (k : ℕ) (ink : k < o.lanes) (w n c : ℕ) (m : MayStore (views k) w n) (due : MayCount (views k)) (a : MayMark (views k) c n)
+module _ (o : Opening) (mem new : Memory) (views views' : Views) (g : Past) (x : World o mem views g) (k : ℕ) (ink : k < o.lanes) (w n c : ℕ) (m : MayStore (views k) w n) (due : MayCount (views k)) (a : MayMark (views k) c n)
     (ph : (views k).log.phase ≡ Open) (is_part : part_in (views k) w ≡ DescriptorPart c) (b : Becomes (PoolWord w) n mem new) where
   abbrev v : View
   v = views k
@@ -214,10 +209,14 @@ module _ (recorded : RecordedHere) (o : Opening) (mem new : Memory) (views views
   abbrev cells : Cells
   cells = cells_of o.shape mem
 
+  -- a recorded word is in a block that the lane found
+  recorded_here : (q : Place) → is_recorded (views k).log.records q ≡ true → (i : ℕ) → (sight_of (views k)).hold.here (block_of g.geo q i) ≡ true
+  recorded_here q r i = ((fl.recorded early q r).1 i).0
+
   -- nothing of the chunk is recorded, nor made final
   of_block : (q : Place) (i : ℕ) → is_data q ≡ true → is_of_chunk c q ≡ true → is_recorded (views k).log.records q ≡ true → ⊥
-  of_block (InRun d u) i dt t r = let j = part (g.geo.class d) u i in both_ways (found sh (views k).claims (Small d j)) (unfound d j (eqb-true d c t)) (and_parts (found sh (views k).claims (Small d j)) (locked (views k).claims (header_in sh (views k).claims (Small d j))) (recorded o mem views g k x ink early (InRun d u) r i)).0
-  of_block (InHuge d u) i dt t r = let f : g.geo.first d ≡ c = ap g.geo.first (eqb-true d c t) ∙ first_c in let y = fk.hold.here (Big (g.geo.first d)) (recorded o mem views g k x ink early (InHuge d u) r i) in
+  of_block (InRun d u) i dt t r = let j = part (g.geo.class d) u i in both_ways (found sh (views k).claims (Small d j)) (unfound d j (eqb-true d c t)) (and_parts (found sh (views k).claims (Small d j)) (locked (views k).claims (header_in sh (views k).claims (Small d j))) (recorded_here (InRun d u) r i)).0
+  of_block (InHuge d u) i dt t r = let f : g.geo.first d ≡ c = ap g.geo.first (eqb-true d c t) ∙ first_c in let y = fk.hold.here (Big (g.geo.first d)) (recorded_here (InHuge d u) r i) in
       both_ways (Rattle.pm_world.specs.States.there S (Big c)) (fk.hold.mine (Big c) a.own).2 (subst (λ e. Rattle.pm_world.specs.States.there S (Big e) ≡ true) f (fk.hold.found (Big (g.geo.first d)) y.1).2)
   of_block (Descr d) i dt t r = both_ways false refl dt
   of_block RootWord i dt t r = both_ways false refl dt
@@ -333,12 +332,23 @@ module _ (recorded : RecordedHere) (o : Opening) (mem new : Memory) (views views
 
   -- the log stands as it did
   recorded_owned : (q : Place) (i : ℕ) → is_recorded (views k).log.records q ≡ true → owns g.geo (settled_words o g) (sight_of (views k)).hold q i ≡ true → owns g'.geo (settled_words o g) (with_mark (sight_of (views k)).hold c (n / 256)) q i ≡ true
-  recorded_owned (InRun d u) i r t = let y = recorded o mem views g k x ink early (InRun d u) r i in let z = (fk.hold.found (Small d (part (g.geo.class d) u i)) (fk.hold.here (Small d (part (g.geo.class d) u i)) y).1).1 in
+  recorded_owned (InRun d u) i r t = let y = recorded_here (InRun d u) r i in let z = (fk.hold.found (Small d (part (g.geo.class d) u i)) (fk.hold.here (Small d (part (g.geo.class d) u i)) y).1).1 in
       let ne : d ≢ c = λ e. both_ways (g.runs c) no_run_c (ap g.runs (sym e) ∙ (and_parts (g.runs d) (nat_lt (part (g.geo.class d) u i) (blocks_of (g.geo.class d))) z).0) in
       subst (λ s. (h.mine (Small d (part (cond s cl (g.geo.class d)) u i)) || (h.here (Small d (part (cond s cl (g.geo.class d)) u i)) || (s || h.making d))) ≡ true) (sym (ne_eqb d c ne)) t
   recorded_owned (InHuge d u) i r t = t
   recorded_owned (Descr d) i r t = t
   recorded_owned RootWord i r t = t
+
+  -- and so do the blocks that recorded words are in
+  still_found : (q : Place) → is_recorded (views k).log.records q ≡ true → RecordedFits g'.geo (record (sight_of (views k)) { hold = with_mark (sight_of (views k)).hold c (n / 256); soiled = is_soiled (views k).fixed.shape (hold_of (views k).fixed.shape (Knows w n ∷ Marked c (n / 256) ∷ (views k).claims)) (undrained_by (views k) w ∷ (views k).changes) }) q
+  still_found q r = let y = fl.recorded early q r in (y.0, λ i. (in_block q r i, (y.1 i).1))
+    where
+      in_block : (q : Place) → is_recorded (views k).log.records q ≡ true → (i : ℕ) → here (views k).fixed.shape (views k).claims (block_of g'.geo q i) ≡ true
+      in_block (InRun d u) r i = let y = fl.recorded early (InRun d u) r in let ne : (d == c) ≡ false = false_from_ne_true (d == c) (λ e. of_block (InRun d u) i y.0 e r) in
+          subst (λ z. here (views k).fixed.shape (views k).claims (Small d (part (cond z (n / 256) (g.geo.class d)) u i)) ≡ true) (sym ne) (y.1 i).0
+      in_block (InHuge d u) r i = recorded_here (InHuge d u) r i
+      in_block (Descr d) r i = recorded_here (Descr d) r i
+      in_block RootWord r i = recorded_here RootWord r i
 
   abbrev LogOf : Sight → Type 0
   LogOf y = LogFits o.shape k ((cells_of o.shape new).generation k) ((cells_of o.shape new).seal k) ((cells_of o.shape new).entry k) ((cells_of o.shape new).slot k) (settled_words o g) (owns g'.geo (settled_words o g) y.hold) y.picture (views k).log (undrained_by (views k) w ∷ (views k).changes)
@@ -402,6 +412,7 @@ module _ (recorded : RecordedHere) (o : Opening) (mem new : Memory) (views views
     lanes = fl.lanes;
     log = subst (λ y. LogFits o.shape k ((cells_of o.shape new).generation k) ((cells_of o.shape new).seal k) ((cells_of o.shape new).entry k) ((cells_of o.shape new).slot k) (settled_words o g) (owns g'.geo (settled_words o g) y.hold) y.picture (views k).log (undrained_by (views k) w ∷ (views k).changes)) (sym sight_is) log_marked;
     made = λ t. absurd (both_ways (is_decided (views k).log.phase) early t);
+    recorded = λ u q r. subst (λ y. RecordedFits g'.geo y q) (sym sight_is) (still_found q r);
     number = fl.number;
     zones = λ z. ap (λ y. y == suc k) (b.0 (ZoneLock z) (other_sort (ZoneLock z) (PoolWord w) (λ q. omega arith))) ∙ fl.zones z;
     masks = all_cons (λ (d : Undrained). (d.mask < 2 ^ 64) × (d.word < words_of o.shape)) (undrained_by (views k) w) (views k).changes (omega arith, subst (λ s. w < words_of s) fl.shape m.inside) fl.masks;
@@ -434,6 +445,6 @@ module _ (recorded : RecordedHere) (o : Opening) (mem new : Memory) (views views
       (let d = count_same views views' k v' t refl o.lanes in let r = x.counter_room in let e = b.0 CommitCounter (other_sort CommitCounter (PoolWord w) (λ q. omega arith)) in omega arith)
       (⊎_elim (λ (q : mem StopWord ≡ 0). inl (b.0 StopWord (other_sort StopWord (PoolWord w) (λ z. omega arith)) ∙ q)) (λ (q : (j : ℕ) × (j < o.lanes) × IsAtStop (views j)). inr (q.0, q.1, stops_stay views views' k v' t (stop_stays (views k).fixed.stop (views k).calls) q.0 q.2)) x.stop_word)
 
--- THE STORE OF A RUN'S DESCRIPTOR KEEPS THE WORLD, where recorded words are in blocks that their lane found
-pub store_mark : RecordedHere → (c : ℕ) → KeepsAt Open (DescriptorPart c)
-store_mark recorded c = keeps_at Open (DescriptorPart c) (λ w n o mem new views views' g k x ink m due a e p b t. mark_world recorded o mem new views views' g x k ink w n c m due a e p b t)
+-- THE STORE OF A RUN'S DESCRIPTOR KEEPS THE WORLD
+pub store_mark : (c : ℕ) → KeepsAt Open (DescriptorPart c)
+store_mark c = keeps_at Open (DescriptorPart c) (λ w n o mem new views views' g k x ink m due a e p b t. mark_world o mem new views views' g x k ink w n c m due a e p b t)

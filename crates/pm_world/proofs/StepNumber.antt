@@ -138,6 +138,7 @@ module _ (o : Opening) (mem new : Memory) (views views' : Views) (g : Past) (x :
           phase = (let e = ap length idle_log.2 in omega arith, let e = ap length idle_log.3 in omega arith);
         };
         made = λ u. absurd (both_ways false refl u);
+        recorded = λ u p y. f.recorded (ap Rattle.pm_world.specs.Lanes.is_decided idle_) p y;
         number = refl;
         zones = f.zones;
         masks = f.masks;

@@ -84,7 +84,7 @@ module _ (o : Opening) (mem new : Memory) (views views' : Views) (g : Past) (x :
 pub set_stop : Keeps SetStop
 set_stop o mem new views views' g k x ink law moves t = let f = x.each_lane k ink in let same : (l : Location) → sort l ≢ 6 → new l ≡ mem l = λ l ne. moves.0 l (other_sort l StopWord ne) in (
   aside_step o mem new views views' g x k ink (λ l a b. same l b) (views k) t refl refl (λ z j ne. ap (λ n. n == suc j) (same (ZoneLock z) (λ q. omega arith)))
-      (lane_again o mem new g k (views k) f (λ w. same (PoolWord w) (λ q. omega arith)) (views k).claims (views k).seen (views k).zones (views k).occupancy f.log.phase (λ p b _ w. w) f.made (λ z. ap (λ n. n == suc k) (same (ZoneLock z) (λ q. omega arith)) ∙ f.zones z)
+      (lane_again o mem new g k (views k) f (λ w. same (PoolWord w) (λ q. omega arith)) (views k).claims (views k).seen (views k).zones (views k).occupancy f.log.phase (λ p b _ w. w) f.made f.recorded (λ z. ap (λ n. n == suc k) (same (ZoneLock z) (λ q. omega arith)) ∙ f.zones z)
       (λ one. record { words = λ w y e. same (PoolWord w) (λ q. omega arith) ∙ (f.alone one).words w y e; occupancy = λ at y e. (moves.0 (occ_at at) (occ_sort at StopWord (λ q. omega arith) (λ q. omega arith)) ∙ ((f.alone one).occupancy at y e).0, ((f.alone one).occupancy at y e).1) }))
       (inr (k, ink, subst IsAtStop (sym t.here) law.allowed)),
   tt,
@@ -101,7 +101,7 @@ module _ (o : Opening) (mem new : Memory) (views views' : Views) (g : Past) (x :
       → ((z : ℕ) → z ≢ zone → list_any (λ other. other == z) zones' ≡ list_any (λ other. other == z) (views k).zones) → World o new views' g
   zone_step draws others here else_ = let f = x.each_lane k ink in aside_step o mem new views views' g x k ink (λ l a b. stays l a) (record (views k) { seen = seen'; zones = zones' }) t refl draws
       (λ z j ne. ⊎_elim (λ (q : z ≡ zone). subst (λ i. (new (ZoneLock i) == suc j) ≡ (mem (ZoneLock i) == suc j)) (sym q) (ap (λ n. n == suc j) moves.1 ∙ others j ne)) (λ (n : z ≢ zone). ap (λ n. n == suc j) (moves.0 (ZoneLock z) (other_number (ZoneLock z) (ZoneLock zone) n))) (cases_eq z zone))
-      (lane_again o mem new g k (views k) f (λ w. stays (PoolWord w) (λ q. omega arith)) (views k).claims seen' zones' (views k).occupancy f.log.phase (λ p b _ w. w) f.made
+      (lane_again o mem new g k (views k) f (λ w. stays (PoolWord w) (λ q. omega arith)) (views k).claims seen' zones' (views k).occupancy f.log.phase (λ p b _ w. w) f.made f.recorded
       (λ z. ⊎_elim (λ (q : z ≡ zone). subst (λ i. (new (ZoneLock i) == suc k) ≡ list_any (λ other. other == i) zones') (sym q) (ap (λ n. n == suc k) moves.1 ∙ here))
       (λ (n : z ≢ zone). ap (λ n. n == suc k) (moves.0 (ZoneLock z) (other_number (ZoneLock z) (ZoneLock zone) n)) ∙ (f.zones z ∙ sym (else_ z n))) (cases_eq z zone))
       (λ one. record { words = λ w y e. stays (PoolWord w) (λ q. omega arith) ∙ (f.alone one).words w y e; occupancy = λ at y e. (moves.0 (occ_at at) (occ_sort at (ZoneLock zone) (λ q. omega arith) (λ q. omega arith)) ∙ ((f.alone one).occupancy at y e).0, ((f.alone one).occupancy at y e).1) }))

@@ -128,11 +128,11 @@ module _ (o : Opening) (mem new : Memory) (views views' : Views) (g : Past) (x :
       (subst (λ y. SightFits o.shape (cells_of o.shape mem) (settled_words o g) (Flies (ghost_of g) k) (ghost_of g) k (record (sight_logged (views k) w n apart_in log) { phase = ph; logged = y })) (λ i p. (q p ∙ sym (same p)) i) f)
 
   pub area_world : (log : Log) → ((j : ℕ) → flies_at (views k).log.phase j → flies_at log.phase j) → SightFits o.shape (cells_of o.shape mem) (settled_words o g) (Flies (ghost_of g) k) (ghost_of g) k (sight_logged (views k) w n apart_in log) → Logged log → NumberFits log.phase (views k).number
-      → (Rattle.pm_world.specs.Lanes.is_decided log.phase ≡ true → (c : ℕ) → Rattle.pm_view.specs.Claims.making (views k).fixed.shape (views k).claims c ≡ false) → Turn views views' k (after_store (views k) w n log) → World o new views' g
-  area_world log flies sight fits number made t = store_world o mem new views views' g x k ink w n m due b log (omega arith) (λ j h l ne s q. omega arith) own_words flies
+      → (Rattle.pm_world.specs.Lanes.is_decided log.phase ≡ true → (c : ℕ) → Rattle.pm_view.specs.Claims.making (views k).fixed.shape (views k).claims c ≡ false) → (Rattle.pm_world.specs.Lanes.is_decided log.phase ≡ false → (p : Rattle.pm_view.specs.Places.Place) → Rattle.pm_world.specs.Sights.is_recorded log.records p ≡ true → Rattle.pm_world.specs.World.RecordedFits g.geo (sight_of (views k)) p) → Turn views views' k (after_store (views k) w n log) → World o new views' g
+  area_world log flies sight fits number made recorded t = store_world o mem new views views' g x k ink w n m due b log (omega arith) (λ j h l ne s q. omega arith) own_words flies
       (subst (SightFits o.shape (cells_of o.shape new) (settled_words o g) (Flies (ghost_of g) k) (ghost_of g) k) (sym (sight_after (views k) w n apart_in log))
       (subst (λ c. SightFits o.shape c (settled_words o g) (Flies (ghost_of g) k) (ghost_of g) k (sight_logged (views k) w n apart_in log)) (sym cells_area)
       (over_area o.shape (cells_of o.shape mem) (settled_words o g) (Flies (ghost_of g) k) (ghost_of g) k (sight_logged (views k) w n apart_in log) put_cells.generation put_cells.seal put_cells.entry put_cells.slot sight)))
       (subst (λ c. LogFits o.shape k (c.generation k) (c.seal k) (c.entry k) (c.slot k) (settled_words o g) (owns g.geo (settled_words o g) (sight_of (views k)).hold) (sight_of (after_store (views k) w n log)).picture log (undrained_by (views k) w ∷ (views k).changes)) (sym cells_area)
       (subst (λ d. LogFits o.shape k (put_cells.generation k) (put_cells.seal k) (put_cells.entry k) (put_cells.slot k) (settled_words o g) (owns g.geo (settled_words o g) (sight_of (views k)).hold) d log (undrained_by (views k) w ∷ (views k).changes)) (λ j p c. sym (same_picture (views k) w n apart_in p c) j) fits))
-      number made t
+      number made recorded t

@@ -25,7 +25,7 @@ use Rattle.pm_world.specs.Sights.{is_use, call_of, sight_of}
 use Rattle.pm_world.specs.Lanes.{owns, SightFits, Flies, flies_at}
 use Rattle.pm_world.specs.Lawful.{Seals, EndsGeneration, Voids, MayStore}
 use Rattle.pm_world.specs.Logs.{LogFits, IsOld, AreaChange, BumpFits, PhaseFits, seal_in, slot_list}
-use Rattle.pm_world.specs.Laws.{Turn}
+use Rattle.pm_world.specs.Laws.{KeepsAt, Turn}
 use Rattle.pm_world.specs.Memory.{Memory, PoolWord, Becomes, cells_of}
 use Rattle.pm_world.specs.World.{Opening, Views, Past, origin, ghost_of, settled_words, NumberFits, LaneFits, World}
 use Rattle.pm_world.proofs.AfterStore.{after_store, keeps_at}
@@ -33,7 +33,6 @@ use Rattle.pm_world.proofs.Going.{at_phase}
 use Rattle.pm_world.proofs.Replays.{put1_here, put1_else}
 use Rattle.pm_world.proofs.StepDraw.{all_cons}
 use Rattle.pm_world.proofs.StoreArea.{undrained_by, logged_else, sight_from, Logged, area_world}
-use Rattle.pm_world.proofs.Stores.{KeepsAt}
 
 -- ---- which words are the generation and the seal
 abbrev IsWordOf : Shape → ℕ → ℕ → Part → Type 0
@@ -117,13 +116,13 @@ module _ (w n i : ℕ) (o : Opening) (mem new : Memory) (views views' : Views) (
   }
 
   -- THE WORLD with this log
-  world_in : (ph : Phase) (bumped : Bool) → Rattle.pm_world.specs.Lanes.is_decided ph ≡ false → ((j : ℕ) → flies_at (views k).log.phase j → flies_at ph j)
+  world_in : (ph : Phase) (bumped : Bool) → Rattle.pm_world.specs.Lanes.is_decided ph ≡ false → Rattle.pm_world.specs.Lanes.is_decided (views k).log.phase ≡ false → ((j : ℕ) → flies_at (views k).log.phase j → flies_at ph j)
       → SightFits o.shape (cells_of o.shape mem) (settled_words o g) (Flies (ghost_of g) k) (ghost_of g) k (record (sight_of (views k)) { phase = ph })
       → Logged o mem new views views' g x k ink w n i at in_area m due b (record (views k).log { phase = ph; bumped = bumped }) → NumberFits ph (views k).number
       → Turn views views' k (after_store (views k) w n (record (views k).log { phase = ph; bumped = bumped })) → World o new views' g
-  world_in ph bumped und flies sight fits number t = let log = record (views k).log { phase = ph; bumped = bumped } in area_world o mem new views views' g x k ink w n i at in_area m due b log flies
+  world_in ph bumped und before flies sight fits number t = let log = record (views k).log { phase = ph; bumped = bumped } in area_world o mem new views views' g x k ink w n i at in_area m due b log flies
       (sight_from o mem new views views' g x k ink w n i at in_area m due b log ph refl (λ p. logged_else (views k).fixed.shape (views k).fixed.lane (undrained_by (views k) w) (views k).changes 0 (views k).log.records p (λ j _. no_slot_line j)) (sight_of (views k)).logged (λ p. refl) sight)
-      fits number (λ y. absurd (both_ways (Rattle.pm_world.specs.Lanes.is_decided ph) und y)) t
+      fits number (λ y. absurd (both_ways (Rattle.pm_world.specs.Lanes.is_decided ph) und y)) (λ _. (x.each_lane k ink).recorded before) t
 
   part_at : (p : Part) → part_in (views k) w ≡ p → part_of o.shape k w ≡ p
   part_at p e = subst (λ y. part_of o.shape y w ≡ p) (x.each_lane k ink).lane (subst (λ s. part_of s (views k).fixed.lane w ≡ p) (x.each_lane k ink).shape e)
@@ -134,7 +133,7 @@ module _ (w n i : ℕ) (o : Opening) (mem new : Memory) (views views' : Views) (
   -- ---- the seal
   sealing : (d : ℕ) → i ≡ 1 → (views k).log.phase ≡ Drawn d → part_in (views k) w ≡ SealPart → Seals (views k) n → Turn views views' k (after_store (views k) w n (record (views k).log { phase = Sealing d })) → World o new views' g
   sealing d one e p a t = let l = old_log (Drawn d) e in let f = old_sight (Drawn d) e in let here : word_of_seal o.shape k ≡ w = omega arith in
-      world_in (Sealing d) (views k).log.bumped refl (λ j y. subst (λ z. flies_at z j) e y)
+      world_in (Sealing d) (views k).log.bumped refl (ap Rattle.pm_world.specs.Lanes.is_decided e) (λ j y. subst (λ z. flies_at z j) e y)
       record { hold = f.hold; bits = f.bits; picture = f.picture; turns = f.turns; call = record { flight = f.call.flight; todo = f.call.todo; descr = f.call.descr }; reach = f.reach; plain = f.plain; logged = f.logged; stored = f.stored; fresh = f.fresh; sizes = f.sizes; born = f.born; guarded = f.guarded; soiled = f.soiled }
       (log_in (Drawn d) (Sealing d) (views k).log.bumped e refl (below_of a.below) (else_ (word_of_generation o.shape k) (λ q. omega arith) ∙ l.stored) l.bump (ap (put1 (λ u. mem (PoolWord u)) w n) here ∙ (put1_here (λ u. mem (PoolWord u)) w n ∙ a.all))
       (subst (λ q. AreaChange (Sealing d) (length (views k).log.entries) (views k).log.generation q (undrained_by (views k) w)) (sym (part_at SealPart p)) (old_known (views k) w 0 (omega arith) (ap (value_in (views k)) (let y = (x.each_lane k ink).lane in omega arith) ∙ a.known)))
@@ -150,7 +149,7 @@ module _ (w n i : ℕ) (o : Opening) (mem new : Memory) (views views' : Views) (
 
   retiring : (d : ℕ) → i ≡ 0 → (views k).log.phase ≡ Drawn d → part_in (views k) w ≡ GenerationPart → EndsGeneration (views k) n → Turn views views' k (after_store (views k) w n (record (views k).log { phase = Retiring d; bumped = true })) → World o new views' g
   retiring d z e p a t = let l = old_log (Drawn d) e in let f = old_sight (Drawn d) e in
-      world_in (Retiring d) true refl (λ j y. subst (λ z. flies_at z j) e y)
+      world_in (Retiring d) true refl (ap Rattle.pm_world.specs.Lanes.is_decided e) (λ j y. subst (λ z. flies_at z j) e y)
       record { hold = f.hold; bits = f.bits; picture = f.picture; turns = no_turn (views k).log.entries a.unentered; call = record { flight = f.call.flight; todo = f.call.todo; descr = f.call.descr }; reach = f.reach; plain = f.plain; logged = f.logged; stored = f.stored; fresh = f.fresh; sizes = f.sizes; born = f.born; guarded = f.guarded; soiled = f.soiled }
       (log_in (Drawn d) (Retiring d) true e refl (below_of a.below) (generation_here z a.next) refl (else_ (word_of_seal o.shape k) (λ q. omega arith) ∙ l.sealed)
       (subst (λ q. AreaChange (Retiring d) (length (views k).log.entries) (views k).log.generation q (undrained_by (views k) w)) (sym (part_at GenerationPart p)) (old_generation z a.known))
@@ -158,7 +157,7 @@ module _ (w n i : ℕ) (o : Opening) (mem new : Memory) (views views' : Views) (
 
   voiding : i ≡ 0 → (views k).log.phase ≡ Open → part_in (views k) w ≡ GenerationPart → Voids (views k) n → Turn views views' k (after_store (views k) w n (record (views k).log { phase = Voiding; bumped = true })) → World o new views' g
   voiding z e p a t = let l = old_log Open e in let f = old_sight Open e in
-      world_in Voiding true refl (λ j y. subst (λ z. flies_at z j) e y)
+      world_in Voiding true refl (ap Rattle.pm_world.specs.Lanes.is_decided e) (λ j y. subst (λ z. flies_at z j) e y)
       record { hold = f.hold; bits = f.bits; picture = f.picture; turns = no_turn (views k).log.entries a.ends.unentered; call = record { flight = tt; todo = f.call.todo; descr = f.call.descr }; reach = f.reach; plain = f.plain; logged = f.logged; stored = f.stored; fresh = f.fresh; sizes = f.sizes;
       born = λ y. absurd (both_ways false refl y); guarded = λ y. absurd (both_ways false refl y);
       soiled = λ q c y. absurd (both_ways false refl (sym (ap (λ cs. is_use (sight_of (views k)).hold q && is_dirty_bit cs (Rattle.pm_view.specs.Places.word_of (views k).fixed.shape q) c) clean ∙ and_false (is_use (sight_of (views k)).hold q)) ∙ y)) }

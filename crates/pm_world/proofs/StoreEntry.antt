@@ -26,7 +26,7 @@ use Rattle.pm_world.specs.Sights.{Sight, call_of, sight_of}
 use Rattle.pm_world.specs.Lanes.{Ghost, own, all_held, rights, owns, SightFits, Flies}
 use Rattle.pm_world.specs.Lawful.{HoldsRoot, AppendsToPair, EntersWord, MayStore}
 use Rattle.pm_world.specs.Logs.{LogFits, IsEntryAt, AreaChange, EntryOf}
-use Rattle.pm_world.specs.Laws.{Turn}
+use Rattle.pm_world.specs.Laws.{KeepsAt, Turn}
 use Rattle.pm_world.specs.Memory.{Memory, PoolWord, Becomes, bit, cells_of}
 use Rattle.pm_world.specs.World.{Opening, Views, Past, origin, ghost_of, settled_words, NumberFits, LaneFits, World}
 use Rattle.pm_world.proofs.AfterStore.{after_store, KeepsWith, keeps_at}
@@ -38,7 +38,6 @@ use Rattle.pm_world.proofs.PlacesAt.{HasUse, IsAt, is_at}
 use Rattle.pm_world.proofs.Replays.{put1_here, put1_else}
 use Rattle.pm_world.proofs.StepDraw.{all_cons}
 use Rattle.pm_world.proofs.StoreArea.{undrained_by, logged_else, sight_from, apart_in, Logged, area_world}
-use Rattle.pm_world.proofs.Stores.{KeepsAt}
 use Rattle.pm_world.proofs.Values.{val_from, val_word}
 
 -- ---- numbers that have the same bits
@@ -196,7 +195,7 @@ module _ (w n : ℕ) (o : Opening) (mem new : Memory) (views views' : Views) (g 
   world_with_log es' pair' sight fits t = let log = record (views k).log { entries = es'; pair = pair' } in area_world o mem new views views' g x k ink w n (8 + 2 * length (views k).log.entries + length (views k).log.pair) at in_area m due b log (λ j y. y)
       (sight_from o mem new views views' g x k ink w n (8 + 2 * length (views k).log.entries + length (views k).log.pair) at in_area m due b log Open open_
       (λ p. logged_else (views k).fixed.shape (views k).fixed.lane (undrained_by (views k) w) (views k).changes 0 (views k).log.records p (λ j _. no_slot_line j)) (sight_of (views k)).logged (λ p. refl) sight)
-      (subst (λ z. LoggedNow (record (views k).log { phase = z; entries = es'; pair = pair' })) (sym open_) fits) (x.each_lane k ink).number (x.each_lane k ink).made t
+      (subst (λ z. LoggedNow (record (views k).log { phase = z; entries = es'; pair = pair' })) (sym open_) fits) (x.each_lane k ink).number (x.each_lane k ink).made (x.each_lane k ink).recorded t
 
   -- the first word of the pair
   first_word : (views k).log.pair ≡ [] → Turn views views' k (after_store (views k) w n (record (views k).log { pair = n ∷ [] })) → World o new views' g

@@ -67,7 +67,7 @@ module _ (sh : Shape) (k : ℕ) where
       ∙ (cond-false (is_descriptor_word sh w) _ _ (ap (λ t. t && (page_in_zone sh (w / 512) == 0) && nat_lt (w % 512) 64) no_zone)
       ∙ cond-false (is_chunk_page sh (w / 512)) _ _ (ap (λ t. t && nat_le 1 (page_in_zone sh (w / 512))) no_zone))))))
 
-no_other : (ph : Phase) (count generation : ℕ) (c : Undrained) → AreaChange ph count generation OtherPart c → ⊥
+pub no_other : (ph : Phase) (count generation : ℕ) (c : Undrained) → AreaChange ph count generation OtherPart c → ⊥
 no_other Idle count generation c e = e
 no_other Open count generation c e = e
 no_other (Drawn n) count generation c e = e

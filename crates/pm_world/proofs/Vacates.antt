@@ -1,15 +1,14 @@
 -- A lane gives back occupancy bits, over bits: blocks of its own that are not allocated come to be nobody's.
-use Rattle.std.proofs.Common.{◌≡◌, ◌≢◌, ℕ, zero, suc, ◌<◌, ◌≤◌, ◌⊎◌, inl, inr, ⊎_elim, nat_lt, Bool, true, false, cond, not, ◌&&◌, ◌||◌, eqb, ◌==◌, refl, sym, ap, ◌∙◌, subst, arith, Option, None, Some}
+use Rattle.std.proofs.Common.{◌≡◌, ◌≢◌, ℕ, suc, ◌<◌, inl, ⊎_elim, Bool, true, false, cond, not, ◌&&◌, ◌||◌, ◌==◌, refl, sym, ap, ◌∙◌, subst, arith, Option, None, Some}
 use Rattle.std.proofs.lemmas.Bool.{cases_eq, cases_Bool, eqb-true, both_ways, and_parts, and_from, or_cases, or_left, or_right, or_parts, or_from, not_from_true, not_from_false, not-true, false_from_ne_true, true_from_ne_false}
 use Rattle.pm_layout.specs.declared.shape.Shape.{Shape}
-use Rattle.pm_layout.specs.Sizes.{blocks_of}
 use Rattle.pm_view.specs.Places.{Place, InRun, InHuge, Descr, RootWord, Block, Small, Big, Root, Geometry, block_of, header}
 use Rattle.pm_view.specs.Entries.{latest, turn}
 use Rattle.pm_view.specs.Claims.{making_of}
-use Rattle.pm_world.specs.States.{State, Diff, Call, diff, given, there, live, guards, read, Cells}
+use Rattle.pm_world.specs.States.{State, diff, given, there, live, guards, read, Cells}
 use Rattle.pm_world.specs.Sights.{Hold, Sight}
 use Rattle.pm_world.specs.Lanes.{Ghost, own, owns, all_held, has, valid, is_decided, in_flight, left, soils, TurnFits, settled, SightFits, Flies, atom, is_occupancy, is_taken, Bits}
-use Rattle.pm_world.proofs.Frame.{Around, own_cases, mine_own, own_has, stay_fits, some_first, fresh_given}
+use Rattle.pm_world.proofs.Frame.{Around, mine_own, own_has, stay_fits, some_first, fresh_given}
 use Rattle.pm_world.proofs.Going.{Turned, goes_on, same_made, still_flying}
 use Rattle.pm_world.proofs.Occupies.{split}
 

@@ -1,14 +1,12 @@
 -- What place a word of a chunk is; and bits of numbers.
-use Rattle.std.specs.Prelude.{bit_and, bit_or, if◌then◌else◌, max, min}
+use Rattle.std.specs.Prelude.{bit_and, bit_or, max}
 use Rattle.std.specs.Int.{bit_at}
-use Rattle.std.proofs.Common.{◌≡◌, ◌≢◌, ℕ, suc, ◌+◌, ◌-◌, ◌*◌, ◌/◌, ◌%◌, ◌^◌, ◌<◌, ◌≤◌, ◌⊎◌, ⊎_elim, nat_le, nat_lt, Bool, true, false, cond, ◌==◌, ◌&&◌, ◌||◌, eqb, refl, sym, ap, ◌∙◌, arith, eq-eqb, ne_eqb, Option, None, Some}
+use Rattle.std.proofs.Common.{◌≡◌, ◌≢◌, ℕ, ◌+◌, ◌*◌, ◌/◌, ◌%◌, ◌^◌, ◌<◌, ◌≤◌, ⊎_elim, nat_le, nat_lt, true, false, cond, ◌==◌, ◌&&◌, ◌||◌, eqb, sym, ap, ◌∙◌, arith, eq-eqb, ne_eqb}
 use Rattle.std.proofs.lemmas.Bool.{cases_eq, cases_lt, le-leb, lt-ltb, leb-false, ltb-false, and_from, and_left, and_right, cond-true, cond-false, both_ways}
 use Rattle.std.proofs.lemmas.Nat.Bits.{bit_at_or, bit_at_and, bit_at-pow_same, bit_at-pow_other, bit_at-zero, bit_at-lt}
 use Rattle.pm_layout.specs.declared.shape.Shape.{Shape}
 use Rattle.pm_layout.specs.Chunks.{chunks_of, page_of_zone, page_of_chunk, word_of_chunk, word_of_root, zone_at, page_in_zone, is_in_zone, is_chunk_page, chunk_at, is_descriptor_word, chunk_described}
-use Rattle.pm_view.specs.Places.{Place, RootWord}
-use Rattle.pm_view.specs.Parts.{Part, RootPart, DescriptorPart, ChunkPart, OtherPart, pool_part, chunk_place, place_in}
-use Rattle.pm_view.specs.Log.{place_at}
+use Rattle.pm_view.specs.Parts.{Part, RootPart, DescriptorPart, ChunkPart, OtherPart, pool_part}
 use Rattle.pm_world.specs.Memory.{bit}
 
 module _ (sh : Shape) (c u : ℕ) (small : u < 512) where

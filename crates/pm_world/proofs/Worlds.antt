@@ -10,15 +10,16 @@ use Rattle.pm_view.specs.Changes.{Undrained}
 use Rattle.pm_view.specs.Log.{Phase, Idle, Open, Drawn, Sealing, Applying, Clearing, Retiring, Voiding, Log}
 use Rattle.pm_layout.specs.Areas.{undo_slots, slot_words, redo_entries}
 use Rattle.std.proofs.lemmas.Option.{slice_get_within}
+use Rattle.pm_view.specs.Places.{block_of}
 use Rattle.pm_view.specs.View.{View}
 use Rattle.pm_world.specs.States.{State, Diff, Cells}
 use Rattle.pm_world.specs.Sights.{Hold, Sight, sight_of}
-use Rattle.pm_world.specs.Lanes.{Ghost, settled, owns, Flies, SightFits, Bits}
+use Rattle.pm_world.specs.Lanes.{Ghost, settled, has, owns, Flies, SightFits, Bits}
 use Rattle.pm_world.specs.Logs.{used_slots, PhaseFits, LogFits}
 use Rattle.pm_world.specs.Memory.{Memory, PoolWord, ZoneLock, CommitCounter, StopWord, cells_of}
 use Rattle.pm_world.specs.World.{Opening, Views, Past, origin, ghost_of, settled_words, numbered_by, AreaFits, LaneFits, may_draw_count, is_header, World}
 use Rattle.pm_world.specs.Laws.{Turn}
-use Rattle.pm_world.proofs.Frame.{Around, owned_kept, bit_away, owns_apart}
+use Rattle.pm_world.proofs.Frame.{Around, found_has, block_kept, owned_kept, bit_away, owns_apart}
 use Rattle.pm_world.proofs.Going.{Turned}
 
 -- fewer words are stored of the next record, of the next entry, than it has
@@ -110,6 +111,7 @@ module _ (o : Opening) (mem : Memory) (views : Views) (g : Past) (x : World o me
     lanes = f.lanes;
     log = log_stays new g' S' e m a j ne (let most = x.most_lanes in omega arith) f.log;
     made = f.made;
+    recorded = λ u p q. let y = f.recorded u p q in (y.0, λ b. let z = y.1 b in (subst (λ B. (sight_of (views j)).hold.here B ≡ true) (sym (block p b (found_has (sight_of (views j)).hold (block_of g.geo p b) ((x.bits.each_lane j).hold.here (block_of g.geo p b) z.0).1))) z.0, z.1));
     number = f.number;
     zones = λ z. a.zone z j ne ∙ f.zones z;
     masks = f.masks;
@@ -118,6 +120,9 @@ module _ (o : Opening) (mem : Memory) (views : Views) (g : Past) (x : World o me
     alone = λ one. absurd (omega arith);
     entries = f.entries ∙ sym (a.entries j ne);
   }
+    where
+      block : (p : Rattle.pm_view.specs.Places.Place) (b : ℕ) → has (sight_of (views j)).hold (block_of g.geo p b) ≡ true → block_of g'.geo p b ≡ block_of g.geo p b
+      block = block_kept o.shape k (sight_of (views k)) (λ i. (sight_of (views i)).hold) (cells_of o.shape mem) (cells_of o.shape new) (settled_words o g) S' (ghost_of g) (ghost_of g') x.bits.geo x.bits.alone (x.bits.each_lane k) m j ne (sight_of (views j)) refl (x.bits.each_lane j)
 
   -- THE WORLD AFTER THE STEP
   pub world_with : (new : Memory) (views' : Views) (g' : Past) (S' : State) (v : View) → settled_words o g' ≡ S'

@@ -1,9 +1,12 @@
 -- THE LAWS of a world.
 use Rattle.std.specs.Prelude.{◌≡◌, ◌≢◌, ℕ, ◌<◌, Bool, true, false, List, ◌||◌}
 use Rattle.pm_view.specs.Places.{Place}
+use Rattle.pm_view.specs.Log.{Phase}
+use Rattle.pm_view.specs.Parts.{Part}
 use Rattle.pm_view.specs.Steps.{Step}
+use Rattle.pm_view.specs.Steps.Step.{Store}
 use Rattle.pm_view.specs.View.{View}
-use Rattle.pm_view.specs.Views.{after}
+use Rattle.pm_view.specs.Views.{after, part_in}
 use Rattle.pm_view.specs.Founds.{Found}
 use Rattle.pm_world.specs.States.{State, replay}
 use Rattle.pm_world.specs.Sights.{sight_of}
@@ -25,6 +28,11 @@ abbrev pub Keeps : Step → Type 0
 Keeps s = (o : Opening) (old mem : Memory) (views new : Views) (g : Past) (k : ℕ)
     → World o old views g → k < o.lanes → IsLawful (views k) s → Moves k s old mem → Turn views new k (after (views k) s)
     → World o mem new (past_after g (views k) s) × Found (views k) s
+
+-- A LAWFUL STORE KEEPS THE WORLD where its lane's call has come so far and the word is such to the lane
+abbrev pub KeepsAt : Phase → Part → Type 0
+KeepsAt ph part = (w x : ℕ) (o : Opening) (old mem : Memory) (views new : Views) (g : Past) (k : ℕ) → World o old views g → k < o.lanes → IsLawful (views k) (Store w x)
+    → (views k).log.phase ≡ ph → part_in (views k) w ≡ part → Moves k (Store w x) old mem → Turn views new k (after (views k) (Store w x)) → World o mem new (past_after g (views k) (Store w x))
 
 -- NO BIT IS OWNED BY TWO LANES
 abbrev pub RightsApart : Type 0

@@ -9,3 +9,4 @@ pub mod Lawful
 pub mod Course
 pub mod Crash
 pub mod Laws
+pub mod Decisions

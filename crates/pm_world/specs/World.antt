@@ -8,7 +8,7 @@ use Rattle.pm_layout.specs.Chunks.{words_of, word_of_descriptor, word_of_root}
 use Rattle.pm_view.specs.declared.occ.Occ.{Occ}
 use Rattle.pm_view.specs.declared.occ.Occ.TheVariants.{Run, Zone}
 use Rattle.pm_view.specs.Changes.{Undrained}
-use Rattle.pm_view.specs.Places.{Place, InRun, InHuge, Descr, RootWord, Block, Geometry}
+use Rattle.pm_view.specs.Places.{Place, InRun, InHuge, Descr, RootWord, Block, Geometry, block_of, is_data}
 use Rattle.pm_view.specs.Claims.{making, pictured, is_run}
 use Rattle.pm_view.specs.Counts.{max_changes, IsAtStop}
 use Rattle.pm_view.specs.Log.{Phase, Idle, Open, Drawn, Sealing, Applying, Clearing, Retiring, Voiding}
@@ -16,8 +16,8 @@ use Rattle.pm_view.specs.Steps.{Step}
 use Rattle.pm_view.specs.Steps.Step.{NumberSeen}
 use Rattle.pm_view.specs.View.{View, Numbered}
 use Rattle.pm_view.specs.Views.{occupancy_of}
-use Rattle.pm_world.specs.States.{State, Call}
-use Rattle.pm_world.specs.Sights.{call_in, sight_of}
+use Rattle.pm_world.specs.States.{State, Call, given}
+use Rattle.pm_world.specs.Sights.{Sight, is_recorded, call_in, sight_of}
 use Rattle.pm_world.specs.Lanes.{Ghost, owns, settled, is_decided, Bits}
 use Rattle.pm_world.specs.Logs.{LogFits}
 use Rattle.pm_world.specs.Memory.{Memory, PoolWord, ZoneLock, CommitCounter, StopWord, occ_at, bits_of, cells_of}
@@ -87,6 +87,10 @@ abbrev pub AreaFits : Opening → Memory → Past → ℕ → View → Type 0
 AreaFits o mem g k v = LogFits o.shape k ((cells_of o.shape mem).generation k) ((cells_of o.shape mem).seal k) ((cells_of o.shape mem).entry k) ((cells_of o.shape mem).slot k)
     (settled_words o g) (owns g.geo (settled_words o g) (sight_of v).hold) (sight_of v).picture v.log v.changes
 
+-- a record is of data of a block that the lane found under its write lock, and it knows the word
+abbrev pub RecordedFits : Geometry → Sight → Place → Type 0
+RecordedFits G x p = (is_data p ≡ true) × ((b : ℕ) → (x.hold.here (block_of G p b) ≡ true) × (given (x.picture p b) ≡ true))
+
 -- of a lane's view, beside what is said of its sight
 pub record LaneFits (o : Opening) (mem : Memory) (g : Past) (k : ℕ) (v : View) : Type 0 where
   pub lane : v.fixed.lane ≡ k
@@ -96,6 +100,8 @@ pub record LaneFits (o : Opening) (mem : Memory) (g : Past) (k : ℕ) (v : View)
       (settled_words o g) (owns g.geo (settled_words o g) (sight_of v).hold) (sight_of v).picture v.log v.changes
   -- once the call is decided the lane makes no run: what it made was drained before
   pub made : is_decided v.log.phase ≡ true → (c : ℕ) → making v.fixed.shape v.claims c ≡ false
+  -- a record is of what the lane found, and holds still
+  pub recorded : is_decided v.log.phase ≡ false → (p : Place) → is_recorded v.log.records p ≡ true → RecordedFits g.geo (sight_of v) p
   pub number : NumberFits v.log.phase v.number
   pub zones : (z : ℕ) → (mem (ZoneLock z) == suc k) ≡ list_any (λ other. other == z) v.zones
   pub masks : All (λ (c : Undrained). (c.mask < 2 ^ 64) × (c.word < words_of o.shape)) v.changes
