@@ -6,10 +6,10 @@
 //! So far it is proved of these kinds of step that they keep the world: a drain; a lock taken for writing or for reading, raised, and given
 //! back; a zone's lock tried, and given back; a look at an occupancy word, bits of it that are refused, the bit of a run's block that is got,
 //! and bits that are given back; the draw of a number; the number seen; the stop word seen, and set; an operation that is told; and of stores,
-//! those of a record's and of an entry's words, of the seal, of the next generation, and each of a decided call. And of each world, that every
+//! those of a record's and of an entry's words, of a new run's descriptor, of the seal, of the next generation, and each of a decided call. And of each world, that every
 //! crash image keeps the decided calls and means what the kept calls do, and that no bit is owned by two lanes.
 //!
-//! Still to come: loads; stores of data and of a new run's bitmap and descriptor; OR and AND; flush; the bits of chunks that are got; the
+//! Still to come: loads; stores of data and of a new run's bitmap; OR and AND; flush; the bits of chunks that are got; the
 //! opening of a world; the history.
 #![tactic(auto)]
 
