@@ -60,3 +60,4 @@ pub mod StepDrops
 pub mod CrashDescriptors
 pub mod Recording
 pub mod StoreRecord
+pub mod Opening
