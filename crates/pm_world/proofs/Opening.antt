@@ -111,3 +111,100 @@ module _ (o : Opening) (mem : Memory) (fixed : ℕ → Constants) (generation : 
     guarded = λ e. no e;
     soiled = λ p b t. absurd (both_ways (is_use (hold_of (fixed k).shape []) p && false) (and_false (is_use (hold_of (fixed k).shape []) p)) t);
   }
+
+  -- ---- the bits at places
+  same_word : (w : ℕ) → bit (mem (PoolWord w)) ≡ bit (slice_index o.words w)
+  same_word w = ap bit (x.words w)
+
+  pool_is : (p : Place) (b : ℕ) → (cells_of o.shape mem).pool p b ≡ bits_of o.shape (slice_index o.words) p b
+  pool_is p b = ap (λ f. bits_of o.shape f p b) (λ i w. x.words w i)
+
+  both_true : (a : Bool) (y : Bool) → a ≡ true → y ≡ (a && y)
+  both_true a y e = sym (ap (λ t. t && y) e)
+
+  unowned : (p : Place) (b : ℕ) → live (origin o) g.geo g.runs p ≡ true → read (cells_of o.shape mem).pool p b ≡ origin o p b
+  unowned (InRun c w) b l = pool_is (InRun c w) b ∙ both_true (not (w == 0) || was_run o c) (bits_of o.shape (slice_index o.words) (InRun c w) b)
+      (or_right (not (w == 0)) (was_run o c) (and_parts (is_place o.shape (Descr c)) (is_run (descriptor o c)) (and_parts (g.runs c) (shown (origin o) (g.geo.class c) c w) l).0).1)
+  unowned (InHuge c w) b l = pool_is (InRun c w) b
+  unowned (Descr c) b l = pool_is (Descr c) b
+  unowned RootWord b l = pool_is RootWord b
+
+  descr_is : (c : ℕ) → (cells_of o.shape mem).descr c ≡ cond (g.runs c) (g.geo.class c) 0
+  descr_is c = ap (λ y. cond (is_place o.shape (Descr c)) (run_told y) 0) (x.words (word_of_descriptor o.shape c)) ∙ go (is_place o.shape (Descr c)) (is_run (descriptor o c))
+    where
+      go : (a t : Bool) → cond a (cond t (descriptor o c / 256) 0) 0 ≡ cond (a && t) (descriptor o c / 256) 0
+      go true t = refl
+      go false t = refl
+
+  -- what is given of the geometry, and of the occupancy words
+  module _ (geo : GeoFits o.shape (origin o) (ghost_of (opened o (idle_views fixed generation) first))) (occ : (a : Block) → is_occupancy o.shape a ≡ true → (cells_of o.shape mem).occ a ≡ is_taken (origin o) (ghost_of (opened o (idle_views fixed generation) first)) a) where
+    bits : Bits o.shape o.lanes (origin o) (cells_of o.shape mem) (λ k. sight_of (idle (fixed k) (generation k))) (ghost_of (opened o (idle_views fixed generation) first))
+    bits = record {
+      each_lane = sight;
+      beyond = λ k l B. (owns_not B k, λ i. refl);
+      unowned = λ p b u l. unowned p b l;
+      descr = λ c u. descr_is c;
+      occ = occ;
+      geo = geo;
+      alone = λ l j e. absurd (both_ways (bit (mem (LockWord l)) (32 + j)) (clear_lock l (32 + j)) e);
+      counter = x.counter;
+      flying = λ n l d. absurd (omega arith);
+    }
+
+    area : (k : ℕ) → k < o.shape.lanes → AreaFits o mem (opened o (idle_views fixed generation) first) k (idle (fixed k) (generation k))
+    area k l = let r = x.retired k l in record {
+      first = r.first;
+      last = r.last;
+      below = λ q. ⊎_elim (λ (e : false ≡ true). no e) (λ q. ⊎_elim (λ (e : 1 ≤ 0). absurd (omega arith)) (λ (e : 1 ≤ 0). absurd (omega arith)) q) q;
+      stored = x.words (word_of_generation o.shape k) ∙ r.stored;
+      bump = refl;
+      sealed = x.words (word_of_seal o.shape k) ∙ r.unsealed;
+      entries_most = omega arith;
+      records_most = omega arith;
+      pairs = λ i e q. no (ap given q);
+      pair_part = λ i q. absurd (omega arith);
+      records = λ i e q. no (ap given q);
+      once = λ j m d q p y z e. no (ap given e);
+      olds = λ p y e. no (ap given e);
+      slot_part = λ i q. absurd (omega arith);
+      stale = λ j u q m e. r.stale j u m (sym (ap (λ (f : ℕ → ℕ). undo_of (slot_list (λ i. f (8 * line_of_slot o.shape k j + i)))) (λ i w. x.words w i)) ∙ e);
+      area_changes = λ i d q. absurd (omega arith);
+      phase = (refl, refl, refl, refl);
+    }
+
+    none_draw : (n : ℕ) → may_draw_count (idle_views fixed generation) n ≡ 0
+    none_draw zero = refl
+    none_draw (suc n) = let e = none_draw n in omega arith
+
+    -- THE WORLD OPENS
+    pub opens : World o mem (idle_views fixed generation) (opened o (idle_views fixed generation) first)
+    opens = record {
+      some_lanes = x.some_lanes;
+      most_lanes = x.most_lanes;
+      few_lanes = x.few_lanes;
+      size = x.size;
+      bits = bits;
+      each_lane = λ k ink. record {
+        lane = x.lane k;
+        shape = x.shape k;
+        lanes = x.lanes k;
+        log = area k (let most = x.most_lanes in omega arith);
+        made = λ e. no e;
+        recorded = λ d p e. no e;
+        number = tt;
+        zones = λ z. ap (λ y. y == suc k) (x.zone_locks z) ∙ ne_eqb 0 (suc k) (λ e. absurd (omega arith));
+        masks = λ i d q. absurd (omega arith);
+        room = omega arith;
+        within = λ y q. omega arith;
+        alone = λ one. record { words = λ w y e. no (ap given e); occupancy = λ at y e. no (ap given e) };
+        entries = refl;
+      };
+      idle_beyond = λ k l. (refl, refl, refl);
+      logs_beyond = λ k l ink. area k ink;
+      of_lanes = λ n l. absurd (omega arith);
+      small = λ w. subst (λ y. y < 2 ^ 64) (sym (x.words w)) (x.small w);
+      header = λ w e. x.words w;
+      zone_locks = λ z. let e = x.zone_locks z in omega arith;
+      counter_room = let e = x.counter in let d = none_draw o.lanes in omega arith;
+      stop_word = inl x.stop;
+    }
