@@ -61,3 +61,4 @@ pub mod CrashDescriptors
 pub mod Recording
 pub mod StoreRecord
 pub mod Opening
+pub mod OpenWords

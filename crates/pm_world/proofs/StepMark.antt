@@ -69,7 +69,7 @@ descriptor_place sh lane w c e = chain (ap at_part e)
 pub descriptor_at : (sh : Shape) (lane w c : ℕ) → part_of sh lane w ≡ DescriptorPart c → (w ≡ word_of_descriptor sh c) × (c < chunks_of sh)
 descriptor_at sh lane w c e = let y = is_at sh (λ c. 0) w (Descr c) (descriptor_place sh lane w c e) in (sym y.word, ltb-true c (chunks_of sh) y.inside)
 
-some_class : (lines : ℕ) → 0 < blocks_of lines → 1 ≤ lines
+pub some_class : (lines : ℕ) → 0 < blocks_of lines → 1 ≤ lines
 some_class zero q = absurd (let z : 0 < 0 = q in omega arith)
 some_class (suc n) q = omega arith
 
