@@ -62,3 +62,4 @@ pub mod Recording
 pub mod StoreRecord
 pub mod Opening
 pub mod OpenWords
+pub mod OpenChunks
