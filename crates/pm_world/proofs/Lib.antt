@@ -63,3 +63,4 @@ pub mod StoreRecord
 pub mod Opening
 pub mod OpenWords
 pub mod OpenChunks
+pub mod OpenGeometry
