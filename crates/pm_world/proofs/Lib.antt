@@ -64,3 +64,4 @@ pub mod Opening
 pub mod OpenWords
 pub mod OpenChunks
 pub mod OpenGeometry
+pub mod OpenTaken

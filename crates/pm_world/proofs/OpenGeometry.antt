@@ -20,12 +20,12 @@ use Rattle.pm_world.proofs.Values.{val_from}
 
 module _ (o : Opening) (views : Views) (small : (w : ℕ) → slice_index o.words w < 2 ^ 64) (table : (c : ℕ) → c < chunks_of o.shape → InTable o c) where
   -- a huge block that is allocated
-  huge_there : (f : ℕ) → there (origin o) (Big f) ≡ true → (is_place o.shape (Descr f) ≡ true) × IsHugeIn o f
+  pub huge_there : (f : ℕ) → there (origin o) (Big f) ≡ true → (is_place o.shape (Descr f) ≡ true) × IsHugeIn o f
   huge_there f t = let y = and_parts (is_place o.shape (Descr f)) (huge_told (descriptor o f) 1) t in let z = and_parts (not (is_run (descriptor o f))) (bit (descriptor o f) 1) y.1 in
       (y.0, ⊎_elim (λ (d : descriptor o f ≡ 0). absurd (both_ways (bit (descriptor o f) 1) (ap (λ q. bit q 1) d ∙ ap (λ q. q == 1) (bit_at-zero 1)) z.1))
       (λ (d : IsRunIn o f ⊎ IsHugeIn o f). ⊎_elim (λ (r : IsRunIn o f). absurd (both_ways (not (is_run (descriptor o f))) (ap not (eq-eqb (descriptor o f % 256) 1 r.0)) z.0)) (λ (r : IsHugeIn o f). r) d) (table f (ltb-true f (chunks_of o.shape) y.0)))
 
-  no_run_word : (f : ℕ) → IsHugeIn o f → is_run (descriptor o f) ≡ false
+  pub no_run_word : (f : ℕ) → IsHugeIn o f → is_run (descriptor o f) ≡ false
   no_run_word f h = let q = h.0 in ne_eqb (descriptor o f % 256) 1 (λ e. absurd (omega arith))
 
   told : (f : ℕ) → there (origin o) (Big f) ≡ true → (b : ℕ) → origin o (Descr f) b ≡ bit (descriptor o f) b
@@ -40,7 +40,7 @@ module _ (o : Opening) (views : Views) (small : (w : ℕ) → slice_index o.word
   in_own : (f : ℕ) → there (origin o) (Big f) ≡ true → in_span f (descriptor o f / 256) f ≡ true
   in_own f t = let y = huge_there f t in let some = y.1.1 in and_from (nat_le f f) (nat_lt f (f + descriptor o f / 256)) (le-leb f f (omega arith)) (lt-ltb f (f + descriptor o f / 256) (omega arith))
 
-  has_chunk : (f : ℕ) → there (origin o) (Big f) ≡ true → (c : ℕ) → (first_of o c == f) ≡ in_span f (descriptor o f / 256) c
+  pub has_chunk : (f : ℕ) → there (origin o) (Big f) ≡ true → (c : ℕ) → (first_of o c == f) ≡ in_span f (descriptor o f / 256) c
   has_chunk f t c = ⊎_elim (λ (s : in_span f (descriptor o f / 256) c ≡ true). eq-eqb (first_of o c) f (first_is o small table f c (head_of f c t s)) ∙ sym s)
       (λ (u : in_span f (descriptor o f / 256) c ≡ false). ne_eqb (first_of o c) f (λ q. ⊎_elim
       (λ (h : is_head o (first_of o c) c ≡ true). let z = subst (λ e. is_head o e c ≡ true) q h in both_ways (in_span f (descriptor o f / 256) c) u (and_parts (is_huge (descriptor o f)) (in_span f (descriptor o f / 256) c) (and_parts (is_place o.shape (Descr f)) (is_huge (descriptor o f) && in_span f (descriptor o f / 256) c) z).1).1)
