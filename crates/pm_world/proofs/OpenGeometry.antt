@@ -21,9 +21,11 @@ use Rattle.pm_world.proofs.Values.{val_from}
 module _ (o : Opening) (views : Views) (small : (w : ℕ) → slice_index o.words w < 2 ^ 64) (table : (c : ℕ) → c < chunks_of o.shape → InTable o c) where
   -- a huge block that is allocated
   pub huge_there : (f : ℕ) → there (origin o) (Big f) ≡ true → (is_place o.shape (Descr f) ≡ true) × IsHugeIn o f
-  huge_there f t = let y = and_parts (is_place o.shape (Descr f)) (huge_told (descriptor o f) 1) t in let z = and_parts (not (is_run (descriptor o f))) (bit (descriptor o f) 1) y.1 in
-      (y.0, ⊎_elim (λ (d : descriptor o f ≡ 0). absurd (both_ways (bit (descriptor o f) 1) (ap (λ q. bit q 1) d ∙ ap (λ q. q == 1) (bit_at-zero 1)) z.1))
-      (λ (d : IsRunIn o f ⊎ IsHugeIn o f). ⊎_elim (λ (r : IsRunIn o f). absurd (both_ways (not (is_run (descriptor o f))) (ap not (eq-eqb (descriptor o f % 256) 1 r.0)) z.0)) (λ (r : IsHugeIn o f). r) d) (table f (ltb-true f (chunks_of o.shape) y.0)))
+  huge_there f t = let y = and_parts (is_place o.shape (Descr f)) (huge_told (descriptor o f) 1) t in let z = and_parts (not (is_run (descriptor o f))) (bit (descriptor o f) 1) y.1 in (
+    y.0,
+    ⊎_elim (λ (d : descriptor o f ≡ 0). absurd (both_ways (bit (descriptor o f) 1) (ap (λ q. bit q 1) d ∙ ap (λ q. q == 1) (bit_at-zero 1)) z.1))
+        (λ (d : IsRunIn o f ⊎ IsHugeIn o f). ⊎_elim (λ (r : IsRunIn o f). absurd (both_ways (not (is_run (descriptor o f))) (ap not (eq-eqb (descriptor o f % 256) 1 r.0)) z.0)) (λ (r : IsHugeIn o f). r) d) (table f (ltb-true f (chunks_of o.shape) y.0)),
+  )
 
   pub no_run_word : (f : ℕ) → IsHugeIn o f → is_run (descriptor o f) ≡ false
   no_run_word f h = let q = h.0 in ne_eqb (descriptor o f % 256) 1 (λ e. absurd (omega arith))
