@@ -58,6 +58,7 @@ pub mod StepFlush
 pub mod Known
 pub mod StepLoad
 pub mod StepLearn
+pub mod StepMark
 pub mod StepVacate
 pub mod StepDrops
 pub mod CrashDescriptors
@@ -70,3 +71,8 @@ pub mod StepChunks
 pub mod CrashFaults
 pub mod CrashClashes
 pub mod SlotWords
+pub mod Opening
+pub mod OpenWords
+pub mod OpenChunks
+pub mod OpenGeometry
+pub mod OpenTaken

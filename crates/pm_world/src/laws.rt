@@ -3,7 +3,7 @@ ghost use Rattle.pm_objects.specs.declared.calls.Operation.{Operation};
 ghost use Rattle.pm_objects.specs.declared.history.Value.{Value};
 ghost use Rattle.pm_view.specs.declared.occ.Occ.{Occ};
 ghost use Rattle.pm_view.specs.Log.{Idle, Open, Drawn};
-ghost use Rattle.pm_view.specs.Parts.{SlotPart, EntryPart, GenerationPart, SealPart, ChunkPart};
+ghost use Rattle.pm_view.specs.Parts.{SlotPart, EntryPart, GenerationPart, SealPart, ChunkPart, DescriptorPart};
 ghost use Rattle.pm_view.specs.Steps.Step.{Load, Or, And, Flush, Drain, TakeWrite, TakeRead, Raise, Give, ZoneTry, ZoneGive};
 ghost use Rattle.pm_view.specs.Steps.Step.{Occupied, Occupy, Vacate, Draw, NumberSeen, StopSeen, SetStop, Tell};
 ghost use Rattle.pm_world.specs.Decisions.{DecidedStoresKeep};
@@ -32,13 +32,15 @@ pub fn lawful_steps_keep_the_world()
     ensures tell { (operation : Operation) (reply : Option Value) → Keeps (Tell operation reply) }
 {}
 
-/// A law: a lawful store keeps the world, whatever the other lanes hold: of a word of a record or of an entry; of the seal, once the
+/// A law: a lawful store keeps the world, whatever the other lanes hold: of a word of a record or of an entry; of the descriptor of a
+/// chunk that becomes a run; of the seal, once the
 /// number is drawn; of the next generation, which decides a call without entries, or aborts one; of a user's word, under its
 /// drained record or in a block of the lane's own, of an open call and between calls; and each store of a decided call, of its entries in
 /// their order and of the seal that is cleared. No code runs.
 pub fn lawful_stores_keep_the_world()
     ensures record { KeepsAt Open SlotPart }
     ensures entry { KeepsAt Open EntryPart }
+    ensures run { (chunk : ℕ) → KeepsAt Open (DescriptorPart chunk) }
     ensures seal { (number : ℕ) → KeepsAt (Drawn number) SealPart }
     ensures next_generation { (number : ℕ) → KeepsAt (Drawn number) GenerationPart }
     ensures aborted { KeepsAt Open GenerationPart }

@@ -10,12 +10,12 @@
 //! given back; a zone's lock tried, and given back; a look at an occupancy word, bits of it that
 //! are taken, got or not, and bits that are given back; the draw of a number; the number seen;
 //! the stop word seen, and set; an operation that is told. Of stores it is proved of those of a
-//! record's and of an entry's words, of the seal, of the next generation, of a user's word, and
+//! record's and of an entry's words, of a new run's descriptor, of the seal, of the next generation, of a user's word, and
 //! of each of a decided call. And it is proved of each world that every crash image keeps the
 //! decided calls, means what the kept calls do and has no fault in its logs, and that two lanes
 //! own no common bit.
 //!
-//! Still to come: the store of a new run's descriptor; the opening of a world; the history.
+//! Still to come: the opening of a world; the history.
 #![tactic(auto)]
 
 mod crash_laws;

@@ -1,3 +1,4 @@
+use Rattle.pm_world.proofs.StepMark as step_mark
 use Rattle.pm_world.proofs.StepShared as step_shared
 use Rattle.pm_world.proofs.StoreEnd as store_end
 use Rattle.pm_world.proofs.StoreEntry as store_entry
@@ -10,6 +11,9 @@ returns-clause-record _ = store_record.store_record
 
 pub returns-clause-entry : goal.returns-clause-entry
 returns-clause-entry _ = store_entry.store_entry
+
+pub returns-clause-run : goal.returns-clause-run
+returns-clause-run _ = λ chunk. step_mark.store_mark chunk
 
 pub returns-clause-seal : goal.returns-clause-seal
 returns-clause-seal _ = λ number. store_end.store_seal number
