@@ -168,6 +168,7 @@ module _ (o : Opening) (mem : Memory) (fixed : ℕ → Constants) (generation : 
       olds = λ p y e. no (ap given e);
       slot_part = λ i q. absurd (omega arith);
       stale = λ j u q m e. r.stale j u m (sym (ap (λ (f : ℕ → ℕ). undo_of (slot_list (λ i. f (8 * line_of_slot o.shape k j + i)))) (λ i w. x.words w i)) ∙ e);
+      slot_changes = λ i d q. absurd (omega arith);
       area_changes = λ i d q. absurd (omega arith);
       phase = (refl, refl, refl, refl);
     }

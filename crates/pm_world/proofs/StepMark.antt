@@ -42,6 +42,7 @@ use Rattle.pm_world.proofs.OccWorlds.{early_undecided}
 use Rattle.pm_world.proofs.PlacesAt.{is_at}
 use Rattle.pm_world.proofs.Replays.{put1_here, put1_else}
 use Rattle.pm_world.proofs.Runs.{is_of_chunk, with_mark, ghost_with_mark, Marks, marks_run}
+use Rattle.pm_world.proofs.SlotWords.{slot_range}
 use Rattle.pm_world.proofs.StepDraw.{all_cons}
 use Rattle.pm_world.proofs.StoreArea.{undrained_by, logged_else, over_area}
 use Rattle.pm_world.proofs.Worlds.{parts_short, slot_taken, turned, world_with, stops_stay}
@@ -373,6 +374,7 @@ module _ (o : Opening) (mem new : Memory) (views views' : Views) (g : Past) (x :
     olds = λ q y r i. let z = l.olds q y r i in (recorded_owned q i (ap given r) z.0, z.1);
     slot_part = λ i q. let r = parts_short o.shape k (sight_of (views k)).picture (views k).log (views k).changes (views k).log.phase l.phase in let s = slot_taken (views k).log i q in other_word (8 * line_of_slot o.shape k (length (views k).log.records) + i) (λ t. omega arith) ∙ l.slot_part i q;
     stale = λ i u q z t. l.stale i u q z (sym (ap undo_of (slots i z)) ∙ t);
+    slot_changes = all_cons (λ (d : Undrained). part_of o.shape k d.word ≡ SlotPart → d.word < 8 * line_of_slot o.shape k (Rattle.pm_world.specs.Logs.used_slots ((views k).log))) (undrained_by (views k) w) (views k).changes (λ e. absurd (let r = slot_range o.shape k w e in let s = at_o in let m = x.most_lanes in omega arith)) l.slot_changes;
     area_changes = all_cons (λ (d : Undrained). AreaChange (views k).log.phase (length (views k).log.entries) (views k).log.generation (part_of o.shape k d.word) d) (undrained_by (views k) w) (views k).changes
         (subst (λ z. AreaChange z (length (views k).log.entries) (views k).log.generation (part_of o.shape k w) (undrained_by (views k) w)) (sym ph) (subst (λ q. AreaChange Open (length (views k).log.entries) (views k).log.generation q (undrained_by (views k) w)) (sym part_o) known_zero)) l.area_changes;
     phase = subst (λ z. PhaseFits o.shape k (sight_of (views k)).picture (views k).log (undrained_by (views k) w ∷ (views k).changes) z) (sym ph) (subst (λ z. PhaseFits o.shape k (sight_of (views k)).picture (views k).log (views k).changes z) ph l.phase);
