@@ -76,3 +76,4 @@ pub mod OpenWords
 pub mod OpenChunks
 pub mod OpenGeometry
 pub mod OpenTaken
+pub mod EveryStep
