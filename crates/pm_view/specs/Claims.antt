@@ -7,7 +7,7 @@ use Rattle.pm_layout.specs.Chunks.{chunk_at, word_of_descriptor, word_of_root}
 use Rattle.pm_view.specs.declared.occ.Occ.{Occ}
 use Rattle.pm_view.specs.declared.occ.Occ.TheVariants.{Run, Zone}
 use Rattle.pm_view.specs.Changes.{Undrained, is_dirty}
-use Rattle.pm_view.specs.Places.{Place, InRun, InHuge, Descr, RootWord, Block, Small, Big, Root, Geometry, block_of, header, in_span}
+use Rattle.pm_view.specs.Places.{Place, InRun, InHuge, Descr, RootWord, Block, Small, Big, Root, Geometry, block_of, header, in_span, is_data}
 use Rattle.pm_view.specs.Entries.{Redo, latest, turn}
 use Rattle.pm_view.specs.Log.{place_at}
 
@@ -219,9 +219,14 @@ making_of made (Small c i) = made c
 making_of made (Big f) = false
 making_of made Root = false
 
--- the word is in a block that the lane has, or found; the root word is under line 0's lock
+-- the word is data of a block that the lane has, or found
+abbrev pub is_held_at : Shape → List Claim → Option Place → Bool
+is_held_at sh t None = false
+is_held_at sh t (Some p) = is_data p && (mine sh t (block_of (geometry sh t) p 64) || found sh t (block_of (geometry sh t) p 64))
+
+-- so it is; or it is the root word, and the lane has line 0's lock
 abbrev pub is_held : Shape → List Claim → ℕ → Bool
-is_held sh t w = passes (λ B. mine sh t B || found sh t B) (block_at sh t w) || ((w == word_of_root sh) && holds t 0)
+is_held sh t w = is_held_at sh t (place_at sh (class t) w) || ((w == word_of_root sh) && holds t 0)
 
 -- THE VALUE THAT THE LANE KNOWS of a word: of one that it has, or of any where it runs with no other
 abbrev pub known : Shape → Bool → List Claim → ℕ → Option ℕ

@@ -1,16 +1,14 @@
 -- THE WORLD AFTER A STORE: what every store owes alike.
 use Rattle.std.specs.Prelude.{List, [], ◌∷◌, All, IsSomeAnd, length, slice_index}
 use Rattle.std.specs.Option.{ForSome}
-use Rattle.std.proofs.Common.{◌≡◌, ◌≢◌, ℕ, suc, ◌+◌, ◌*◌, ◌^◌, ◌<◌, ◌≤◌, ◌⊎◌, inl, inr, ⊎_elim, nat_lt, Bool, true, false, cond, eqb, ◌==◌, ◌&&◌, not, refl, sym, ap, ◌∙◌, subst, arith, eq-eqb, ne_eqb, Option, None, Some}
+use Rattle.std.proofs.Common.{◌≡◌, ◌≢◌, ℕ, suc, ◌+◌, ◌*◌, ◌^◌, ◌<◌, ◌≤◌, inl, inr, ⊎_elim, nat_lt, Bool, true, false, cond, ◌==◌, not, refl, sym, ap, ◌∙◌, subst, arith, eq-eqb, ne_eqb, Option, None, Some}
 use Rattle.std.proofs.lemmas.Bool.{cases_eq, ltb-true, and_parts, cond-true, cond-false}
-use Rattle.pm_layout.specs.declared.shape.Shape.{Shape}
 use Rattle.pm_layout.specs.Areas.{word_of_generation, word_of_seal, word_of_entry, line_of_slot}
 use Rattle.pm_layout.specs.Chunks.{words_of, word_of_root}
 use Rattle.pm_view.specs.Bits.{all_bits}
 use Rattle.pm_view.specs.Changes.{Undrained}
 use Rattle.pm_view.specs.Claims.{class, making, pictured}
-use Rattle.pm_view.specs.Counts.{max_changes, MayCount, IsAtStop}
-use Rattle.pm_view.specs.Limits.{greatest_generation}
+use Rattle.pm_view.specs.Counts.{MayCount, IsAtStop}
 use Rattle.pm_view.specs.Log.{Phase, Log, log_stored}
 use Rattle.pm_view.specs.Parts.{Part}
 use Rattle.pm_view.specs.View.{View}
@@ -18,7 +16,7 @@ use Rattle.pm_view.specs.Views.{shape_of, part_in, value_in, marked_by, changed}
 use Rattle.pm_world.specs.Course.{past_stored}
 use Rattle.pm_world.specs.States.{State, Cells}
 use Rattle.pm_world.specs.Sights.{sight_of}
-use Rattle.pm_world.specs.Lanes.{Flies, flies_at, is_decided, SightFits, Bits}
+use Rattle.pm_world.specs.Lanes.{Flies, flies_at, is_decided, SightFits}
 use Rattle.pm_world.specs.Lawful.{StoreFits, MayStore}
 use Rattle.pm_world.specs.Laws.{KeepsAt, Turn}
 use Rattle.pm_world.specs.Memory.{Memory, PoolWord, ZoneLock, CommitCounter, StopWord, occ_at, Becomes, cells_of}
@@ -27,7 +25,7 @@ use Rattle.pm_world.proofs.Cells.{other_sort, other_number, occ_sort}
 use Rattle.pm_world.proofs.Counting.{count_same}
 use Rattle.pm_world.proofs.StepDraw.{all_cons}
 use Rattle.pm_world.proofs.Stored.{OwnWords, around_own, stored}
-use Rattle.pm_world.proofs.Worlds.{AreasAside, turned, world_with, stops_stay}
+use Rattle.pm_world.proofs.Worlds.{turned, world_with, stops_stay}
 
 -- the view after a store of n into word w, which leaves this log
 abbrev pub after_store : View → ℕ → ℕ → Log → View

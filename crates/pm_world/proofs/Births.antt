@@ -1,14 +1,13 @@
 -- What comes alive with a call was stored: the lines of each block that it allocates, as far as its object has them.
-use Rattle.std.specs.Prelude.{List}
 use Rattle.std.specs.Option.{option_map}
-use Rattle.std.proofs.Common.{◌≡◌, ◌≢◌, ℕ, zero, suc, ◌+◌, ◌-◌, ◌*◌, ◌/◌, ◌%◌, ◌^◌, ◌<◌, ◌≤◌, ◌⊎◌, inl, inr, ⊎_elim, nat_le, nat_lt, Bool, true, false, cond, ◌==◌, ◌&&◌, ◌||◌, eqb, refl, sym, ap, ◌∙◌, subst, arith, eq-eqb, ne_eqb, Option, None, Some}
+use Rattle.std.proofs.Common.{◌≡◌, ◌≢◌, ℕ, ◌+◌, ◌-◌, ◌*◌, ◌/◌, ◌%◌, ◌<◌, ◌≤◌, ◌⊎◌, inl, inr, ⊎_elim, nat_le, nat_lt, Bool, true, false, cond, ◌==◌, ◌&&◌, ◌||◌, eqb, refl, sym, ap, ◌∙◌, subst, arith, eq-eqb, ne_eqb, Option, None, Some}
 use Rattle.std.proofs.lemmas.Bool.{lt-ltb, ltb-true, cases_eq, cases_Bool, eqb-true, le-leb, leb-true, both_ways, and_parts, and_from, or_cases, or_left, or_right, cond-true, cond-false, false_from_ne_true}
-use Rattle.std.proofs.Math.Nat.{mod-eq-sub-mul-div, mul-div-le, mod-lt, mul-mod_right}
+use Rattle.std.proofs.Math.Nat.{mod-eq-sub-mul-div, mul-div-le, mul-mod_right}
 use Rattle.pm_layout.specs.declared.shape.Shape.{Shape}
-use Rattle.pm_layout.specs.Chunks.{word_of_chunk, page_of_chunk, page_of_zone}
-use Rattle.pm_view.specs.Places.{Place, InRun, InHuge, Descr, RootWord, Block, Small, Big, Root, part, block_of, is_data, in_span, word_of}
+use Rattle.pm_layout.specs.Chunks.{word_of_chunk, page_of_zone}
+use Rattle.pm_view.specs.Places.{Place, InRun, InHuge, Descr, RootWord, Block, Small, Big, part, block_of, is_data, word_of}
 use Rattle.pm_view.specs.Entries.{latest, redos, turn, first_of_two}
-use Rattle.pm_view.specs.Claims.{class, first, span, geometry}
+use Rattle.pm_view.specs.Claims.{class, first, geometry}
 use Rattle.pm_view.specs.View.{View}
 use Rattle.pm_view.specs.Views.{value_in}
 use Rattle.pm_world.specs.States.{State, Diff, diff, given, over, after_diff, lit, size_at, bright, shown, bright_huge, live, Cells}

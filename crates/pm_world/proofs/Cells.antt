@@ -1,11 +1,11 @@
 -- The memory bit by bit, after a change of one word: all but what that word tells stays.
-use Rattle.std.proofs.Common.{◌≡◌, ◌≢◌, ℕ, ◌<◌, ⊎_elim, Bool, true, false, ◌&&◌, refl, sym, ap, ◌∙◌, subst, arith}
+use Rattle.std.proofs.Common.{◌≡◌, ◌≢◌, ℕ, ⊎_elim, ◌&&◌, sym, ap, ◌∙◌, arith}
 use Rattle.std.proofs.lemmas.Bool.{cases_eq}
 use Rattle.pm_layout.specs.declared.shape.Shape.{Shape}
 use Rattle.pm_view.specs.declared.occ.Occ.{Occ}
 use Rattle.pm_view.specs.declared.occ.Occ.TheVariants.{Run, Zone}
 use Rattle.pm_view.specs.Places.{Place, InRun, InHuge, Descr, RootWord, is_place, word_of}
-use Rattle.pm_world.specs.States.{State, Cells, cell, read, put1}
+use Rattle.pm_world.specs.States.{read, put1}
 use Rattle.pm_world.specs.Memory.{Location, PoolWord, LockWord, RunWord, ZoneWord, ZoneLock, CommitCounter, StopWord, occ_at, Memory, IsSame, IsSameBut, Becomes, bit, huge_told, bits_of, descriptor_told, cells_by, cells_of}
 use Rattle.pm_world.proofs.Replays.{put1_here, put1_else}
 

@@ -1,8 +1,7 @@
 -- How many lanes may still take a number, and the entries of a lane, as one lane's view changes.
-use Rattle.std.specs.Prelude.{All, [], ◌∷◌, List, length}
-use Rattle.std.proofs.Common.{◌≡◌, ◌≢◌, ℕ, zero, suc, ◌+◌, ◌<◌, ◌≤◌, ◌⊎◌, ⊎_elim, Bool, true, false, cond, eqb, refl, sym, ap, ◌∙◌, subst, arith, eq-eqb, ne_eqb}
+use Rattle.std.proofs.Common.{◌≡◌, ◌≢◌, ℕ, zero, suc, ◌<◌, ◌≤◌, ⊎_elim, Bool, true, false, cond, refl, sym, ap, ◌∙◌, arith}
 use Rattle.std.proofs.lemmas.Bool.{cases_eq}
-use Rattle.pm_view.specs.View.{View, Numbered}
+use Rattle.pm_view.specs.View.{View}
 use Rattle.pm_world.specs.World.{Views, may_draw, may_draw_count}
 use Rattle.pm_world.specs.Laws.{Turn}
 

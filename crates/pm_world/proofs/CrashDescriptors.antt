@@ -1,44 +1,41 @@
 -- THE CRASH LAW, beside the words of living places: each chunk that an image describes as a run is one, or has no block; and the header page is as it was.
-use Rattle.std.proofs.Common.{◌≡◌, ◌≢◌, ℕ, zero, suc, ◌+◌, ◌*◌, ◌/◌, ◌%◌, ◌<◌, ◌≤◌, ◌⊎◌, inl, inr, ⊎_elim, nat_le, nat_lt, Bool, true, false, cond, not, ◌&&◌, ◌||◌, eqb, leb, ltb, ◌==◌, List, [], ◌∷◌, ◌++◌, length, map, slice_index, refl, sym, ap, ◌∙◌, subst, arith, eq-eqb, ne_eqb, Option, None, Some}
+use Rattle.std.proofs.Common.{◌≡◌, ◌≢◌, ℕ, zero, suc, ◌+◌, ◌*◌, ◌/◌, ◌%◌, ◌<◌, ◌≤◌, ◌⊎◌, inl, inr, ⊎_elim, nat_le, nat_lt, Bool, true, false, cond, not, ◌&&◌, eqb, leb, ltb, ◌==◌, List, [], ◌∷◌, ◌++◌, length, map, slice_index, refl, sym, ap, ◌∙◌, subst, arith, eq-eqb, ne_eqb, Option, None, Some}
 use Rattle.std.specs.Int.{bit_at}
-use Rattle.std.specs.List.{filter, find, flat_map, list_any, range_with_len}
-use Rattle.std.specs.Option.{option_map}
-use Rattle.std.proofs.lemmas.Bool.{cases_eq, cases_lt, cases_Bool, both_ways, and_from, and_parts, cond-true, cond-false, false_from_ne_true, le-leb, lt-ltb, ltb-true, leb-true, eqb-true, not-true}
+use Rattle.std.specs.List.{find, flat_map, range_with_len}
+use Rattle.std.proofs.lemmas.Bool.{cases_eq, cases_lt, cases_Bool, both_ways, and_from, and_parts, cond-true, cond-false, false_from_ne_true, lt-ltb, ltb-true, leb-true, not-true}
 use Rattle.std.proofs.lemmas.List.Elements.{filter-append}
 use Rattle.std.proofs.lemmas.List.Folds.{list_any_at}
 use Rattle.std.proofs.lemmas.Nat.Bits.{bit_at_ones}
 use Rattle.pm_layout.specs.declared.shape.Shape.{Shape}
 use Rattle.pm_layout.specs.Areas.{word_of_generation, word_of_seal, word_of_entry, line_of_slot, undo_slots, redo_entries}
-use Rattle.pm_layout.specs.Chunks.{words_of, chunks_of, word_of_chunk, word_of_descriptor, word_of_root, is_in_zone, is_chunk_page, is_descriptor_word, chunk_described, page_of_zone, page_in_zone}
+use Rattle.pm_layout.specs.Chunks.{chunks_of, word_of_chunk, word_of_descriptor, word_of_root, is_in_zone, is_chunk_page, is_descriptor_word, chunk_described, page_of_zone, page_in_zone}
 use Rattle.pm_record.specs.declared.redo.Redo.{Redo}
-use Rattle.pm_record.specs.declared.undo.Undo.{Undo}
 use Rattle.pm_image.specs.Logs.{covers, old_word, records, entries, recovered}
-use Rattle.pm_view.specs.Bits.{all_bits}
-use Rattle.pm_view.specs.Changes.{Undrained, is_dirty_bit}
+use Rattle.pm_view.specs.Changes.{Undrained}
 use Rattle.pm_view.specs.Parts.{OtherPart, is_entry_word, is_slot_word, part_of}
 use Rattle.pm_view.specs.Places.{Place, InRun, InHuge, Descr, RootWord, Block, Small, Big, twin, word_of, is_place}
 use Rattle.pm_view.specs.Claims.{is_run}
 use Rattle.pm_view.specs.Entries.{Entry, latest, redos}
 use Rattle.pm_view.specs.Log.{Phase, Idle, Open, Drawn, Sealing, Applying, Clearing, Retiring, Voiding}
-use Rattle.pm_world.specs.States.{State, given, over, read}
-use Rattle.pm_world.specs.Sights.{sight_of, is_use}
+use Rattle.pm_world.specs.States.{given}
+use Rattle.pm_world.specs.Sights.{sight_of}
 use Rattle.pm_world.specs.Lanes.{own, owns, is_decided, is_in_making, SightFits, Flies}
 use Rattle.pm_world.specs.Logs.{IsOld, AreaChange}
 use Rattle.pm_world.specs.Memory.{Memory, PoolWord, bit, run_told, bits_of, descriptor_told, cells_of}
 use Rattle.pm_world.specs.World.{Opening, Views, Past, World, origin, settled_words, ghost_of, is_header}
 use Rattle.pm_world.specs.Crash.{Survives, NoneTorn, DescribesRun, MeansKept}
 use Rattle.pm_world.specs.Laws.{CrashLaw}
-use Rattle.pm_world.proofs.Frame.{is_single, some_first, no_run, maker_owns, maker_no_run, making_own, not_making, soiled_owned}
-use Rattle.pm_world.proofs.Crashes.{InPool, Restores, Redoes, PhaseSays, unspoken}
+use Rattle.pm_world.proofs.Frame.{some_first, no_run, maker_no_run, making_own, not_making, soiled_owned}
+use Rattle.pm_world.proofs.Crashes.{InPool, unspoken}
 use Rattle.pm_world.proofs.Replays.{over_none}
-use Rattle.pm_world.proofs.RecoveredBits.{entry_bit, entry_bit-none, record_bit, of_word, all_entries, empty_or, SetsWord, IsSet, set_cases, sets_parts, parts_none, mapped_none, recovered_plain, recovered_set}
+use Rattle.pm_world.proofs.RecoveredBits.{entry_bit, entry_bit-none, record_bit, of_word, SetsWord, IsSet, set_cases, sets_parts, parts_none, mapped_none, recovered_plain, recovered_set}
 use Rattle.pm_world.proofs.SurvivingWords.{whole_left, Taken, no_other}
 use Rattle.pm_world.proofs.ImageLogs.{redo_at}
 use Rattle.pm_world.proofs.LanesInImages.{Silent, Sealed, Current, LaneCase, lane_case}
 use Rattle.pm_world.proofs.EntriesAtPlaces.{AllStand, Stands, entry_bits, of_place}
-use Rattle.pm_world.proofs.RecordsAtPlaces.{Speaks, speaks_of, log_is, twin_single}
-use Rattle.pm_world.proofs.ImageSays.{spoken, spoken_is, stands, lane_says, three_cases, bare_bit, silent_bit, sealed_redoes, sealed_stand}
-use Rattle.pm_world.proofs.CrashLaw.{no_part, place_inside, descriptor_part, descriptor_change, inside_told, fit, soils as soils_here, pool, apart, away, sets, bare_descriptor, image_says, im, rec, words_are}
+use Rattle.pm_world.proofs.RecordsAtPlaces.{speaks_of, log_is}
+use Rattle.pm_world.proofs.ImageSays.{spoken, spoken_is, stands, three_cases, bare_bit, silent_bit, sealed_redoes, sealed_stand}
+use Rattle.pm_world.proofs.CrashLaw.{no_part, place_inside, descriptor_part, descriptor_change, soils as soils_here, pool, apart, away, sets, bare_descriptor, image_says, words_are}
 
 -- a header word is no lane's
 header_part : (sh : Shape) (k w : ℕ) → k < sh.lanes → w < 512 → w ≢ 64 → part_of sh k w ≡ OtherPart
@@ -103,7 +100,7 @@ part_empty w f from zero k e a b = absurd (omega arith)
 part_empty w f from (suc n) k e a b = let t = nil_parts (of_word w (f from)) (of_word w (flat_map f (range_with_len (from + 1) n))) (sym (filter-append (λ (d : Redo). eqb d.place (8 * w)) (f from) (flat_map f (range_with_len (from + 1) n))) ∙ e) in
     ⊎_elim (λ (q : k ≡ from). ap (λ i. of_word w (f i)) q ∙ t.0) (λ (ne : k ≢ from). part_empty w f (from + 1) n k t.1 (omega arith) (omega arith)) (cases_eq k from)
 
-some_below : (P : ℕ → Bool) (n : ℕ) → ((j : ℕ) × (j < n) × (P j ≡ true)) ⊎ ((j : ℕ) → j < n → P j ≡ false)
+pub some_below : (P : ℕ → Bool) (n : ℕ) → ((j : ℕ) × (j < n) × (P j ≡ true)) ⊎ ((j : ℕ) → j < n → P j ≡ false)
 some_below P zero = inr (λ j l. absurd (omega arith))
 some_below P (suc n) = ⊎_elim (λ (t : P n ≡ true). inl (n, omega arith, t))
     (λ (f : P n ≡ false). ⊎_elim (λ (y : (j : ℕ) × (j < n) × (P j ≡ true)). inl (y.0, (let l = y.1 in omega arith), y.2)) (λ (h : (j : ℕ) → j < n → P j ≡ false). inr (λ j l. ⊎_elim (λ (e : j ≡ n). ap P e ∙ f) (λ (ne : j ≢ n). h j (omega arith)) (cases_eq j n))) (some_below P n)) (cases_Bool (P n))
@@ -125,7 +122,7 @@ module _ (o : Opening) (mem : Memory) (views : Views) (g : Past) (x : World o me
   pub header : (w : ℕ) → is_header o.shape w ≡ true → recovered image o.shape.lanes w ≡ slice_index o.words w
   header w e = let h = header_parts w e in let low = h.0 in let none_ : (q : Place) → is_place o.shape q ≡ true → word_of o.shape q ≡ w → ⊥ = λ q i s. no_header o.shape q w i h.0 h.1 s in
       let same : slice_index image w ≡ mem (PoolWord w) = ⊎_elim (λ z. z) (λ (t : Taken o mem views g x image sv w). absurd (let l = t.of_lane in let m = x.most_lanes in no_other (views t.lane).log.phase (length (views t.lane).log.entries) (views t.lane).log.generation t.seen
-          (subst (λ p. AreaChange (views t.lane).log.phase (length (views t.lane).log.entries) (views t.lane).log.generation p t.seen) (header_part o.shape t.lane w (omega arith) h.0 h.1) t.is))) (whole_left o mem views g x image sv w (omega arith)) in
+      (subst (λ p. AreaChange (views t.lane).log.phase (length (views t.lane).log.entries) (views t.lane).log.generation p t.seen) (header_part o.shape t.lane w (omega arith) h.0 h.1) t.is))) (whole_left o mem views g x image sv w (omega arith)) in
       recovered_plain image o.shape.lanes w (no_part w (entries image) 0 o.shape.lanes (λ j l. no_entry w none_ h.0 j (omega arith))) (λ j l. no_cover w j (no_record w none_ j l)) ∙ (same ∙ x.header w e)
     where
       no_entry : (w : ℕ) → ((q : Place) → is_place o.shape q ≡ true → word_of o.shape q ≡ w → ⊥) → w < 512 → (j : ℕ) → j < o.shape.lanes → of_word w (entries image j) ≡ []

@@ -1,8 +1,8 @@
 -- THE CRASH LAW of a world: every surviving image without torn records, recovered, has at each living place the words with the calls that it keeps.
-use Rattle.std.proofs.Common.{◌≡◌, ◌≢◌, ℕ, zero, suc, ◌+◌, ◌*◌, ◌/◌, ◌%◌, ◌<◌, ◌≤◌, ◌⊎◌, inl, inr, ⊎_elim, nat_le, nat_lt, Bool, true, false, cond, not, ◌&&◌, ◌||◌, eqb, leb, ltb, ◌==◌, Contains, List, [], ◌∷◌, ◌++◌, map, slice_index, refl, sym, ap, ◌∙◌, subst, arith, eq-eqb, ne_eqb, Option, None, Some}
+use Rattle.std.proofs.Common.{◌≡◌, ◌≢◌, ℕ, zero, suc, ◌+◌, ◌*◌, ◌/◌, ◌%◌, ◌<◌, ◌≤◌, ◌⊎◌, inl, inr, ⊎_elim, nat_lt, Bool, true, false, cond, not, ◌&&◌, ◌||◌, eqb, leb, ltb, ◌==◌, List, [], ◌++◌, map, slice_index, refl, sym, ap, ◌∙◌, subst, arith, eq-eqb, ne_eqb, Option}
 use Rattle.std.specs.Int.{bit_at}
 use Rattle.std.specs.List.{filter, flat_map, range_with_len}
-use Rattle.std.proofs.lemmas.Bool.{cases_eq, cases_lt, cases_Bool, both_ways, and_from, and_parts, cond-true, cond-false, false_from_ne_true, le-leb, lt-ltb, ltb-true, leb-true}
+use Rattle.std.proofs.lemmas.Bool.{cases_eq, cases_Bool, both_ways, and_from, and_parts, cond-true, cond-false, false_from_ne_true, le-leb, lt-ltb, ltb-true}
 use Rattle.std.proofs.lemmas.List.Elements.{filter-append}
 use Rattle.std.proofs.lemmas.List.Folds.{list_any_at}
 use Rattle.std.proofs.lemmas.Nat.Bits.{bit_at-zero, bit_at_ones}
@@ -17,15 +17,13 @@ use Rattle.pm_view.specs.Parts.{DescriptorPart, is_entry_word, is_slot_word, par
 use Rattle.pm_view.specs.Places.{Place, InRun, InHuge, Descr, RootWord, twin, word_of, is_place}
 use Rattle.pm_view.specs.Claims.{is_run}
 use Rattle.pm_view.specs.Log.{Phase, Idle, Open, Drawn, Sealing, Applying, Clearing, Retiring, Voiding}
-use Rattle.pm_view.specs.View.{View}
 use Rattle.pm_world.specs.States.{State, given, over, live, read, replay}
 use Rattle.pm_world.specs.Sights.{sight_of, is_use}
 use Rattle.pm_world.specs.Lanes.{is_decided, owns, SightFits, Flies}
 use Rattle.pm_world.specs.Logs.{IsOld, AreaChange}
 use Rattle.pm_world.specs.Memory.{Memory, PoolWord, bit, run_told, huge_told, bits_of, cells_of}
 use Rattle.pm_world.specs.World.{Opening, Views, Past, World, origin, settled_words, ghost_of}
-use Rattle.pm_world.specs.Crash.{Survives, NoneTorn, decides_in, is_decided_in, is_kept, kept_words, MeansKept}
-use Rattle.pm_world.specs.Laws.{CrashLaw}
+use Rattle.pm_world.specs.Crash.{Survives, NoneTorn, decides_in, is_decided_in, is_kept, kept_words}
 use Rattle.pm_world.proofs.Frame.{is_single, owns_apart, twin_apart}
 use Rattle.pm_world.proofs.Crashes.{InPool, Image, decides, decided_by, means_kept}
 use Rattle.pm_world.proofs.RecoveredBits.{record_bit, of_word, log_bit, all_entries, empty_or, SetsWord, recovered_bit, recovered_descriptor}
@@ -33,7 +31,7 @@ use Rattle.pm_world.proofs.SurvivingWords.{bit_left, whole_left, Taken}
 use Rattle.pm_world.proofs.ImageLogs.{redo_at}
 use Rattle.pm_world.proofs.LanesInImages.{Silent, Sealed, Current}
 use Rattle.pm_world.proofs.EntriesAtPlaces.{of_place, entered, sets_descriptor}
-use Rattle.pm_world.proofs.RecordsAtPlaces.{Speaks, speaks_of, twin_single}
+use Rattle.pm_world.proofs.RecordsAtPlaces.{Speaks, speaks_of}
 use Rattle.pm_world.proofs.ImageSays.{stands_in, spoken, spoken_is, spoken_beyond, stands, lane_says, three_cases, bare_bit, sealed_stand}
 
 -- ---- places in the pool
@@ -171,7 +169,7 @@ module _ (o : Opening) (mem : Memory) (views : Views) (g : Past) (x : World o me
           (λ (q : y.0 ≡ twin s.place). both_ways (owns g.geo (settled_words o g) (sight_of (views j)).hold (twin s.place) y.1) (away k j (λ r. ne (sym r)) s.place y.1 mine) (subst (λ p. owns g.geo (settled_words o g) (sight_of (views j)).hold p y.1 ≡ true) q own_))
           (of_place o.shape j inj s.place y.0 s.is_there y.2 y.3))) (empty_or image o.shape.lanes w (of_word w (map redo_at (views j).log.entries)))
 
-  alone : (k : ℕ) → k < o.shape.lanes → (w b : ℕ) → given (record_bit (records image k) w b) ≡ true → of_word w (all_entries image o.shape.lanes w) ≡ []
+  pub alone : (k : ℕ) → k < o.shape.lanes → (w b : ℕ) → given (record_bit (records image k) w b) ≡ true → of_word w (all_entries image o.shape.lanes w) ≡ []
   alone k ink w b e = ⊎_elim (λ (z : Silent o mem views g x image sv torn k ink). absurd (both_ways false refl (sym (ap given (bare_bit o mem views g x image sv torn k ink z.bare w b)) ∙ e)))
       (λ z. ⊎_elim (λ (z : Sealed o mem views g x image sv torn k ink). absurd (both_ways false refl (sym (ap given (bare_bit o mem views g x image sv torn k ink z.bare w b)) ∙ e)))
       (λ (z : Current o mem views g x image sv torn k ink × (is_decided (views k).log.phase ≡ false)). let s = speaks_of o mem views g x image sv torn k ink z.0 z.1 w b e in

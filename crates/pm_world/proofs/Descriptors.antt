@@ -239,7 +239,7 @@ module _ (o : Opening) (mem : Memory) (views : Views) (g : Past) (x : World o me
     saw_less : (p : Place) (b : ℕ) (y : Bool) → picture (views k).fixed.shape (SawDescriptor c n ∷ (views k).claims) p b ≡ Some y → picture (views k).fixed.shape (views k).claims p b ≡ Some y
     saw_less p b y e = forgets (is_pictured p) (forgotten p) (pictured (views k).fixed.shape (views k).claims (word_of (views k).fixed.shape p)) (λ z. bit_at z b == 1) y e
 
-    saw_same : (p : Place) (b : ℕ) → given ((sight_of (views k)).call.fresh p b) ≡ true → picture (views k).fixed.shape (SawDescriptor c n ∷ (views k).claims) p b ≡ picture (views k).fixed.shape (views k).claims p b
+    pub saw_same : (p : Place) (b : ℕ) → given ((sight_of (views k)).call.fresh p b) ≡ true → picture (views k).fixed.shape (SawDescriptor c n ∷ (views k).claims) p b ≡ picture (views k).fixed.shape (views k).claims p b
     saw_same p b e = ap (λ q. cond (is_pictured p) (option_map (λ z. bit_at z b == 1) (cond q None (pictured (views k).fixed.shape (views k).claims (word_of (views k).fixed.shape p)))) None) (kept_made p b e)
 
     saw_fresh : (p : Place) (b : ℕ) → fresh (views k).fixed.shape (SawDescriptor c n ∷ (views k).claims) (views k).log p b ≡ (sight_of (views k)).call.fresh p b
@@ -294,7 +294,7 @@ module _ (o : Opening) (mem : Memory) (views : Views) (g : Past) (x : World o me
     shows Root e = absurd (both_ways false refl e)
 
     -- the header's line, as the lane then knows it, of a block that is found
-    header_then : (B : Block) → found (views k).fixed.shape (SawDescriptor c n ∷ (views k).claims) B ≡ true → header_in (views k).fixed.shape (SawDescriptor c n ∷ (views k).claims) B ≡ header o.shape g.geo B
+    pub header_then : (B : Block) → found (views k).fixed.shape (SawDescriptor c n ∷ (views k).claims) B ≡ true → header_in (views k).fixed.shape (SawDescriptor c n ∷ (views k).claims) B ≡ header o.shape g.geo B
     header_then (Small d i) e = let h = found_has (sight_of (views k)).hold (Small d i) e in ap (λ s. line_of_chunk s d + (1 + class (SawDescriptor c n ∷ (views k).claims) d * i)) shape_is ∙ ap (λ m. line_of_chunk o.shape d + (1 + m * i))
         (⊎_elim (λ (q : class (SawDescriptor c n ∷ (views k).claims) d ≡ class (views k).claims d). q ∙ (fit k).hold.class d i h) (λ (q : class (SawDescriptor c n ∷ (views k).claims) d ≡ (cells_of o.shape mem).descr d). q ∙ class_told o.shape o.lanes (origin o) (cells_of o.shape mem) (λ j. sight_of (views j)) (ghost_of g) x.bits k ink early (unpictured o mem views g x k ink early) d i h) (class_after d))
     header_then (Big f) e = ap (λ s. line_of_chunk s f) shape_is

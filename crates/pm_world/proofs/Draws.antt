@@ -1,16 +1,16 @@
 -- A lane draws its call's number, over bits: the call is in flight, or, where there is nothing to be decided, done.
-use Rattle.std.proofs.Common.{◌≡◌, ◌≢◌, ℕ, suc, ◌<◌, ◌≤◌, ◌⊎◌, inl, inr, ⊎_elim, Bool, true, false, cond, ◌&&◌, ◌||◌, eqb, refl, sym, ap, ◌∙◌, subst, arith, Option, None, Some}
-use Rattle.std.proofs.lemmas.Bool.{cases_eq, cases_Bool, both_ways, false_from_ne_true}
+use Rattle.std.proofs.Common.{◌≡◌, ◌≢◌, ℕ, suc, ◌<◌, ◌⊎◌, inl, inr, ⊎_elim, Bool, true, false, cond, refl, sym, ap, ◌∙◌, subst, arith, Option, None}
+use Rattle.std.proofs.lemmas.Bool.{cases_eq, both_ways, false_from_ne_true}
 use Rattle.pm_layout.specs.declared.shape.Shape.{Shape}
 use Rattle.pm_view.specs.Places.{Place, Block, header}
 use Rattle.pm_view.specs.Entries.{latest, turn}
 use Rattle.pm_view.specs.Log.{Phase, Idle, Open, Drawn}
-use Rattle.pm_world.specs.States.{State, Diff, Call, diff, given, over, live, replay, Cells}
-use Rattle.pm_world.specs.Sights.{Hold, Sight}
-use Rattle.pm_world.specs.Lanes.{Ghost, owns, settled, TurnFlight, BornFits, GuardsFit, SightFits, Flies, flies_at, Bits}
+use Rattle.pm_world.specs.States.{State, Diff, Call, diff, given, over, replay, Cells}
+use Rattle.pm_world.specs.Sights.{Sight}
+use Rattle.pm_world.specs.Lanes.{Ghost, owns, settled, TurnFlight, BornFits, GuardsFit, Flies, flies_at, Bits}
 use Rattle.pm_world.proofs.Frame.{Around}
 use Rattle.pm_world.proofs.Replays.{replay_same, skips}
-use Rattle.pm_world.proofs.Going.{Turned, Rest, goes_on, at_phase, own_fits, same_made}
+use Rattle.pm_world.proofs.Going.{Turned, Rest, goes_on, at_phase, same_made}
 
 -- the history with one more call, of this lane
 pub record Longer (g : Ghost) (k : ℕ) (call : Call) (done : Bool) (log' : ℕ → Call) (who' : ℕ → ℕ) (decided' : ℕ → Bool) : Type 0 where

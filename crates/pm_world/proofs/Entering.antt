@@ -1,21 +1,20 @@
 -- ONE MORE ENTRY of an open call, over bits: what the lane's sight owes, where the entry's bits are of its own blocks, of blocks that it found, or of data
 -- that it may change.
 use Rattle.std.specs.Prelude.{List, [], ◌∷◌, ◌++◌}
-use Rattle.std.specs.List.{list_any}
-use Rattle.std.proofs.Common.{◌≡◌, ◌≢◌, ℕ, zero, suc, ◌+◌, ◌*◌, ◌/◌, ◌%◌, ◌<◌, ◌≤◌, ◌⊎◌, inl, inr, ⊎_elim, nat_lt, Bool, true, false, cond, ◌==◌, ◌&&◌, ◌||◌, eqb, refl, sym, ap, ◌∙◌, subst, arith, eq-eqb, Option, None, Some}
-use Rattle.std.proofs.lemmas.Bool.{cases_Bool, eqb-true, both_ways, and_parts, and_from, or_cases, or_left, or_right, cond-true, cond-false, false_from_ne_true}
+use Rattle.std.proofs.Common.{◌≡◌, ℕ, zero, suc, ◌+◌, ◌*◌, ◌<◌, ◌⊎◌, inl, inr, ⊎_elim, Bool, true, false, cond, ◌&&◌, ◌||◌, refl, sym, ap, ◌∙◌, subst, arith, Option, None, Some}
+use Rattle.std.proofs.lemmas.Bool.{both_ways, and_parts, and_from, or_cases, or_right, cond-true, false_from_ne_true}
 use Rattle.pm_layout.specs.declared.shape.Shape.{Shape}
 use Rattle.pm_view.specs.Changes.{Undrained}
-use Rattle.pm_view.specs.Claims.{Claim, class, last_first, first, span, geometry}
-use Rattle.pm_view.specs.Entries.{Entry, Redo, delta, latest, redos, with_redo, turn, first_of_two}
-use Rattle.pm_view.specs.Log.{Phase, Open, Recorded, Log, old_in, old_of}
+use Rattle.pm_view.specs.Claims.{class, first, span, geometry}
+use Rattle.pm_view.specs.Entries.{Entry, delta, latest, redos, with_redo, turn, first_of_two}
+use Rattle.pm_view.specs.Log.{Open, Recorded, Log, old_in, old_of}
 use Rattle.pm_view.specs.Places.{Place, InRun, InHuge, Descr, RootWord, Block, Small, Big, Root, part, block_of, header, is_data, in_span}
 use Rattle.pm_view.specs.View.{View}
-use Rattle.pm_world.specs.States.{State, Diff, diff, given, over, there, val, spans, Cells}
-use Rattle.pm_world.specs.Sights.{Hold, Sight, is_made, is_recorded, is_slot_drained, is_logged_from, is_logged, fresh, call_of, call_in, sight_of}
-use Rattle.pm_world.specs.Lanes.{Ghost, own, has, owns, valid, is_in_making, TurnBefore, DescrFits, is_size, SightFits, GeoFits}
-use Rattle.pm_world.proofs.Births.{first_known, none_of}
-use Rattle.pm_world.proofs.Frame.{mine_own, own_has, some_first, fresh_given, big_valid, maker_no_run, maker_owns, small_run}
+use Rattle.pm_world.specs.States.{State, Diff, diff, given, over, there, val, Cells}
+use Rattle.pm_world.specs.Sights.{Hold, is_made, is_recorded, is_slot_drained, is_logged_from, fresh, call_of, call_in, sight_of}
+use Rattle.pm_world.specs.Lanes.{Ghost, own, has, owns, is_in_making, TurnBefore, DescrFits, is_size, SightFits, GeoFits}
+use Rattle.pm_world.proofs.BlocksKnown.{first_so, block_so}
+use Rattle.pm_world.proofs.Frame.{mine_own, own_has, some_first, fresh_given, maker_no_run, maker_owns, small_run}
 
 -- what one entry makes of each bit
 abbrev pub added : Entry → Diff
@@ -107,20 +106,12 @@ module _ (sh : Shape) (cells : Cells) (S : State) (flies : ℕ → Diff → Type
   abbrev h : Hold
   h = (sight_of v).hold
 
-  first_valid : (c : ℕ) → has (sight_of v).hold (Big c) ≡ true → g.geo.first c ≡ c
-  first_valid c o = ⊎_elim (λ (q : own (sight_of v).hold (Big c) ≡ true). big_valid sh cells S flies g geo k (record (sight_of v) { phase = Open }) f c q) (λ (q : (sight_of v).hold.found (Big c) ≡ true). eqb-true (g.geo.first c) c (f.hold.found (Big c) q).1) (or_cases (own (sight_of v).hold (Big c)) ((sight_of v).hold.found (Big c)) o)
-
   pub huge_known : (c : ℕ) → has (sight_of v).hold (Big (first v.fixed.shape v.claims c)) ≡ true → first v.fixed.shape v.claims c ≡ g.geo.first c
-  huge_known c o = let a = last_first v.fixed.shape v.claims c in let t = in_span a (span v.fixed.shape v.claims a) c in
-      ⊎_elim (λ (e : t ≡ true). let r = cond-true t a c e in r ∙ sym (eqb-true (g.geo.first c) a (f.hold.span a (subst (λ y. has (sight_of v).hold (Big y) ≡ true) r o) c ∙ e)))
-      (λ (e : t ≡ false). let r = cond-false t a c e in r ∙ sym (first_valid c (subst (λ y. has (sight_of v).hold (Big y) ≡ true) r o))) (cases_Bool t)
+  huge_known = first_so sh cells S flies g geo k v Open f
 
   -- the block of a word, as the lane knows it, where it has that block
   pub block_known : (p : Place) (b : ℕ) → has (sight_of v).hold (block_of (geometry v.fixed.shape v.claims) p b) ≡ true → block_of (geometry v.fixed.shape v.claims) p b ≡ block_of g.geo p b
-  block_known (InRun c u) b o = ap (λ cl. Small c (part cl u b)) (f.hold.class c (part (class v.claims c) u b) o)
-  block_known (InHuge c u) b o = ap (λ y. Big y) (huge_known c o)
-  block_known (Descr c) b o = ap (λ y. Big y) (huge_known c o)
-  block_known RootWord b o = refl
+  block_known = block_so sh cells S flies g geo k v Open f
 
   -- a block is not the lane's own and found at once
   pub not_both : (B : Block) → (sight_of v).hold.mine B ≡ true → (sight_of v).hold.here B ≡ true → ⊥

@@ -1,17 +1,15 @@
 -- A lane's entries as an image has them, of words, say of each place what they say of places: a word has no entry in its other use that gives the bit.
-use Rattle.std.proofs.Common.{◌≡◌, ◌≢◌, ℕ, zero, suc, ◌+◌, ◌*◌, ◌<◌, ◌≤◌, ◌⊎◌, inl, inr, ⊎_elim, Bool, true, false, cond, ◌&&◌, eqb, ◌==◌, All, List, [], ◌∷◌, ◌++◌, map, slice_get, IfSome, refl, sym, ap, ◌∙◌, subst, arith, eq-eqb, ne_eqb, Option, None, Some}
-use Rattle.std.specs.List.{filter, flat_map, range_with_len}
-use Rattle.std.proofs.lemmas.Bool.{cases_eq, cases_Bool, both_ways, eqb-true, and_parts, and_from, false_from_ne_true}
-use Rattle.std.proofs.lemmas.List.Elements.{All-head, All-tail, filter-append}
+use Rattle.std.proofs.Common.{◌≡◌, ◌≢◌, ℕ, zero, suc, ◌+◌, ◌*◌, ◌<◌, ◌⊎◌, inl, inr, ⊎_elim, Bool, true, false, cond, eqb, All, List, [], ◌∷◌, ◌++◌, map, slice_get, IfSome, refl, sym, ap, ◌∙◌, subst, arith, eq-eqb, ne_eqb, Option, None, Some}
+use Rattle.std.proofs.lemmas.Bool.{cases_eq, cases_Bool, both_ways, eqb-true, and_parts, and_from}
+use Rattle.std.proofs.lemmas.List.Elements.{All-head, All-tail}
 use Rattle.std.proofs.lemmas.Option.{none-some, same_Some}
 use Rattle.pm_record.specs.declared.redo.Op.{Op}
 use Rattle.pm_record.specs.declared.redo.Op.TheVariants.{Set}
-use Rattle.pm_record.specs.declared.redo.Redo as image
 use Rattle.pm_layout.specs.declared.shape.Shape.{Shape}
 use Rattle.pm_layout.specs.Areas.{word_of_generation}
 use Rattle.pm_view.specs.Places.{Place, InRun, InHuge, Descr, RootWord, twin, same_place, word_of, is_place}
 use Rattle.pm_view.specs.Claims.{is_run}
-use Rattle.pm_view.specs.Entries.{Entry, Redo, given_bit, op_bit, delta, first_of_two, latest, with_redo, redos}
+use Rattle.pm_view.specs.Entries.{Entry, Redo, given_bit, op_bit, first_of_two, latest, with_redo, redos}
 use Rattle.pm_view.specs.Log.{Log}
 use Rattle.pm_world.specs.States.{given, cell}
 use Rattle.pm_world.specs.Logs.{IsEntryAt, EntryOf, AreWhole, ends_with}
@@ -78,7 +76,7 @@ all_get P [] i y a e = absurd (none-some y e)
 all_get P (z ∷ xs) zero y a e = subst P (same_Some z y e) (All-head P z xs a)
 all_get P (z ∷ xs) (suc i) y a e = all_get P xs i y (All-tail P z xs a) e
 
-last_or : {A : Type 0} → (front : List A) (f y : A) (i : ℕ) → slice_get (front ++ f ∷ []) i ≡ Some y → (slice_get front i ≡ Some y) ⊎ (y ≡ f)
+pub last_or : {A : Type 0} → (front : List A) (f y : A) (i : ℕ) → slice_get (front ++ f ∷ []) i ≡ Some y → (slice_get front i ≡ Some y) ⊎ (y ≡ f)
 last_or [] f y zero e = inr (sym (same_Some f y e))
 last_or [] f y (suc i) e = absurd (none-some y e)
 last_or (z ∷ front) f y zero e = inl e

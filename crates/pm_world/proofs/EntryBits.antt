@@ -1,21 +1,21 @@
 -- The bits of an entry that a lane may store: they are its own, of no run in the making, of no object's size, and allocate or free a block that the lane has.
 use Rattle.std.specs.Prelude.{IsTrue, IsSomeAnd}
 use Rattle.std.specs.Int.{bit_at}
-use Rattle.std.proofs.Common.{◌≡◌, ◌≢◌, ℕ, zero, suc, ◌+◌, ◌-◌, ◌*◌, ◌/◌, ◌%◌, ◌^◌, ◌<◌, ◌≤◌, ◌⊎◌, inl, inr, ⊎_elim, nat_le, nat_lt, Bool, true, false, cond, ◌==◌, ◌&&◌, ◌||◌, eqb, refl, sym, ap, ◌∙◌, subst, arith, eq-eqb, ne_eqb, Option, None, Some}
+use Rattle.std.proofs.Common.{◌≡◌, ℕ, zero, suc, ◌+◌, ◌-◌, ◌*◌, ◌/◌, ◌%◌, ◌^◌, ◌<◌, ◌⊎◌, inl, inr, ⊎_elim, nat_le, nat_lt, Bool, true, false, cond, ◌==◌, ◌&&◌, refl, sym, ap, ◌∙◌, subst, arith, ne_eqb, Option, None, Some}
 use Rattle.std.proofs.lemmas.Bool.{cases_Bool, eqb-true, leb-true, lt-ltb, both_ways, and_parts, cond-true, cond-false, false_from_ne_true}
 use Rattle.std.proofs.lemmas.Nat.Bits.{bit_at-zero}
 use Rattle.std.proofs.Math.Nat.{mod-eq-sub-mul-div, mul-div-le, mod-eq_of_lt}
 use Rattle.pm_layout.specs.declared.shape.Shape.{Shape}
 use Rattle.pm_record.specs.declared.redo.Op.{Op}
 use Rattle.pm_record.specs.declared.redo.Op.TheVariants.{Set}
-use Rattle.pm_view.specs.Claims.{class, first, span, geometry}
-use Rattle.pm_view.specs.Entries.{Redo, Entry, delta, given_bit, op_bit, turn}
+use Rattle.pm_view.specs.Claims.{class, span, geometry}
+use Rattle.pm_view.specs.Entries.{delta, given_bit, op_bit, turn}
 use Rattle.pm_view.specs.Log.{Open}
 use Rattle.pm_view.specs.Places.{Place, InRun, InHuge, Descr, RootWord, Block, Small, Big, Root, Geometry, part, block_of, is_data, in_span, same_place, word_of}
 use Rattle.pm_view.specs.View.{View}
 use Rattle.pm_view.specs.Views.{value_in}
-use Rattle.pm_world.specs.States.{State, Diff, given, over, val, spans, Cells}
-use Rattle.pm_world.specs.Sights.{Hold, sight_of}
+use Rattle.pm_world.specs.States.{State, Diff, given, over, spans, Cells}
+use Rattle.pm_world.specs.Sights.{sight_of}
 use Rattle.pm_world.specs.Lanes.{Ghost, own, has, owns, is_in_making, TurnBefore, DescrFits, is_size, SightFits, GeoFits}
 use Rattle.pm_world.specs.Lawful.{offset_in, is_guarded, HoldsRoot, MayChangeAt, IsOwnData, EntersAt, EntersDescriptor}
 use Rattle.pm_world.specs.Memory.{bit}

@@ -1,17 +1,17 @@
 -- Two lanes own no bit in common, and a step of one lane leaves the other lanes' facts as they were.
-use Rattle.std.specs.Prelude.{List, [], ◌∷◌}
-use Rattle.std.proofs.Common.{◌≡◌, ◌≢◌, ℕ, suc, ◌+◌, ◌-◌, ◌*◌, ◌/◌, ◌%◌, ◌<◌, ◌≤◌, ◌⊎◌, inl, inr, ⊎_elim, nat_le, nat_lt, Bool, true, false, cond, ◌&&◌, ◌||◌, eqb, ◌==◌, refl, sym, ap, ◌∙◌, subst, arith, ne_eqb, Option, None, Some}
-use Rattle.std.proofs.lemmas.Bool.{cases_eq, cases_Bool, eqb-true, both_ways, and_parts, or_cases, or_left, or_right, or_parts, false_from_ne_true}
+use Rattle.std.specs.Prelude.{List, ◌∷◌}
+use Rattle.std.proofs.Common.{◌≡◌, ◌≢◌, ℕ, suc, ◌+◌, ◌-◌, ◌*◌, ◌/◌, ◌%◌, ◌<◌, ◌≤◌, ◌⊎◌, inl, inr, ⊎_elim, nat_le, nat_lt, Bool, true, false, ◌&&◌, ◌||◌, eqb, ◌==◌, refl, sym, ap, ◌∙◌, subst, arith, ne_eqb, Option, None, Some}
+use Rattle.std.proofs.lemmas.Bool.{cases_Bool, eqb-true, both_ways, and_parts, or_cases, or_left, or_right, or_parts, false_from_ne_true}
 use Rattle.pm_layout.specs.declared.shape.Shape.{Shape}
 use Rattle.pm_layout.specs.Sizes.{blocks_of}
 use Rattle.pm_layout.specs.Chunks.{line_of_chunk}
-use Rattle.pm_view.specs.Places.{Place, InRun, InHuge, Descr, RootWord, Block, Small, Big, Root, part, block_of, place_of, bit_of, header, is_data, twin}
+use Rattle.pm_view.specs.Places.{Place, InRun, InHuge, Descr, RootWord, Block, Small, Big, Root, part, block_of, header, is_data, twin}
 use Rattle.pm_view.specs.Entries.{latest, first_of_two, turn}
 use Rattle.pm_view.specs.Log.{Phase, Idle, Open, Drawn, Sealing, Applying, Clearing, Retiring, Voiding}
 use Rattle.pm_view.specs.Claims.{making_of}
-use Rattle.pm_world.specs.States.{State, Diff, Call, diff, given, over, after_diff, there, val, lit, shown, bright_huge, live, root_line, guards, read, Cells}
+use Rattle.pm_world.specs.States.{State, Diff, diff, given, over, after_diff, there, val, lit, shown, bright_huge, live, root_line, read, Cells}
 use Rattle.pm_world.specs.Sights.{Hold, Sight}
-use Rattle.pm_world.specs.Lanes.{Ghost, own, all_held, rights, owns, views, sees, has, valid, is_in_making, is_decided, left, blank, BitFits, open_soils, soils, is_size, TurnBefore, TurnFlight, TurnAfter, TurnFits, FlightFits, HoldFits, SightFits, Flies, Alone, GeoFits}
+use Rattle.pm_world.specs.Lanes.{Ghost, own, all_held, rights, owns, sees, has, valid, is_decided, left, blank, BitFits, open_soils, soils, is_size, TurnBefore, TurnFlight, TurnAfter, TurnFits, FlightFits, HoldFits, SightFits, Flies, Alone, GeoFits}
 use Rattle.pm_world.proofs.Geometry.{huge_line, alloc_block, live_same}
 
 small_root : (c i : ℕ) → Root ≡ Small c i → ⊥

@@ -1,11 +1,10 @@
 -- Blocks and their bits: an allocated block's bit is its own, and living bits depend on their block's bits alone.
-use Rattle.std.proofs.Common.{◌≡◌, ℕ, ◌<◌, ◌≤◌, ◌+◌, ◌-◌, ◌*◌, ◌/◌, ◌%◌, nat_le, nat_lt, Bool, true, false, ◌==◌, ◌&&◌, ◌||◌, eqb, refl, sym, ap, ◌∙◌, subst, arith, eq-eqb, ne_eqb}
-use Rattle.std.proofs.lemmas.Bool.{eqb-true, both_ways, and_parts, and_from, cond-true, cond-false, false_from_ne_true}
+use Rattle.std.proofs.Common.{◌≡◌, ℕ, ◌≤◌, ◌+◌, ◌-◌, ◌*◌, ◌/◌, ◌%◌, nat_le, nat_lt, Bool, true, false, ◌&&◌, ◌||◌, eqb, refl, sym, ap, ◌∙◌, arith, eq-eqb, ne_eqb}
+use Rattle.std.proofs.lemmas.Bool.{eqb-true, both_ways, and_parts, and_from, cond-false}
 use Rattle.std.proofs.Math.Nat.{mul_comm}
 use lib.Arith.{digits_div}
-use Rattle.pm_layout.specs.declared.shape.Shape.{Shape}
-use Rattle.pm_view.specs.Places.{Place, InRun, InHuge, Descr, RootWord, Block, Small, Big, Root, Geometry, part, block_of, place_of, bit_of, same, same_place}
-use Rattle.pm_world.specs.States.{State, there, lit, size_at, bright, shown, bright_huge, live}
+use Rattle.pm_view.specs.Places.{Place, InRun, InHuge, Descr, RootWord, Block, Small, Big, Root, Geometry, part, block_of, place_of, bit_of, same}
+use Rattle.pm_world.specs.States.{State, lit, size_at, bright, shown, live}
 use Rattle.pm_world.specs.Lanes.{Ghost, valid}
 
 pub same_true : (B C : Block) → same B C ≡ true → B ≡ C

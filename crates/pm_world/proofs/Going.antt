@@ -1,14 +1,13 @@
 -- THE WORLD GOES ON, over bits: what a step of lane k owes beside its own sight and what it leaves for the others.
-use Rattle.std.proofs.Common.{◌≡◌, ◌≢◌, ℕ, suc, ◌<◌, ◌≤◌, ◌⊎◌, inl, inr, ⊎_elim, Bool, true, false, cond, ◌&&◌, ◌||◌, eqb, refl, sym, ap, ◌∙◌, subst, arith}
+use Rattle.std.proofs.Common.{◌≡◌, ◌≢◌, ℕ, ◌<◌, inl, ⊎_elim, true, false, cond, refl, sym, ap, ◌∙◌, subst, arith}
 use Rattle.std.proofs.lemmas.Bool.{cases_eq, cases_Bool, both_ways}
 use Rattle.pm_layout.specs.declared.shape.Shape.{Shape}
-use Rattle.pm_view.specs.Places.{Place, Block, twin}
+use Rattle.pm_view.specs.Places.{Place, Block}
 use Rattle.pm_view.specs.Log.{Phase}
-use Rattle.pm_world.specs.States.{State, Diff, live, read, Cells}
+use Rattle.pm_world.specs.States.{State, live, read, Cells}
 use Rattle.pm_world.specs.Sights.{Hold, Sight}
 use Rattle.pm_world.specs.Lanes.{Ghost, own, owns, settled, SightFits, Flies, flies_at, is_occupancy, is_taken, Alone, GeoFits, Bits}
 use Rattle.pm_world.proofs.Frame.{Around, kept, twin_free}
-use Rattle.pm_world.proofs.Geometry.{live_same}
 
 -- lane k's sight is x', the others' are as before
 pub record Turned (sights sights' : ℕ → Sight) (k : ℕ) (x' : Sight) : Type 0 where

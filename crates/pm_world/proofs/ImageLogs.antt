@@ -1,10 +1,9 @@
 -- What is read back of a lane's log in an image: its entries where they are sealed, and the records that are valid, each in its slot.
-use Rattle.std.proofs.Common.{◌≡◌, ◌≢◌, ℕ, zero, suc, ◌+◌, ◌-◌, ◌*◌, ◌/◌, ◌%◌, ◌^◌, ◌<◌, ◌≤◌, ◌⊎◌, inl, inr, ⊎_elim, nat_le, nat_lt, Bool, true, false, cond, not, ◌&&◌, ◌||◌, eqb, leb, ltb, ◌==◌, All, Contains, List, [], ◌∷◌, ◌++◌, length, length-append, replicate, take, drop, get_or, map, slice_get, slice_index, slice_range, refl, sym, ap, ◌∙◌, subst, arith, Option, None, Some}
-use Rattle.std.specs.List.{cons_option, filter_map, find, flat_map, list_any, range_with_len}
-use Rattle.std.specs.Option.{option_map, option_or, option_and_then, option_to_list}
-use Rattle.std.proofs.lemmas.Bool.{cases_eq, cases_lt, cases_Bool, both_ways, eqb-true, eq-eqb, ne_eqb, and_from, and_parts, cond-true, cond-false, false_from_ne_true, not-true, le-leb, lt-ltb, leb-true, ltb-true}
+use Rattle.std.proofs.Common.{◌≡◌, ◌≢◌, ℕ, zero, suc, ◌+◌, ◌-◌, ◌*◌, ◌/◌, ◌%◌, ◌<◌, ◌≤◌, ◌⊎◌, inl, inr, ⊎_elim, Bool, true, false, cond, ◌&&◌, eqb, leb, ltb, List, [], ◌∷◌, ◌++◌, length, length-append, replicate, take, drop, get_or, map, slice_get, slice_index, slice_range, refl, sym, ap, ◌∙◌, subst, arith, Option, None, Some}
+use Rattle.std.specs.List.{cons_option, filter_map, find, flat_map, range_with_len}
+use Rattle.std.specs.Option.{option_map, option_and_then, option_to_list}
+use Rattle.std.proofs.lemmas.Bool.{cases_eq, cases_Bool, eqb-true, eq-eqb, and_from, and_parts, cond-true, le-leb, lt-ltb, leb-true, ltb-true}
 use Rattle.std.proofs.lemmas.List.{ext_get_or, get_or-take, get_or-drop, length-take, length-drop, length-replicate, get_or_append_left}
-use Rattle.std.proofs.lemmas.List.Folds.{find-append, list_any_at}
 use Rattle.std.proofs.lemmas.Option.{none-some, same_Some, cond_some}
 use Rattle.pm_record.specs.Redo.{op_code, op_of, redo_of}
 use Rattle.pm_record.specs.Undo.{undo_words, undo_of}
@@ -18,7 +17,7 @@ use Rattle.pm_view.specs.Entries.{Entry, entry_head}
 use Rattle.pm_view.specs.Log.{Recorded}
 use Rattle.pm_image.specs.Logs.{covers, old_word, undo_slot, generation, records}
 use Rattle.pm_image.specs.Steps.{valid_record}
-use Rattle.pm_image.proofs.Gathering.{record_at, records_by_number}
+use Rattle.pm_image.proofs.Gathering.{records_by_number}
 use Rattle.pm_world.specs.Logs.{spelled, slot_list}
 
 -- ---- eight words

@@ -1,25 +1,25 @@
 -- What each lane's log gives each place's bits in a crash image, by how far its call has come.
-use Rattle.std.proofs.Common.{◌≡◌, ◌≢◌, ℕ, zero, suc, ◌+◌, ◌*◌, ◌<◌, ◌≤◌, ◌⊎◌, inl, inr, ⊎_elim, nat_lt, Bool, true, false, cond, not, eqb, ◌==◌, List, [], ◌∷◌, ◌++◌, length, map, refl, sym, ap, ◌∙◌, subst, arith, eq-eqb, ne_eqb, Option, None, Some}
+use Rattle.std.proofs.Common.{◌≡◌, ℕ, ◌+◌, ◌*◌, ◌<◌, ◌≤◌, ◌⊎◌, inl, inr, ⊎_elim, nat_lt, Bool, true, false, cond, not, ◌==◌, List, [], refl, sym, ap, ◌∙◌, subst, arith, eq-eqb, ne_eqb, Option, None, Some}
 use Rattle.std.specs.Int.{bit_at}
 use Rattle.std.specs.List.{find}
 use Rattle.std.specs.Option.{option_map}
-use Rattle.std.proofs.lemmas.Bool.{cases_eq, cases_Bool, both_ways, cond-true, cond-false, lt-ltb, le-ltb}
+use Rattle.std.proofs.lemmas.Bool.{both_ways, cond-true, cond-false, lt-ltb, le-ltb}
 use Rattle.pm_record.specs.declared.undo.Undo.{Undo}
 use Rattle.pm_image.specs.Logs.{covers, old_word, records, entries, seal_word, generation_word}
-use Rattle.pm_view.specs.Places.{Place, twin, word_of}
+use Rattle.pm_view.specs.Places.{Place, word_of}
 use Rattle.pm_view.specs.Entries.{first_of_two, latest, redos}
 use Rattle.pm_view.specs.Log.{Phase, Idle, Open, Drawn, Sealing, Applying, Clearing, Retiring, Voiding, Recorded, old_of}
-use Rattle.pm_world.specs.States.{State, Diff, given, read}
+use Rattle.pm_world.specs.States.{Diff, given, read}
 use Rattle.pm_world.specs.Sights.{sight_of, is_logged}
-use Rattle.pm_world.specs.Lanes.{is_decided, SightFits, Flies}
+use Rattle.pm_world.specs.Lanes.{is_decided}
 use Rattle.pm_world.specs.Logs.{PhaseFits}
 use Rattle.pm_world.specs.Memory.{Memory, bit, cells_of}
 use Rattle.pm_world.specs.World.{Opening, Views, Past, World, settled_words, ghost_of}
 use Rattle.pm_world.specs.Crash.{Survives, NoneTorn}
-use Rattle.pm_world.proofs.Crashes.{InPool, Restores, Redoes, IsSilent, IsPutBack, PhaseSays}
+use Rattle.pm_world.proofs.Crashes.{Restores, Redoes, IsSilent, IsPutBack, PhaseSays}
 use Rattle.pm_world.proofs.RecoveredBits.{record_bit, entry_bit, log_bit}
 use Rattle.pm_world.proofs.SurvivingWords.{log_fits}
-use Rattle.pm_world.proofs.ImageLogs.{redo_at, found_slot}
+use Rattle.pm_world.proofs.ImageLogs.{found_slot}
 use Rattle.pm_world.proofs.LanesInImages.{IsBare, Silent, Sealed, Current, LaneCase, lane_case}
 use Rattle.pm_world.proofs.EntriesAtPlaces.{entry_bits, log_stands, AllStand}
 use Rattle.pm_world.proofs.RecordsAtPlaces.{restores, logged_record, old_given, some_or}

@@ -1,11 +1,12 @@
 -- What a crash image has of one lane's log, by how far its call has come: its entries sealed and no valid record, its records and nothing sealed, or neither.
-use Rattle.std.proofs.Common.{◌≡◌, ◌≢◌, ℕ, zero, suc, ◌+◌, ◌-◌, ◌*◌, ◌/◌, ◌%◌, ◌^◌, ◌<◌, ◌≤◌, ◌⊎◌, inl, inr, ⊎_elim, nat_le, nat_lt, Bool, true, false, cond, not, ◌&&◌, ◌||◌, eqb, leb, ltb, ◌==◌, All, Contains, List, [], ◌∷◌, ◌++◌, length, length-append, map, slice_get, slice_index, slice_range, refl, sym, ap, ◌∙◌, subst, arith, Option, None, Some}
+use Rattle.std.proofs.Common.{◌≡◌, ◌≢◌, ℕ, zero, suc, ◌+◌, ◌*◌, ◌/◌, ◌<◌, ◌≤◌, ◌⊎◌, inl, inr, ⊎_elim, Bool, true, false, cond, not, leb, ◌==◌, Contains, List, [], ◌∷◌, ◌++◌, length, length-append, map, slice_get, slice_index, refl, sym, ap, ◌∙◌, subst, arith, Some}
 use Rattle.std.specs.List.{list_any, filter_map, range_with_len}
 use Rattle.std.proofs.lemmas.Bool.{cases_eq, cases_lt, cases_Bool, both_ways, eqb-true, eq-eqb, ne_eqb, and_from, cond-true, cond-false, le-leb}
 use Rattle.std.proofs.lemmas.Option.{none-some, same_Some}
+use Rattle.std.proofs.lemmas.List.Elements.{All-contains}
 use Rattle.std.proofs.lemmas.List.Folds.{list_any_at}
 use Rattle.pm_layout.specs.declared.shape.Shape.{Shape}
-use Rattle.pm_layout.specs.Areas.{word_of_generation, word_of_entry, line_of_slot, undo_slots, redo_entries}
+use Rattle.pm_layout.specs.Areas.{word_of_generation, word_of_entry, line_of_slot}
 use Rattle.pm_layout.specs.Chunks.{words_of}
 use Rattle.pm_record.specs.Redo.{redo_of}
 use Rattle.pm_record.specs.Undo.{undo_of}
@@ -16,16 +17,15 @@ use Rattle.pm_image.proofs.Redoing.{entries_sealed, entries_unsealed}
 use Rattle.pm_image.proofs.Unsealed.{not_sealed}
 use Rattle.pm_view.specs.Changes.{Undrained, is_in_line}
 use Rattle.pm_view.specs.Entries.{Entry, entry_head}
-use Rattle.pm_view.specs.Parts.{Part, EntryPart, SlotPart, part_of}
+use Rattle.pm_view.specs.Parts.{EntryPart, SlotPart, part_of}
 use Rattle.pm_view.specs.Log.{Phase, Idle, Open, Drawn, Sealing, Applying, Clearing, Retiring, Voiding, Recorded, Log}
-use Rattle.pm_view.specs.View.{View}
 use Rattle.pm_world.specs.States.{Diff}
 use Rattle.pm_world.specs.Sights.{is_slot_drained}
-use Rattle.pm_world.specs.Logs.{AreaChange, AreWhole, IsRecordAt, IsEntryAt, PhaseFits, LogFits, ends_with, slot_list, spelled, used_slots}
+use Rattle.pm_world.specs.Logs.{AreaChange, AreWhole, IsRecordAt, IsEntryAt, PhaseFits, ends_with, slot_list, spelled, used_slots}
 use Rattle.pm_world.specs.Lawful.{CanRecord}
 use Rattle.pm_world.specs.Memory.{Memory, PoolWord, cells_of}
 use Rattle.pm_world.specs.World.{Opening, Views, Past, AreaFits, World}
-use Rattle.pm_world.specs.Crash.{Survives, NoneTorn, IsWhole}
+use Rattle.pm_world.specs.Crash.{Survives, NoneTorn}
 use Rattle.pm_world.proofs.SurvivingWords.{entry_part, slot_part, log_fits, AreaTaken, area_left, SealIs, GenerationIs, seal_is, generation_is}
 use Rattle.pm_world.proofs.ImageLogs.{eight, slots_alike, slice_eight, redo_at, redo_again, read_all, undo_from, spelled_long, undo_spelled, valid_from, valid_parts}
 
@@ -102,6 +102,18 @@ used_by l s = length l.records + cond (length s == 0) 0 1
 used_whole : (l : Log) → l.slot ≡ [] → used_slots l ≡ length l.records
 used_whole l e = ap (used_by l) e ∙ (let z : length l.records + 0 ≡ length l.records = omega arith in z)
 
+used_most : (l : Log) → used_slots l ≤ length l.records + 1
+used_most l = go (length l.slot == 0)
+  where
+    go : (t : Bool) → length l.records + cond t 0 1 ≤ length l.records + 1
+    go true = omega arith
+    go false = omega arith
+
+-- some change passes
+any_at : (p : Undrained → Bool) (xs : List Undrained) → list_any p xs ≡ true → (y : Undrained) × Contains xs y × (p y ≡ true)
+any_at p [] e = absurd (both_ways false refl e)
+any_at p (c ∷ xs) e = ⊎_elim (λ (t : p c ≡ true). (c, (0, omega arith, refl), t)) (λ (t : list_any p xs ≡ true). let y = any_at p xs t in let l = y.1.1 in (y.0, (suc y.1.0, omega arith, y.1.2), y.2)) (Rattle.std.proofs.lemmas.Bool.or_cases (p c) (list_any p xs) e)
+
 module _ (o : Opening) (mem : Memory) (views : Views) (g : Past) (x : World o mem views g) (image : List ℕ) (sv : Survives o mem views image) (torn : NoneTorn o views image) (k : ℕ) (ink : k < o.shape.lanes) where
   abbrev log : Log
   log = (views k).log
@@ -116,16 +128,20 @@ module _ (o : Opening) (mem : Memory) (views : Views) (g : Past) (x : World o me
   pub record Silent : Type 0 where
     pub bare : IsBare
     pub none_sealed : entries image k ≡ []
+    pub unsealed : seal_word image k ≡ 0
 
   pub record Sealed : Type 0 where
     pub bare : IsBare
     pub all_sealed : entries image k ≡ map redo_at (views k).log.entries
     pub whole : AreWhole o.shape k (views k).log
+    pub full : seal_word image k ≡ length (views k).log.entries
+    pub read : (i : ℕ) (e : Entry) → IsEntryAt (views k).log i e → entry_pair image k i ≡ entry_head e ∷ e.value ∷ []
 
   -- the records of the log's generation are valid
   pub record Current : Type 0 where
     pub runs : k < o.lanes
     pub none_sealed : entries image k ≡ []
+    pub unsealed : seal_word image k ≡ 0
     pub present : generation image k ≡ (views k).log.generation
 
   -- ---- ENTRIES
@@ -211,7 +227,7 @@ module _ (o : Opening) (mem : Memory) (views : Views) (g : Past) (x : World o me
   -- a valid record of the log's generation is the log's, or one that could be written there now
   pub record Held (j : ℕ) (u : Undo) : Type 0 where
     pub held : Recorded
-    pub lawful : IsRecordAt (views k).log j held ⊎ ((length (views k).log.records ≤ j) × CanRecord (views k) held)
+    pub lawful : IsRecordAt (views k).log j held ⊎ ((length (views k).log.records ≡ j) × CanRecord (views k) held)
     pub is : u ≡ undo_from o.shape (views k).log.generation held
     pub most : length held.old ≤ 4
 
@@ -227,6 +243,18 @@ module _ (o : Opening) (mem : Memory) (views : Views) (g : Past) (x : World o me
         both_ways (is_slot_drained (views k).fixed.shape (views k).fixed.lane (views k).changes j) (ap not (list_any_at (is_in_line (line_of_slot (views k).fixed.shape (views k).fixed.lane j)) (views k).changes there.0 t.seen there.1
         (ap (is_in_line (line_of_slot (views k).fixed.shape (views k).fixed.lane j)) there.2 ∙ eq-eqb (t.seen.word / 8) (line_of_slot (views k).fixed.shape (views k).fixed.lane j) (omega arith)))) e)
 
+    -- the slot that is being written, where the log has no record yet, is the next
+    next_slot : (j : ℕ) → j < 64 → (is_slot_drained (views k).fixed.shape (views k).fixed.lane (views k).changes j ≡ false) ⊎ ((length (views k).log.records ≤ j) × (j < used_slots (views k).log)) → length (views k).log.records ≤ j → length (views k).log.records ≡ j
+    next_slot j a b low = let most = used_most (views k).log in ⊎_elim (λ (d : is_slot_drained (views k).fixed.shape (views k).fixed.lane (views k).changes j ≡ false).
+        let y = any_at (is_in_line (line_of_slot (views k).fixed.shape (views k).fixed.lane j)) (views k).changes (not-false (list_any (is_in_line (line_of_slot (views k).fixed.shape (views k).fixed.lane j)) (views k).changes) d) in
+        let n = lane_is in let line = eqb-true (y.0.word / 8) (line_of_slot (views k).fixed.shape (views k).fixed.lane j) y.2 in
+        let z = All-contains (λ (c : Undrained). part_of o.shape k c.word ≡ SlotPart → c.word < 8 * line_of_slot o.shape k (used_slots (views k).log)) (views k).changes y.0 fits.slot_changes y.1 (slot_part o.shape k y.0.word (omega arith) (omega arith)) in omega arith)
+        (λ (z : (length (views k).log.records ≤ j) × (j < used_slots (views k).log)). let y = z.1 in omega arith) b
+      where
+        not-false : (t : Bool) → not t ≡ false → t ≡ true
+        not-false true e = refl
+        not-false false e = absurd (both_ways true e refl)
+
     pub held_now : (j : ℕ) (u : Undo) → j < 64 → valid_record image k j ≡ Some u → Held j u
     held_now j u a valid = let p = valid_parts image k j u valid in ⊎_elim
         (λ (d : is_slot_drained (views k).fixed.shape (views k).fixed.lane (views k).changes j ≡ true). let st : undo_of (slot_list ((cells_of o.shape mem).slot k j)) ≡ Some u = sym (ap undo_of (drained_slot j a d)) ∙ p.0 in
@@ -238,7 +266,7 @@ module _ (o : Opening) (mem : Memory) (views : Views) (g : Past) (x : World o me
         written : (is_slot_drained (views k).fixed.shape (views k).fixed.lane (views k).changes j ≡ false) ⊎ ((length (views k).log.records ≤ j) × (j < used_slots (views k).log)) → Held j u
         written b = let t = torn k j u c.runs a b valid in let sp : undo_slot image k j ≡ spelled o.shape (views k).log.generation t.held = ap (λ n. undo_slot image n j) (sym lane_is) ∙ (t.spells ∙ ap (λ s. spelled s (views k).log.generation t.held) shape_is) in
             let most : length t.held.old ≤ 4 = ⊎_elim (λ at. (fits.records j t.held at).2) (λ (z : (length (views k).log.records ≤ j) × CanRecord (views k) t.held). z.1.most) t.lawful in
-            record { held = t.held; lawful = t.lawful; most = most; is = same_Some u (undo_from o.shape (views k).log.generation t.held) (sym (valid_parts image k j u valid).0 ∙ (ap undo_of sp ∙ undo_spelled o.shape (views k).log.generation t.held most)) }
+            record { held = t.held; lawful = ⊎_elim (λ at. inl at) (λ (z : (length (views k).log.records ≤ j) × CanRecord (views k) t.held). inr (next_slot j a b z.0, z.1)) t.lawful; most = most; is = same_Some u (undo_from o.shape (views k).log.generation t.held) (sym (valid_parts image k j u valid).0 ∙ (ap undo_of sp ∙ undo_spelled o.shape (views k).log.generation t.held most)) }
 
     -- and a drained record of the log is valid
     pub valid_now : (j : ℕ) (r : Recorded) → IsRecordAt (views k).log j r → is_slot_drained (views k).fixed.shape (views k).fixed.lane (views k).changes j ≡ true → (j < 64) × (valid_record image k j ≡ Some (undo_from o.shape (views k).log.generation r))
@@ -265,20 +293,20 @@ module _ (o : Opening) (mem : Memory) (views : Views) (g : Past) (x : World o me
   not_idle ph = true
 
   sealed_now : HasSealed (views k).log.phase → HasSettled (views k).log.phase → seal_word image k ≡ length (views k).log.entries → Sealed
-  sealed_now s d full = record { bare = bare_next d (generation_read s full); all_sealed = entries_read s full; whole = whole s full }
+  sealed_now s d full = record { bare = bare_next d (generation_read s full); all_sealed = entries_read s full; whole = whole s full; full = full; read = pair_read s full }
 
   some_sealed : HasSealed (views k).log.phase → seal_word image k ≡ length (views k).log.entries → seal_word image k ≢ 0
   some_sealed s full z = let n = long s full in omega arith
 
   current_now : k < o.lanes → seal_word image k ≡ 0 → generation_word image k ≡ (views k).log.generation → Current
-  current_now r z e = record { runs = r; none_sealed = unsealed_entries z; present = unsealed_generation z ∙ e }
+  current_now r z e = record { runs = r; none_sealed = unsealed_entries z; unsealed = z; present = unsealed_generation z ∙ e }
 
   silent_now : HasSettled (views k).log.phase → seal_word image k ≡ 0 → generation_word image k ≡ suc (views k).log.generation → Silent
-  silent_now d z e = record { bare = bare_next d (unsealed_generation z ∙ e); none_sealed = unsealed_entries z }
+  silent_now d z e = record { bare = bare_next d (unsealed_generation z ∙ e); none_sealed = unsealed_entries z; unsealed = z }
 
   by_phase : (ph : Phase) → (views k).log.phase ≡ ph → SealIs (length (views k).log.entries) (seal_word image k) ph → GenerationIs (views k).log.generation (generation_word image k) ph → LaneCase ph
   by_phase Idle e s n = let d : HasSettled (views k).log.phase = subst HasSettled (sym e) tt in let f = subst (PhaseFits o.shape k (Rattle.pm_world.specs.Sights.sight_of (views k)).picture (views k).log (views k).changes) e fits.phase in
-      record { bare = bare_idle d f.0 (unsealed_generation s ∙ n); none_sealed = unsealed_entries s }
+      record { bare = bare_idle d f.0 (unsealed_generation s ∙ n); none_sealed = unsealed_entries s; unsealed = s }
   by_phase Open e s n = current_now (at_work Open e (λ q. absurd cc)) s n
   by_phase (Drawn m) e s n = current_now (at_work (Drawn m) e (λ q. absurd cc)) s n
   by_phase (Sealing m) e s n = let h : HasSealed (views k).log.phase = subst HasSealed (sym e) tt in let d : HasSettled (views k).log.phase = subst HasSettled (sym e) tt in

@@ -54,6 +54,11 @@ pub mod EntryBits
 pub mod StoreEntry
 pub mod StoreEnd
 pub mod RecordBits
+pub mod StepFlush
+pub mod Known
+pub mod StepLoad
+pub mod StepLearn
+pub mod StepMark
 pub mod StepVacate
 pub mod StepDrops
 pub mod CrashDescriptors
@@ -61,3 +66,14 @@ pub mod Recording
 pub mod StoreRecord
 pub mod Writing
 pub mod StoreWord
+pub mod BlocksKnown
+pub mod StepChunks
+pub mod CrashFaults
+pub mod CrashClashes
+pub mod SlotWords
+pub mod Opening
+pub mod OpenWords
+pub mod OpenChunks
+pub mod OpenGeometry
+pub mod OpenTaken
+pub mod EveryStep

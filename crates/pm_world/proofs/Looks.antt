@@ -140,7 +140,7 @@ module _ (o : Opening) (mem : Memory) (views : Views) (g : Past) (x : World o me
     saw_less : (p : Place) (b : ℕ) (y : Bool) → picture (views k).fixed.shape (SawBitmap c n ∷ (views k).claims) p b ≡ Some y → picture (views k).fixed.shape (views k).claims p b ≡ Some y
     saw_less p b y e = forgets (is_pictured p) (forgotten p) (pictured (views k).fixed.shape (views k).claims (word_of (views k).fixed.shape p)) (λ z. bit_at z b == 1) y e
 
-    saw_same : (p : Place) (b : ℕ) → given ((sight_of (views k)).call.fresh p b) ≡ true → picture (views k).fixed.shape (SawBitmap c n ∷ (views k).claims) p b ≡ picture (views k).fixed.shape (views k).claims p b
+    pub saw_same : (p : Place) (b : ℕ) → given ((sight_of (views k)).call.fresh p b) ≡ true → picture (views k).fixed.shape (SawBitmap c n ∷ (views k).claims) p b ≡ picture (views k).fixed.shape (views k).claims p b
     saw_same p b e = ap (λ q. cond (is_pictured p) (option_map (λ z. bit_at z b == 1) (cond q None (pictured (views k).fixed.shape (views k).claims (word_of (views k).fixed.shape p)))) None) (kept_made p b e)
 
     saw_fresh : (p : Place) (b : ℕ) → fresh (views k).fixed.shape (SawBitmap c n ∷ (views k).claims) (views k).log p b ≡ (sight_of (views k)).call.fresh p b

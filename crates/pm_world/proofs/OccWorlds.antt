@@ -112,6 +112,7 @@ module _ (o : Opening) (mem new : Memory) (views views' : Views) (g : Past) (x :
           olds = λ p m q c. let z = l.olds p m q c in (w.olds p c (ap Rattle.pm_world.specs.States.given q) z.0, z.1);
           slot_part = λ i q. slot (length (views k).log.records) i ∙ l.slot_part i q;
           stale = λ i u q z r. l.stale i u q z (sym (ap undo_of (ap slot_list (λ m n. slot i n m))) ∙ r);
+          slot_changes = l.slot_changes;
           area_changes = l.area_changes;
           phase = early_phase o.shape k (sight_of (views k)).picture (sight_of v').picture (views k).log (views k).changes (views k).log.phase w.early l.phase;
         };

@@ -244,14 +244,15 @@ module _ (sh : Shape) (L : ℕ) (o : State) (cells : Cells) (sights : ℕ → Si
       occ_after Root in_ = absurd (both_ways false refl in_)
 
 -- ---- CHUNKS OF A ZONE, one after another: their bits were clear, and they are one claim from here on
-abbrev pub with_claim : Hold → (Block → Bool) → ℕ → ℕ → Hold
-with_claim h new f₀ n = record h { mine = λ B. new B || h.mine B; span = λ y. cond (new (Big y)) n (h.span y); first = λ c. cond (in_span f₀ n c) f₀ (h.first c) }
+abbrev pub with_claim : Hold → (Block → Bool) → ℕ → (ℕ → ℕ) → Hold
+with_claim h new n first = record h { mine = λ B. new B || h.mine B; span = λ y. cond (new (Big y)) n (h.span y); first = first }
 
 abbrev pub ghost_with_claim : ℕ → Ghost → (Block → Bool) → ℕ → ℕ → Ghost
 ghost_with_claim k g new f₀ n = record g { geo = claimed g.geo f₀ n; holder = λ B. cond (new B) (suc k) (g.holder B) }
 
 module _ (sh : Shape) (L : ℕ) (o : State) (cells : Cells) (sights : ℕ → Sight) (g : Ghost) (x : Bits sh L o cells sights g) (k : ℕ) (ink : k < L) (f₀ n : ℕ) (one : 1 ≤ n) (new : Block → Bool) (is : (B : Block) → new B ≡ same B (Big f₀))
-    (found : (c : ℕ) → in_span f₀ n c ≡ true → (is_occupancy sh (Big c) ≡ true) × (cells.occ (Big c) ≡ false)) where
+    (found : (c : ℕ) → in_span f₀ n c ≡ true → (is_occupancy sh (Big c) ≡ true) × (cells.occ (Big c) ≡ false))
+    (first_now : ℕ → ℕ) (first_in : (c : ℕ) → in_span f₀ n c ≡ true → first_now c ≡ f₀) (first_out : (c : ℕ) → in_span f₀ n c ≡ false → (sights k).hold.first c ≢ f₀ → first_now c ≡ (sights k).hold.first c) where
   abbrev hk : Hold
   hk = (sights k).hold
 
@@ -343,7 +344,7 @@ module _ (sh : Shape) (L : ℕ) (o : State) (cells : Cells) (sights : ℕ → Si
   }
 
   abbrev h' : Hold
-  h' = with_claim (sights k).hold new f₀ n
+  h' = with_claim (sights k).hold new n first_now
 
   no_root : new Root ≡ false
   no_root = is Root
@@ -354,13 +355,13 @@ module _ (sh : Shape) (L : ℕ) (o : State) (cells : Cells) (sights : ℕ → Si
   owned_some : (y : ℕ) → own (sights k).hold (Big y) ≡ true → Nothing y → ⊥
   owned_some y t z = both_ways (own hk (Big y)) (z.0 k) t
 
-  more_has : (B : Block) → own (sights k).hold B ≡ true → own (with_claim (sights k).hold new f₀ n) B ≡ true
+  more_has : (B : Block) → own (sights k).hold B ≡ true → own (with_claim (sights k).hold new n first_now) B ≡ true
   more_has B t = more_own hk new B t
 
-  less_big : (y : ℕ) → (y ≡ f₀ → ⊥) → own (with_claim (sights k).hold new f₀ n) (Big y) ≡ own (sights k).hold (Big y)
+  less_big : (y : ℕ) → (y ≡ f₀ → ⊥) → own (with_claim (sights k).hold new n first_now) (Big y) ≡ own (sights k).hold (Big y)
   less_big y ne = ap (λ t. (t || hk.mine (Big y)) || (hk.here (Big y) || false)) (new_else y ne)
 
-  less_small : (c i : ℕ) → own (with_claim (sights k).hold new f₀ n) (Small c i) ≡ own (sights k).hold (Small c i)
+  less_small : (c i : ℕ) → own (with_claim (sights k).hold new n first_now) (Small c i) ≡ own (sights k).hold (Small c i)
   less_small c i = ap (λ t. (t || hk.mine (Small c i)) || (hk.here (Small c i) || hk.making c)) (no_small c i)
 
   -- of what the lane owned the blocks stay
@@ -370,7 +371,7 @@ module _ (sh : Shape) (L : ℕ) (o : State) (cells : Cells) (sights : ℕ → Si
   blocks_stay (Descr c) b t = ⊎_elim (λ (e : first' c ≡ g.geo.first c). ap (λ a. Big a) e) (λ (z : Nothing (g.geo.first c) × Nothing (first' c)). absurd (owned_some (g.geo.first c) t z.0)) (moves c)
   blocks_stay RootWord b t = refl
 
-  pub owns_more : (p : Place) (b : ℕ) → owns g.geo (settled o g) (sights k).hold p b ≡ true → owns (claimed g.geo f₀ n) (settled o g) (with_claim (sights k).hold new f₀ n) p b ≡ true
+  pub owns_more : (p : Place) (b : ℕ) → owns g.geo (settled o g) (sights k).hold p b ≡ true → owns (claimed g.geo f₀ n) (settled o g) (with_claim (sights k).hold new n first_now) p b ≡ true
   owns_more (InRun c w) b t = more_has (block_of g.geo (InRun c w) b) t
   owns_more (InHuge c w) b t = subst (λ B. own h' B ≡ true) (sym (blocks_stay (InHuge c w) b t)) (more_has (Big (g.geo.first c)) t)
   owns_more (Descr c) b t = subst (λ B. own h' B ≡ true) (sym (blocks_stay (Descr c) b t)) (more_has (Big (g.geo.first c)) t)
@@ -383,7 +384,7 @@ module _ (sh : Shape) (L : ℕ) (o : State) (cells : Cells) (sights : ℕ → Si
   size_stays RootWord b t s = s
 
   -- a huge block's chunk: of the new claim, or as it was
-  chunk_cases : (c : ℕ) → has (with_claim (sights k).hold new f₀ n) (Big (first' c)) ≡ true → New c ⊎ ((first' c ≡ g.geo.first c) × (has (sights k).hold (Big (g.geo.first c)) ≡ true))
+  chunk_cases : (c : ℕ) → has (with_claim (sights k).hold new n first_now) (Big (first' c)) ≡ true → New c ⊎ ((first' c ≡ g.geo.first c) × (has (sights k).hold (Big (g.geo.first c)) ≡ true))
   chunk_cases c a = ⊎_elim (λ (t : New c). inl t) (λ (r : Loose c ⊎ Stays c). ⊎_elim
       (λ (t : Loose c). absurd (both_ways (has hk (Big c)) (unfound c t.4 k) (sym (ap (λ z. z || hk.found (Big c)) (less_big c (not_f c t.0))) ∙ subst (λ a. has h' (Big a) ≡ true) t.2 a)))
       (λ (t : Stays c). inr (t.2, sym (ap (λ z. z || hk.found (Big (g.geo.first c))) (less_big (g.geo.first c) (not_f (g.geo.first c) t.1))) ∙ subst (λ a. has h' (Big a) ≡ true) t.2 a)) r) (cases c)
@@ -398,7 +399,7 @@ module _ (sh : Shape) (L : ℕ) (o : State) (cells : Cells) (sights : ℕ → Si
 
   pub occupies_chunks : f₀ % 64 + n ≤ 64 → is_decided (sights k).phase ≡ false → in_flight (sights k).phase ≡ false
       → (occ' : Block → Bool) → ((c i : ℕ) → is_occupancy sh (Small c i) ≡ true → occ' (Small c i) ≡ cells.occ (Small c i)) → ((c : ℕ) → is_occupancy sh (Big c) ≡ true → occ' (Big c) ≡ (in_span f₀ n c || cells.occ (Big c))) → (pc : Diff) → PicturedClaim pc
-      → (sights' : ℕ → Sight) → Turned sights sights' k (record (sights k) { hold = with_claim (sights k).hold new f₀ n; picture = pc }) → Around k (sights k).hold (λ j. (sights j).hold) cells (record cells { occ = occ' }) (settled o g) (settled o g) g (ghost_with_claim k g new f₀ n)
+      → (sights' : ℕ → Sight) → Turned sights sights' k (record (sights k) { hold = with_claim (sights k).hold new n first_now; picture = pc }) → Around k (sights k).hold (λ j. (sights j).hold) cells (record cells { occ = occ' }) (settled o g) (settled o g) g (ghost_with_claim k g new f₀ n)
       × Bits sh L o (record cells { occ = occ' }) sights' (ghost_with_claim k g new f₀ n)
   occupies_chunks zone0 early flight occ' small_occs big_occs pc pic sights' t =
       let a : Around k (sights k).hold (λ j. (sights j).hold) cells (record cells { occ = occ' }) (settled o g) (settled o g) g (ghost_with_claim k g new f₀ n) = record {
@@ -429,8 +430,8 @@ module _ (sh : Shape) (L : ℕ) (o : State) (cells : Cells) (sights : ℕ → Si
             class = λ d j a. f.hold.class d j (sym (ap (λ z. z || hk.found (Small d j)) (less_small d j)) ∙ a);
             span = λ y a c. ⊎_elim (λ (e : y ≡ f₀). subst (λ a. (first' c == a) ≡ in_span a (cond (new (Big a)) n (hk.span a)) c) (sym e) (chunks_of_new c ∙ sym (ap (λ m. in_span f₀ m c) (cond-true (new (Big f₀)) n (hk.span f₀) new_f))))
                 (λ (ne : y ≢ f₀). let w = old_has y ne a in claim_same y (λ z. both_ways (has hk (Big y)) (unfound y z k) w) c ∙ (f.hold.span y w c ∙ sym (ap (λ m. in_span y m c) (cond-false (new (Big y)) n (hk.span y) (new_else y ne))))) (cases_eq y f₀);
-            first = λ c a. ⊎_elim (λ (z : New c). cond-true (in_span f₀ n c) f₀ (hk.first c) z.0 ∙ sym z.1)
-                (λ (z : (first' c ≡ g.geo.first c) × (has hk (Big (g.geo.first c)) ≡ true)). ⊎_elim (λ (t : in_span f₀ n c ≡ true). absurd (both_ways (has hk (Big (g.geo.first c))) (unfound (g.geo.first c) (none_in c t) k) z.1)) (λ (u : in_span f₀ n c ≡ false). cond-false (in_span f₀ n c) f₀ (hk.first c) u ∙ (f.hold.first c z.1 ∙ sym z.0)) (cases_Bool (in_span f₀ n c))) (chunk_cases c a);
+            first = λ c a. ⊎_elim (λ (z : New c). first_in c z.0 ∙ sym z.1)
+                (λ (z : (first' c ≡ g.geo.first c) × (has hk (Big (g.geo.first c)) ≡ true)). ⊎_elim (λ (t : in_span f₀ n c ≡ true). absurd (both_ways (has hk (Big (g.geo.first c))) (unfound (g.geo.first c) (none_in c t) k) z.1)) (λ (u : in_span f₀ n c ≡ false). first_out c u (λ q. both_ways (has hk (Big (g.geo.first c))) (unfound (g.geo.first c) (subst Nothing (sym q ∙ f.hold.first c z.1) none_f) k) z.1) ∙ (f.hold.first c z.1 ∙ sym z.0)) (cases_Bool (in_span f₀ n c))) (chunk_cases c a);
             zone = λ y a. ⊎_elim (λ (e : y ≡ f₀). subst (λ a. a % 64 + cond (new (Big a)) n (hk.span a) ≤ 64) (sym e) (subst (λ m. f₀ % 64 + m ≤ 64) (sym (cond-true (new (Big f₀)) n (hk.span f₀) new_f)) zone0))
                 (λ (ne : y ≢ f₀). subst (λ m. y % 64 + m ≤ 64) (sym (cond-false (new (Big y)) n (hk.span y) (new_else y ne))) (f.hold.zone y (old_has y ne a))) (cases_eq y f₀);
             making = λ c a. let y = f.hold.making c a in (or_right (new (Big c)) (hk.mine (Big c)) y.0, y.1, y.2, y.3, cond-false (new (Big c)) n (hk.span c) (new_else c (λ e. owned_some c (mine_own hk (Big c) y.0) (subst Nothing (sym e) none_f))) ∙ y.4);
@@ -462,7 +463,7 @@ module _ (sh : Shape) (L : ℕ) (o : State) (cells : Cells) (sights : ℕ → Si
           soiled = λ p b y. let z = f.soiled p b y in let w = soiled_owned sh cells (settled o g) (Flies g k) g x.geo k (sights k) f p b y in let B = block_of g.geo p b in
               (subst (λ C. soils (sights k).phase p (new C || hk.mine C) ((sights k).logged p) (latest (sights k).call.entries p b) ≡ true) (sym (blocks_stay p b w)) (more_soils (sights k).phase p (hk.mine B) (new B || hk.mine B) ((sights k).logged p) (latest (sights k).call.entries p b) (or_right (new B) (hk.mine B)) z.0), z.1);
         } record {
-          gone = λ p b q u l. absurd (both_ways (owns (claimed g.geo f₀ n) (settled o g) (with_claim hk new f₀ n) p b) u (owns_more p b q));
+          gone = λ p b q u l. absurd (both_ways (owns (claimed g.geo f₀ n) (settled o g) (with_claim hk new n first_now) p b) u (owns_more p b q));
           back = back';
           made = same_made sh L o cells sights g x k ink x' (λ d. refl);
           occ = occ_after;
@@ -474,7 +475,7 @@ module _ (sh : Shape) (L : ℕ) (o : State) (cells : Cells) (sights : ℕ → Si
       )
     where
       x' : Sight
-      x' = record (sights k) { hold = with_claim (sights k).hold new f₀ n; picture = pc }
+      x' = record (sights k) { hold = with_claim (sights k).hold new n first_now; picture = pc }
 
       g' : Ghost
       g' = ghost_with_claim k g new f₀ n
@@ -509,7 +510,7 @@ module _ (sh : Shape) (L : ℕ) (o : State) (cells : Cells) (sights : ℕ → Si
       mine_of : (y : ℕ) → (y ≡ f₀ → ⊥) → (new (Big y) || hk.mine (Big y)) ≡ true → hk.mine (Big y) ≡ true
       mine_of y ne a = sym (ap (λ z. z || hk.mine (Big y)) (new_else y ne)) ∙ a
 
-      sees_same : (p : Place) (b : ℕ) → Rattle.pm_world.specs.Lanes.sees (claimed g.geo f₀ n) (settled o g) (with_claim hk new f₀ n) p b ≡ true → Rattle.pm_world.specs.Lanes.sees g.geo (settled o g) hk p b ≡ true
+      sees_same : (p : Place) (b : ℕ) → Rattle.pm_world.specs.Lanes.sees (claimed g.geo f₀ n) (settled o g) (with_claim hk new n first_now) p b ≡ true → Rattle.pm_world.specs.Lanes.sees g.geo (settled o g) hk p b ≡ true
       sees_same (InRun c w) b s = s
       sees_same (InHuge c w) b s = ⊎_elim (λ (e : first' c ≡ g.geo.first c). subst (λ a. hk.found (Big a) ≡ true) e s) (λ (z : Nothing (g.geo.first c) × Nothing (first' c)). absurd (both_ways (there (settled o g) (Big (first' c))) z.1.1 (f.hold.found (Big (first' c)) s).2)) (moves c)
       sees_same (Descr c) b s = ⊎_elim (λ (e : first' c ≡ g.geo.first c). subst (λ a. hk.found (Big a) ≡ true) e s) (λ (z : Nothing (g.geo.first c) × Nothing (first' c)). absurd (both_ways (there (settled o g) (Big (first' c))) z.1.1 (f.hold.found (Big (first' c)) s).2)) (moves c)
@@ -536,8 +537,8 @@ module _ (sh : Shape) (L : ℕ) (o : State) (cells : Cells) (sights : ℕ → Si
       owned_old : (c : ℕ) → own h' (Big (first' c)) ≡ true → New c ⊎ ((first' c ≡ g.geo.first c) × (own hk (Big (g.geo.first c)) ≡ true))
       owned_old c a = ⊎_elim (λ (z : New c). inl z) (λ (z : (first' c ≡ g.geo.first c) × (has hk (Big (g.geo.first c)) ≡ true)). inr (z.0, sym (less_big (g.geo.first c) (λ e. both_ways (has hk (Big (g.geo.first c))) (unfound (g.geo.first c) (subst Nothing (sym e) none_f) k) z.1)) ∙ subst (λ a. own h' (Big a) ≡ true) z.0 a)) (chunk_cases c (own_has h' (Big (first' c)) a))
 
-      bits' : (p : Place) (b : ℕ) → owns (claimed g.geo f₀ n) (settled o g) (with_claim hk new f₀ n) p b ≡ true
-          → BitFits (live (settled o g) (claimed g.geo f₀ n) g.runs p) (blank (with_claim hk new f₀ n) p) (is_decided (sights k).phase) (left (sights k).phase p b) ((sights k).logged p) (latest (sights k).call.entries p b) (pc p b) (read cells.pool p b) (settled o g p b)
+      bits' : (p : Place) (b : ℕ) → owns (claimed g.geo f₀ n) (settled o g) (with_claim hk new n first_now) p b ≡ true
+          → BitFits (live (settled o g) (claimed g.geo f₀ n) g.runs p) (blank (with_claim hk new n first_now) p) (is_decided (sights k).phase) (left (sights k).phase p b) ((sights k).logged p) (latest (sights k).call.entries p b) (pc p b) (read cells.pool p b) (settled o g p b)
       bits' (InRun c w) b a = let a' = sym (less_small c (part (g.geo.class c) w b)) ∙ a in same_bit (InRun c w) b (live (settled o g) g.geo g.runs (InRun c w)) (blank hk (InRun c w)) a' (f.bits (InRun c w) b a')
       bits' (InHuge c w) b a = ⊎_elim (λ (z : New c). claimed_bit (InHuge c w) b (live (settled o g) (claimed g.geo f₀ n) g.runs (InHuge c w)) (λ al. absurd (huge_dead c w z al)) (ap (λ a. new (Big a)) z.1 ∙ new_f))
           (λ (z : (first' c ≡ g.geo.first c) × (own hk (Big (g.geo.first c)) ≡ true)). let u = f.bits (InHuge c w) b z.1 in
@@ -545,7 +546,7 @@ module _ (sh : Shape) (L : ℕ) (o : State) (cells : Cells) (sights : ℕ → Si
       bits' (Descr c) b a = ⊎_elim (λ (z : New c). claimed_bit (Descr c) b true (λ _. x.unowned (Descr c) b z.2.0 refl) (ap (λ a. new (Big a)) z.1 ∙ new_f)) (λ (z : (first' c ≡ g.geo.first c) × (own hk (Big (g.geo.first c)) ≡ true)). same_bit (Descr c) b true false z.1 (f.bits (Descr c) b z.1)) (owned_old c a)
       bits' RootWord b a = let a' = sym (ap (λ z. ((z || hk.mine Root) || false) || Rattle.pm_world.specs.Lanes.all_held hk.locked (guards (settled o g) RootWord)) no_root) ∙ a in same_bit RootWord b true false a' (f.bits RootWord b a')
 
-      back' : (p : Place) (b : ℕ) → owns g.geo (settled o g) hk p b ≡ false → owns (claimed g.geo f₀ n) (settled o g) (with_claim hk new f₀ n) p b ≡ false → live (settled o g) (claimed g.geo f₀ n) g.runs p ≡ true
+      back' : (p : Place) (b : ℕ) → owns g.geo (settled o g) hk p b ≡ false → owns (claimed g.geo f₀ n) (settled o g) (with_claim hk new n first_now) p b ≡ false → live (settled o g) (claimed g.geo f₀ n) g.runs p ≡ true
           → (live (settled o g) g.geo g.runs p ≡ true) × ((j : ℕ) → j ≢ k → owns (claimed g.geo f₀ n) (settled o g) (sights j).hold p b ≡ false → owns g.geo (settled o g) (sights j).hold p b ≡ false)
       back' (InRun c w) b u u' l = (l, λ j ne t. t)
       back' (InHuge c w) b u u' l = ⊎_elim (λ (e : first' c ≡ g.geo.first c). (sym (ap (λ a. nat_lt w 512 && bright_huge (settled o g) a (64 * (c - a) + w / 8)) e) ∙ l, λ j ne t. subst (λ a. own (sights j).hold (Big a) ≡ false) e t))

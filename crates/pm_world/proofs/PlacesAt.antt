@@ -1,11 +1,11 @@
 -- Which place a word is, and what is so of it.
 use Rattle.std.specs.Prelude.{if◌then◌else◌}
-use Rattle.std.proofs.Common.{◌≡◌, ◌≢◌, ℕ, zero, suc, ◌+◌, ◌-◌, ◌*◌, ◌/◌, ◌%◌, ◌<◌, ◌≤◌, nat_le, nat_lt, Bool, true, false, cond, ◌==◌, ◌&&◌, eqb, refl, sym, ap, ◌∙◌, subst, arith, Option, None, Some}
+use Rattle.std.proofs.Common.{◌≡◌, ◌≢◌, ℕ, zero, suc, ◌+◌, ◌/◌, ◌%◌, ◌<◌, nat_le, nat_lt, true, false, ◌==◌, ◌&&◌, refl, sym, ap, ◌∙◌, subst, arith, Option, None, Some}
 use Rattle.std.proofs.lemmas.Bool.{both_ways, eqb-true, ltb-true, leb-true, lt-ltb, and_parts, and_from, cond_both}
 use Rattle.pm_layout.specs.declared.shape.Shape.{Shape}
-use Rattle.pm_layout.specs.Chunks.{chunks_of, page_of_zone, page_of_chunk, word_of_chunk, word_of_descriptor, word_of_root, zone_at, page_in_zone, is_in_zone, is_chunk_page, chunk_at, is_descriptor_word, chunk_described}
+use Rattle.pm_layout.specs.Chunks.{chunks_of, page_of_zone, word_of_chunk, word_of_root, zone_at, page_in_zone, is_in_zone, is_chunk_page, chunk_at, is_descriptor_word, chunk_described}
 use Rattle.pm_view.specs.Places.{Place, InRun, InHuge, Descr, RootWord, same_place, is_place, word_of}
-use Rattle.pm_view.specs.Parts.{Part, RootPart, DescriptorPart, ChunkPart, OtherPart, pool_part, chunk_place, place_in}
+use Rattle.pm_view.specs.Parts.{RootPart, DescriptorPart, ChunkPart, OtherPart, chunk_place, place_in}
 use Rattle.pm_view.specs.Log.{place_at}
 
 pub same_place_true : (p q : Place) → same_place p q ≡ true → p ≡ q

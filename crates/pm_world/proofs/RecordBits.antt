@@ -1,22 +1,21 @@
 -- What a lane records of a word is what is settled of it: the word is in a line that its object has, and no record of it is drained.
-use Rattle.std.specs.Prelude.{IsTrue}
 use Rattle.std.specs.Option.{option_map}
-use Rattle.std.proofs.Common.{◌≡◌, ◌≢◌, ℕ, zero, suc, ◌+◌, ◌-◌, ◌*◌, ◌/◌, ◌%◌, ◌^◌, ◌<◌, ◌≤◌, ◌⊎◌, ⊎_elim, nat_le, nat_lt, Bool, true, false, cond, ◌==◌, ◌&&◌, ◌||◌, eqb, refl, sym, ap, ◌∙◌, subst, arith, eq-eqb, ne_eqb, Option, None, Some}
-use Rattle.std.proofs.lemmas.Bool.{eqb-true, leb-true, ltb-true, le-leb, lt-ltb, both_ways, and_parts, and_from, or_right, cond-true, cond-false, false_from_ne_true}
+use Rattle.std.proofs.Common.{◌≡◌, ℕ, ◌+◌, ◌-◌, ◌*◌, ◌/◌, ◌%◌, ◌^◌, ◌<◌, ◌≤◌, nat_le, nat_lt, Bool, true, false, cond, ◌==◌, ◌&&◌, ◌||◌, refl, sym, ap, ◌∙◌, subst, arith, eq-eqb, ne_eqb, Option, None, Some}
+use Rattle.std.proofs.lemmas.Bool.{leb-true, ltb-true, le-leb, lt-ltb, both_ways, and_from, or_right, cond-true, cond-false, false_from_ne_true}
 use Rattle.std.proofs.Math.Nat.{mod-eq-sub-mul-div, mul-div-le, mul-mod_right}
 use Rattle.pm_layout.specs.declared.shape.Shape.{Shape}
 use Rattle.pm_view.specs.Claims.{class, first, pictured, geometry}
 use Rattle.pm_view.specs.Entries.{latest, turn}
 use Rattle.pm_view.specs.Founds.{knows}
 use Rattle.pm_view.specs.Log.{Open}
-use Rattle.pm_view.specs.Places.{Place, InRun, InHuge, Descr, RootWord, Block, Small, Big, Root, part, block_of, header, is_data, word_of}
+use Rattle.pm_view.specs.Places.{Place, InRun, InHuge, Descr, Block, Small, Big, part, block_of, header, is_data, word_of}
 use Rattle.pm_view.specs.View.{View}
-use Rattle.pm_world.specs.States.{State, Diff, given, there, val, lit, size_at, bright, shown, bright_huge, live, read, Cells}
-use Rattle.pm_world.specs.Sights.{Sight, is_pictured, is_recorded, call_in, sight_of}
-use Rattle.pm_world.specs.Lanes.{Ghost, own, has, owns, TurnBefore, is_size, SightFits, GeoFits}
+use Rattle.pm_world.specs.States.{State, Diff, val, lit, size_at, bright, shown, bright_huge, live, read, Cells}
+use Rattle.pm_world.specs.Sights.{Sight, is_pictured, call_in, sight_of}
+use Rattle.pm_world.specs.Lanes.{Ghost, own, owns, TurnBefore, is_size, SightFits, GeoFits}
 use Rattle.pm_world.specs.Lawful.{offset_in, size_in}
 use Rattle.pm_world.specs.Memory.{bit}
-use Rattle.pm_world.proofs.Entering.{huge_known, logged_recorded, not_both}
+use Rattle.pm_world.proofs.Entering.{huge_known, not_both}
 use Rattle.pm_world.proofs.Frame.{here_own, own_has, small_run}
 use Rattle.pm_world.proofs.Geometry.{size_part}
 use Rattle.pm_world.proofs.Values.{val_word}

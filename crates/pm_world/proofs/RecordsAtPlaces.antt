@@ -1,37 +1,36 @@
 -- The valid records of a lane whose call is not decided: each is of words that the lane owns, and has what is settled where that is alive; and each drained
 -- record of the log is valid.
-use Rattle.std.proofs.Common.{◌≡◌, ◌≢◌, ℕ, zero, suc, ◌+◌, ◌-◌, ◌*◌, ◌/◌, ◌%◌, ◌<◌, ◌≤◌, ◌⊎◌, inl, inr, ⊎_elim, nat_le, nat_lt, Bool, true, false, cond, not, ◌&&◌, ◌||◌, eqb, leb, ltb, ◌==◌, List, [], ◌∷◌, length, slice_get, slice_index, refl, sym, ap, ◌∙◌, subst, arith, eq-eqb, ne_eqb, Option, None, Some}
+use Rattle.std.proofs.Common.{◌≡◌, ℕ, zero, suc, ◌+◌, ◌-◌, ◌*◌, ◌/◌, ◌<◌, ◌≤◌, ◌⊎◌, inl, inr, ⊎_elim, nat_le, nat_lt, Bool, true, false, cond, not, ◌&&◌, ◌||◌, ◌==◌, List, [], ◌∷◌, length, slice_get, slice_index, refl, sym, ap, ◌∙◌, subst, arith, eq-eqb, ne_eqb, Option, None, Some}
 use Rattle.std.specs.Int.{bit_at}
 use Rattle.std.specs.List.{find}
 use Rattle.std.specs.Option.{option_map}
-use Rattle.std.proofs.lemmas.Bool.{cases_eq, cases_Bool, both_ways, eqb-true, and_parts, and_from, or_cases, cond-true, cond-false, false_from_ne_true, le-leb, lt-ltb, leb-true, ltb-true}
+use Rattle.std.proofs.lemmas.Bool.{both_ways, eqb-true, and_parts, and_from, or_cases, cond-true, cond-false, false_from_ne_true, le-leb, lt-ltb, leb-true, ltb-true}
 use Rattle.std.proofs.lemmas.Option.{none-some, same_Some}
 use Rattle.pm_layout.specs.declared.shape.Shape.{Shape}
 use Rattle.pm_layout.specs.Chunks.{chunks_of}
 use Rattle.pm_record.specs.declared.undo.Undo.{Undo}
-use Rattle.pm_image.specs.Logs.{covers, old_word, records, entries}
+use Rattle.pm_image.specs.Logs.{covers, old_word, records}
 use Rattle.pm_image.specs.Steps.{valid_record}
 use Rattle.pm_view.specs.Changes.{Undrained}
-use Rattle.pm_view.specs.Places.{Place, InRun, InHuge, Descr, RootWord, Block, Small, Big, part, block_of, in_span, is_data, twin, word_of, is_place, place_after, is_after, distance}
+use Rattle.pm_view.specs.Places.{Place, InRun, InHuge, Descr, RootWord, Small, Big, block_of, is_data, twin, word_of, is_place, place_after, is_after, distance, in_span, part}
 use Rattle.pm_view.specs.Entries.{first_of_two}
 use Rattle.pm_view.specs.Log.{Phase, Idle, Open, Drawn, Sealing, Applying, Clearing, Retiring, Voiding, Recorded, old_in, old_of}
-use Rattle.pm_view.specs.Claims.{class, first, span, pictured, is_held}
+use Rattle.pm_view.specs.Claims.{class, first, pictured, is_held}
 use Rattle.pm_view.specs.View.{View, runs_one}
-use Rattle.pm_view.specs.Founds.{knows}
-use Rattle.pm_world.specs.States.{State, Diff, given, live, read}
-use Rattle.pm_world.specs.Sights.{is_pictured, picture, is_recorded, is_logged, is_logged_from, is_slot_drained, sight_of}
-use Rattle.pm_world.specs.Lanes.{is_decided, is_in_making, left, own, owns, has, SightFits, Flies}
+use Rattle.pm_world.specs.States.{Diff, given, live}
+use Rattle.pm_world.specs.Sights.{is_pictured, is_recorded, is_logged, is_logged_from, is_slot_drained, sight_of}
+use Rattle.pm_world.specs.Lanes.{is_decided, is_in_making, left, own, owns, SightFits, Flies}
 use Rattle.pm_world.specs.Logs.{IsRecordAt}
 use Rattle.pm_world.specs.Lawful.{CanRecord, MayChangeAt}
 use Rattle.pm_world.specs.Memory.{Memory, bit, cells_of}
 use Rattle.pm_world.specs.World.{Opening, Views, Past, RecordedFits, World, settled_words, ghost_of}
 use Rattle.pm_world.specs.Crash.{Survives, NoneTorn}
 use Rattle.pm_world.proofs.Frame.{is_single, here_own, own_has, maker_owns, maker_no_run}
-use Rattle.pm_world.proofs.Crashes.{InPool, Restores}
+use Rattle.pm_world.proofs.Crashes.{Restores}
 use Rattle.pm_world.proofs.RecoveredBits.{record_bit, entry_bit, log_bit}
 use Rattle.pm_world.proofs.SurvivingWords.{log_fits}
 use Rattle.pm_world.proofs.ImageLogs.{undo_from, covered, covers_from, old_from, found_slot, no_slot}
-use Rattle.pm_world.proofs.LanesInImages.{Current, Held, held_now, valid_now}
+use Rattle.pm_world.proofs.LanesInImages.{Current, held_now, valid_now}
 use Rattle.pm_world.proofs.EntriesAtPlaces.{of_place}
 
 -- ---- the places of a record
@@ -229,41 +228,47 @@ module _ (o : Opening) (mem : Memory) (views : Views) (g : Past) (x : World o me
     pub own_ : (b : ℕ) → b < 64 → owns g.geo (settled_words o g) (sight_of (views k)).hold place b ≡ true
     pub old : (b : ℕ) → b < 64 → live (settled_words o g) g.geo g.runs place ≡ true → bit (old_word u (8 * w)) b ≡ settled_words o g place b
 
-  pub speaks : (j w : ℕ) (u : Undo) → j < 64 → valid_record image k j ≡ Some u → covers u (8 * w) ≡ true → Speaks w u
+  -- it is a record of the log, or one in the making, in the next slot, of a word that has none
+  abbrev pub Kind : ℕ → Place → Type 0
+  Kind j p = ((r : Recorded) × (y : ℕ) × IsRecordAt (views k).log j r × (old_in r p ≡ Some y)) ⊎ ((length (views k).log.records ≡ j) × (is_recorded (views k).log.records p ≡ false))
+
+  pub speaks : (j w : ℕ) (u : Undo) → j < 64 → valid_record image k j ≡ Some u → covers u (8 * w) ≡ true → (s : Speaks w u) × Kind j s.place
   speaks j w u a valid cov = let h = held_now o mem views g x image sv torn k ink c j u a valid in
       let r = covered o.shape (views k).log.generation h.held w (subst (λ z. covers z (8 * w) ≡ true) h.is cov) in
       let old_is : old_word u (8 * w) ≡ slice_index h.held.old (w - word_of o.shape h.held.place) = ap (λ (z : Undo). old_word z (8 * w)) h.is ∙ old_from o.shape (views k).log.generation h.held w r.0 r.1 in
-      ⊎_elim (λ (at : IsRecordAt (views k).log j h.held). recorded h.held at r old_is) (λ (z : (length (views k).log.records ≤ j) × CanRecord (views k) h.held). making h.held z.1 r old_is) h.lawful
+      ⊎_elim (λ (at : IsRecordAt (views k).log j h.held). recorded h.held at r old_is) (λ (z : (length (views k).log.records ≡ j) × CanRecord (views k) h.held). making h.held z.0 z.1 r old_is) h.lawful
     where
-      recorded : (q : Recorded) → IsRecordAt (views k).log j q → (word_of o.shape q.place ≤ w) × (w < word_of o.shape q.place + length q.old) → old_word u (8 * w) ≡ slice_index q.old (w - word_of o.shape q.place) → Speaks w u
+      recorded : (q : Recorded) → IsRecordAt (views k).log j q → (word_of o.shape q.place ≤ w) × (w < word_of o.shape q.place + length q.old) → old_word u (8 * w) ≡ slice_index q.old (w - word_of o.shape q.place) → (s : Speaks w u) × Kind j s.place
       recorded q at r old_is = let fits = log_fits o mem views g x k ink in let n : ℕ = w - word_of o.shape q.place in let low = r.0 in let high = r.1 in let inside : n < length q.old = omega arith in
           let rec = fits.records j q at in let ch = data_chunk q.place rec.4 in let p = place_after q.place n in
           let has_ : old_of (views k).log.records p ≡ Some (slice_index q.old n) = old_found p (views k).log.records (λ i m s t y z e d. fits.once i m s t p y z e d) j q (slice_index q.old n) at (after_old q.place q.old n ch inside) in
           let olds = fits.olds p (slice_index q.old n) has_ in
-          record { place = p; is_there = rec.5 n inside; chunk = data_chunk p (after_data q.place n rec.4); of_word = after_word o.shape q.place w ch low; unmade = changes_found p ((x.each_lane k c.runs).recorded und p (ap given has_)); own_ = λ b l. (olds b).0; old = λ b l _. ap (λ z. bit z b) old_is ∙ sym ((olds b).1 und) }
+          (record { place = p; is_there = rec.5 n inside; chunk = data_chunk p (after_data q.place n rec.4); of_word = after_word o.shape q.place w ch low; unmade = changes_found p ((x.each_lane k c.runs).recorded und p (ap given has_)); own_ = λ b l. (olds b).0; old = λ b l _. ap (λ z. bit z b) old_is ∙ sym ((olds b).1 und) }, inl (q, slice_index q.old n, at, after_old q.place q.old n ch inside))
 
-      making : (q : Recorded) → CanRecord (views k) q → (word_of o.shape q.place ≤ w) × (w < word_of o.shape q.place + length q.old) → old_word u (8 * w) ≡ slice_index q.old (w - word_of o.shape q.place) → Speaks w u
-      making q can r old_is = let n : ℕ = w - word_of o.shape q.place in let low = r.0 in let high = r.1 in let inside : n < length q.old = omega arith in let each = can.each n inside in let p = place_after q.place n in
+      making : (q : Recorded) → length (views k).log.records ≡ j → CanRecord (views k) q → (word_of o.shape q.place ≤ w) × (w < word_of o.shape q.place + length q.old) → old_word u (8 * w) ≡ slice_index q.old (w - word_of o.shape q.place) → (s : Speaks w u) × Kind j s.place
+      making q last can r old_is = let n : ℕ = w - word_of o.shape q.place in let low = r.0 in let high = r.1 in let inside : n < length q.old = omega arith in let each = can.each n inside in let p = place_after q.place n in
           let ch = after_chunk q.place n each.plain in let own_ : (b : ℕ) → owns g.geo (settled_words o g) (sight_of (views k)).hold p b ≡ true = λ b. changes_own p b each.plain each.own in
           let pic : pictured (views k).fixed.shape (views k).claims (word_of (views k).fixed.shape p) ≡ Some (slice_index q.old n) = known_pictured (runs_one (views k) || is_held (views k).fixed.shape (views k).claims (word_of (views k).fixed.shape p))
           (pictured (views k).fixed.shape (views k).claims (word_of (views k).fixed.shape p)) (slice_index q.old n) each.present in
           let seen : (b : ℕ) → (sight_of (views k)).picture p b ≡ Some (bit (slice_index q.old n) b) = λ b. cond-true (is_pictured p) _ _ (data_pictured (views k).fixed.shape p each.plain each.place) ∙ ap (option_map (λ z. bit_at z b == 1)) pic in
-          let lg = unrecorded (views k).fixed.shape (views k).fixed.lane (views k).changes (views k).log.records p each.new in
-          record {
-            place = p;
-            is_there = sym (ap (λ s. is_place s p) shape_is) ∙ each.place;
-            chunk = data_chunk p each.plain;
-            of_word = after_word o.shape q.place w ch low;
-            unmade = changes_unmade p each.plain each.own;
-            own_ = λ b l. own_ b;
-            old = λ b l lv. let bf = f.bits p b (own_ b) in ap (λ z. bit z b) old_is ∙ (sym (bf.3 (bit (slice_index q.old n) b) (seen b))
-                ∙ bf.0 lv (left_none (views k).log.phase p b und) (ap (λ t. t && not (is_decided (views k).log.phase)) lg));
-          }
+          let lg = unrecorded (views k).fixed.shape (views k).fixed.lane (views k).changes (views k).log.records p each.new in (
+            record {
+              place = p;
+              is_there = sym (ap (λ s. is_place s p) shape_is) ∙ each.place;
+              chunk = data_chunk p each.plain;
+              of_word = after_word o.shape q.place w ch low;
+              unmade = changes_unmade p each.plain each.own;
+              own_ = λ b l. own_ b;
+              old = λ b l lv. let bf = f.bits p b (own_ b) in ap (λ z. bit z b) old_is ∙ (sym (bf.3 (bit (slice_index q.old n) b) (seen b))
+                  ∙ bf.0 lv (left_none (views k).log.phase p b und) (ap (λ t. t && not (is_decided (views k).log.phase)) lg));
+            },
+            inr (last, each.new),
+          )
 
   -- a word that some record gives
   pub speaks_of : (w b : ℕ) → given (record_bit (records image k) w b) ≡ true → (u : Undo) × (find (λ r. covers r (8 * w)) (records image k) ≡ Some u) × Speaks w u
   speaks_of w b e = ⊎_elim (λ (n : find (λ r. covers r (8 * w)) (records image k) ≡ None). absurd (both_ways false refl (sym (ap (λ d. given (option_map (λ r. bit (old_word r (8 * w)) b) d)) n) ∙ e)))
-      (λ (y : (u : Undo) × (find (λ r. covers r (8 * w)) (records image k) ≡ Some u)). let z = found_slot image k (8 * w) y.0 y.1 in (y.0, y.1, speaks z.0 w y.0 z.1 z.2 z.3)) (some_or (find (λ r. covers r (8 * w)) (records image k)))
+      (λ (y : (u : Undo) × (find (λ r. covers r (8 * w)) (records image k) ≡ Some u)). let z = found_slot image k (8 * w) y.0 y.1 in (y.0, y.1, (speaks z.0 w y.0 z.1 z.2 z.3).0)) (some_or (find (λ r. covers r (8 * w)) (records image k)))
 
   pub log_is : (w b : ℕ) → log_bit image o.shape.lanes w k b ≡ record_bit (records image k) w b
   log_is w b = ap (λ es. first_of_two (entry_bit es w b) (record_bit (records image k) w b)) c.none_sealed

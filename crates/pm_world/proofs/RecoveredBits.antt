@@ -1,10 +1,9 @@
 -- The bits of a recovered word: what the sealed entries of all lanes make of each, or an old word; and where one lane's log alone gives it.
-use Rattle.std.proofs.Common.{◌≡◌, ◌≢◌, ℕ, zero, suc, ◌+◌, ◌-◌, ◌*◌, ◌/◌, ◌%◌, ◌<◌, ◌≤◌, ◌⊎◌, inl, inr, ⊎_elim, min, max, Bool, true, false, cond, not, ◌&&◌, eqb, ◌==◌, List, [], ◌∷◌, ◌++◌, slice_index, refl, sym, ap, ◌∙◌, subst, arith, bit_and, bit_or, Option, None, Some}
+use Rattle.std.proofs.Common.{◌≡◌, ◌≢◌, ℕ, zero, suc, ◌+◌, ◌*◌, ◌<◌, ◌≤◌, ◌⊎◌, inl, inr, ⊎_elim, min, max, Bool, true, false, cond, not, ◌&&◌, eqb, List, [], ◌∷◌, ◌++◌, slice_index, refl, sym, ap, ◌∙◌, arith, bit_and, bit_or, Option, None, Some}
 use Rattle.std.specs.Int.{bit_at}
 use Rattle.std.specs.List.{filter, find, flat_map, range_with_len}
 use Rattle.std.specs.Option.{option_map, option_or}
 use Rattle.std.proofs.lemmas.Bool.{cases_eq, cases_lt, cases_Bool, both_ways, eqb-true, false_from_ne_true}
-use Rattle.std.proofs.lemmas.List.Elements.{filter-append}
 use Rattle.std.proofs.lemmas.List.Folds.{find-append}
 use Rattle.std.proofs.lemmas.Nat.Bits.{bit_at_and, bit_at_or, bit_at-lt}
 use Rattle.pm_record.specs.Redo.{applied, outcome}
@@ -17,7 +16,7 @@ use Rattle.pm_view.specs.Claims.{is_run}
 use Rattle.pm_view.specs.Entries.{op_bit, given_bit, first_of_two}
 use Rattle.pm_world.specs.States.{given, over}
 use Rattle.pm_world.specs.Memory.{bit, huge_told}
-use Rattle.pm_world.proofs.Crashes.{some_of, none_of}
+use Rattle.pm_world.proofs.Crashes.{none_of}
 
 -- what entries make of bit b of word w: the last that gives it does
 abbrev pub entry_bit : List Redo → ℕ → ℕ → Option Bool
@@ -33,7 +32,7 @@ of_word w es = filter (λ e. eqb e.place (8 * w)) es
 
 -- ---- one entry
 
-two_bits : (n : ℕ) → n < 2 → (n ≡ 0) ⊎ (n ≡ 1)
+pub two_bits : (n : ℕ) → n < 2 → (n ≡ 0) ⊎ (n ≡ 1)
 two_bits zero l = inl refl
 two_bits (suc zero) l = inr refl
 two_bits (suc (suc n)) l = absurd (omega arith)

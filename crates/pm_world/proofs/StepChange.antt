@@ -20,7 +20,7 @@ use Rattle.pm_world.specs.States.{given, put1}
 use Rattle.pm_world.specs.Sights.{is_use, is_soiled, sight_of}
 use Rattle.pm_world.specs.Lanes.{owns, SightFits, Flies, flies_at}
 use Rattle.pm_world.specs.Logs.{IsEntryAt, ends_with, AreWhole, AreLeft, AreaChange, IsOld, LogFits}
-use Rattle.pm_world.specs.Lawful.{MayStore, StoreFits, IsNext, Clears}
+use Rattle.pm_world.specs.Lawful.{MayStore, StoreFits, Clears}
 use Rattle.pm_world.specs.Laws.{KeepsAt, Turn}
 use Rattle.pm_world.specs.Memory.{Memory, PoolWord, Becomes, cells_of}
 use Rattle.pm_world.specs.World.{Opening, Views, Past, origin, ghost_of, settled_words, LaneFits, World}
@@ -141,6 +141,7 @@ module _ (o : Opening) (mem new : Memory) (views views' : Views) (g : Past) (x :
           olds = λ p y q i. ((l.olds p y q i).0, λ u. absurd (both_ways true u refl));
           slot_part = λ i q. words_else (8 * line_of_slot o.shape k (length (views k).log.records) + i) (λ t. omega arith) ∙ l.slot_part i q;
           stale = λ i u q z t. l.stale i u q z (sym (ap Rattle.pm_record.specs.Undo.undo_of (λ j. slots i j)) ∙ t);
+          slot_changes = all_cons (λ (c : Undrained). part_of o.shape k c.word ≡ Rattle.pm_view.specs.Parts.SlotPart → c.word < 8 * line_of_slot o.shape k (Rattle.pm_world.specs.Logs.used_slots ((views k).log))) (undrained_by (views k) w) (views k).changes (λ _. omega arith) (λ i d q. let z = ap length c.drained in absurd (omega arith));
           area_changes = all_cons (λ (d : Undrained). AreaChange Clearing (length (views k).log.entries) (views k).log.generation (part_of o.shape k d.word) d) (undrained_by (views k) w) (views k).changes
               (subst (λ q. AreaChange Clearing (length (views k).log.entries) (views k).log.generation q (undrained_by (views k) w)) (sym part) (known_old (views k) w (length (views k).log.entries) (let z = l.entries_most in omega arith) (ap (value_in (views k)) seal_at ∙ c.known)))
               (λ i d q. let z = ap length c.drained in absurd (omega arith));
@@ -217,6 +218,7 @@ module _ (o : Opening) (mem new : Memory) (views views' : Views) (g : Past) (x :
       olds = l.olds;
       slot_part = λ i q. words_else (8 * line_of_slot o.shape k (length (views k).log.records) + i) (λ t. omega arith) ∙ l.slot_part i q;
       stale = λ i u q z y. l.stale i u q z (sym (ap Rattle.pm_record.specs.Undo.undo_of (λ j. slots i j)) ∙ y);
+      slot_changes = all_cons (λ (c : Undrained). part_of o.shape k c.word ≡ Rattle.pm_view.specs.Parts.SlotPart → c.word < 8 * line_of_slot o.shape k (Rattle.pm_world.specs.Logs.used_slots ((views k).log))) (undrained_by (views k) w) (views k).changes (λ _. omega arith) l.slot_changes;
       area_changes = all_cons (λ (d : Undrained). AreaChange (Applying t) (length (views k).log.entries) (views k).log.generation (part_of o.shape k d.word) d) (undrained_by (views k) w) (views k).changes
           (subst (λ q. AreaChange (Applying t) (length (views k).log.entries) (views k).log.generation q (undrained_by (views k) w)) (sym part) (known_old (views k) w (views k).log.generation (let z = l.last in omega arith) known))
           l.area_changes;

@@ -1,7 +1,7 @@
 -- STEPS THAT CHANGE A LANE'S CLAIMS, and of the memory one lock word at most: what they owe beside the bits.
-use Rattle.std.specs.Prelude.{List, [], ◌∷◌, length}
+use Rattle.std.specs.Prelude.{List, length}
 use Rattle.std.specs.List.{list_any}
-use Rattle.std.proofs.Common.{◌≡◌, ◌≢◌, ℕ, suc, ◌+◌, ◌*◌, ◌^◌, ◌<◌, ◌⊎◌, inl, inr, ⊎_elim, Bool, true, false, ◌==◌, refl, sym, ap, ◌∙◌, subst, arith, Option, None, Some}
+use Rattle.std.proofs.Common.{◌≡◌, ◌≢◌, ℕ, suc, ◌+◌, ◌*◌, ◌^◌, ◌<◌, inl, inr, ⊎_elim, true, false, ◌==◌, refl, sym, ap, ◌∙◌, subst, arith, Some}
 use Rattle.std.proofs.lemmas.Bool.{cases_eq, both_ways}
 use Rattle.pm_layout.specs.declared.shape.Shape.{Shape}
 use Rattle.pm_layout.specs.Areas.{word_of_generation, word_of_seal, word_of_entry, line_of_slot}
@@ -10,14 +10,14 @@ use Rattle.pm_view.specs.Limits.{greatest_generation}
 use Rattle.pm_view.specs.Changes.{Undrained}
 use Rattle.pm_view.specs.Counts.{IsAtStop}
 use Rattle.pm_view.specs.Places.{Place, Block, block_of, is_data}
-use Rattle.pm_view.specs.Log.{Phase, Idle, Open, Drawn, Sealing, Applying, Clearing, Retiring, Voiding, Log, is_early, old_of}
+use Rattle.pm_view.specs.Log.{Phase, Idle, Open, Drawn, Sealing, Applying, Clearing, Retiring, Voiding, Log, is_early}
 use Rattle.pm_view.specs.Claims.{Claim, making, pictured}
 use Rattle.pm_view.specs.Steps.{Step}
 use Rattle.pm_view.specs.View.{View, Seen}
-use Rattle.pm_world.specs.States.{State, Diff, Cells, given}
+use Rattle.pm_world.specs.States.{Diff, Cells, given}
 use Rattle.pm_world.specs.Sights.{is_recorded, picture, sight_of}
 use Rattle.pm_world.specs.Lanes.{owns, is_decided, Bits}
-use Rattle.pm_world.specs.Logs.{slot_list, PhaseFits, LogFits}
+use Rattle.pm_world.specs.Logs.{slot_list, PhaseFits}
 use Rattle.pm_world.specs.Memory.{Memory, PoolWord, LockWord, RunWord, ZoneWord, ZoneLock, CommitCounter, StopWord, occ_at, IsSameBut, cells_by, cells_of}
 use Rattle.pm_world.specs.World.{Opening, Views, Past, origin, ghost_of, settled_words, AloneFits, RecordedFits, LaneFits, may_draw, may_draw_count, World}
 use Rattle.pm_world.specs.Laws.{Turn}
@@ -25,7 +25,7 @@ use Rattle.pm_world.proofs.OccWorlds.{early_undecided}
 use Rattle.pm_world.proofs.Cells.{other_sort, occ_sort}
 use Rattle.pm_world.proofs.Counting.{count_same}
 use Rattle.pm_world.proofs.Frame.{Around}
-use Rattle.pm_world.proofs.Worlds.{Aside, world_after}
+use Rattle.pm_world.proofs.Worlds.{world_after}
 
 phase_early : (sh : Shape) (lane : ℕ) (pc pc' : Diff) (l : Log) (changes : List Undrained) (ph : Phase) → is_early ph ≡ true → PhaseFits sh lane pc l changes ph → PhaseFits sh lane pc' l changes ph
 phase_early sh lane pc pc' l changes Idle e f = f
@@ -65,6 +65,7 @@ lane_again o mem new g k v f pools claims' seen' zones' occupancy' phase owned m
     olds = λ p y e b. let z = q.olds p y e b in (owned p b (ap given e) z.0, z.1);
     slot_part = λ i e. pools (8 * line_of_slot o.shape k (length v.log.records) + i) ∙ q.slot_part i e;
     stale = λ j u e a z. q.stale j u e a (sym (ap (λ s. undo_of (slot_list s)) (λ i n. pools (8 * line_of_slot o.shape k j + n) i)) ∙ z);
+    slot_changes = q.slot_changes;
     area_changes = q.area_changes;
     phase = phase;
   };
@@ -101,17 +102,17 @@ module _ (o : Opening) (mem new : Memory) (views views' : Views) (g : Past) (x :
   lane_after : is_early (views k).log.phase ≡ true
       → ((p : Place) (b : ℕ) → is_recorded (views k).log.records p ≡ true → owns g.geo (settled_words o g) (sight_of (views k)).hold p b ≡ true → owns g.geo (settled_words o g) (sight_of claimed_view).hold p b ≡ true)
       → ((p : Place) → is_recorded (views k).log.records p ≡ true → (B : Block) → (sight_of (views k)).hold.here B ≡ true → (sight_of claimed_view).hold.here B ≡ true)
-      → ((p : Place) (b : ℕ) → is_data p ≡ true → given ((sight_of (views k)).picture p b) ≡ true → given ((sight_of claimed_view).picture p b) ≡ true)
+      → ((p : Place) (b : ℕ) → is_recorded (views k).log.records p ≡ true → is_data p ≡ true → given ((sight_of (views k)).picture p b) ≡ true → given ((sight_of claimed_view).picture p b) ≡ true)
       → (o.lanes ≡ 1 → (w y : ℕ) → pictured (views k).fixed.shape claims' w ≡ Some y → mem (PoolWord w) ≡ y) → LaneFits o new g k claimed_view
   lane_after early owned heres seen known = let f = x.each_lane k ink in lane_again o mem new g k (views k) f pool_word claims' seen' (views k).zones (views k).occupancy
       (phase_early o.shape k (sight_of (views k)).picture (sight_of claimed_view).picture (views k).log (views k).changes (views k).log.phase early f.log.phase) owned (λ t. absurd (both_ways (is_decided (views k).log.phase) (early_undecided (views k).log.phase early).0 t))
-      (λ u p q. let y = f.recorded u p q in (y.0, λ b. let z = y.1 b in (heres p q (block_of g.geo p b) z.0, seen p b y.0 z.1))) (λ z. ap (λ n. n == suc k) (zone_lock z) ∙ f.zones z)
+      (λ u p q. let y = f.recorded u p q in (y.0, λ b. let z = y.1 b in (heres p q (block_of g.geo p b) z.0, seen p b q y.0 z.1))) (λ z. ap (λ n. n == suc k) (zone_lock z) ∙ f.zones z)
       (λ one. record { words = λ w y e. pool_word w ∙ known one w y e; occupancy = λ at y e. let z = (f.alone one).occupancy at y e in (same (occ_at at) (occ_sort at (LockWord l) (λ q. omega arith) (λ q. omega arith)) ∙ z.0, z.1) })
 
   pub claims_step : is_early (views k).log.phase ≡ true
       → ((p : Place) (b : ℕ) → is_recorded (views k).log.records p ≡ true → owns g.geo (settled_words o g) (sight_of (views k)).hold p b ≡ true → owns g.geo (settled_words o g) (sight_of claimed_view).hold p b ≡ true)
       → ((p : Place) → is_recorded (views k).log.records p ≡ true → (B : Block) → (sight_of (views k)).hold.here B ≡ true → (sight_of claimed_view).hold.here B ≡ true)
-      → ((p : Place) (b : ℕ) → is_data p ≡ true → given ((sight_of (views k)).picture p b) ≡ true → given ((sight_of claimed_view).picture p b) ≡ true)
+      → ((p : Place) (b : ℕ) → is_recorded (views k).log.records p ≡ true → is_data p ≡ true → given ((sight_of (views k)).picture p b) ≡ true → given ((sight_of claimed_view).picture p b) ≡ true)
       → (o.lanes ≡ 1 → (w y : ℕ) → pictured (views k).fixed.shape claims' w ≡ Some y → mem (PoolWord w) ≡ y)
       → ((m j : ℕ) → j ≢ k → (cells_of o.shape new).writer m j ≡ (cells_of o.shape mem).writer m j) → ((m j : ℕ) → j ≢ k → (cells_of o.shape new).reader m j ≡ (cells_of o.shape mem).reader m j)
       → may_draw claimed_view ≡ may_draw (views k) → Bits o.shape o.lanes (origin o) relocked_cells (λ j. sight_of (views' j)) (ghost_of g) → World o new views' g

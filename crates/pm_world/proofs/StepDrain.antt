@@ -18,10 +18,10 @@ use Rattle.pm_view.specs.Steps.Step.{Drain}
 use Rattle.pm_view.specs.Views.{decided_by, drained_to}
 use Rattle.pm_view.specs.Counts.{IsAtStop}
 use Rattle.pm_view.specs.Counts.{MayCount}
-use Rattle.pm_world.specs.States.{State, Diff, diff, given, live, read, put1, Cells}
-use Rattle.pm_world.specs.Sights.{Sight, is_use, is_soiled, is_recorded, is_slot_drained, is_logged_from, is_logged, fresh, is_made, call_in, sight_of}
-use Rattle.pm_world.specs.Lanes.{Ghost, own, owns, has, left, is_decided, BitFits, TurnFlight, TurnFits, SightFits, settled, Flies, flies_at, Bits}
-use Rattle.pm_world.specs.Logs.{IsRecordAt, slot_list, spelled, ends_with, used_slots, seal_in, BumpFits, PhaseFits, AreWhole, AreLeft, OldFits, AreRestored, LogFits}
+use Rattle.pm_world.specs.States.{State, Diff, given, live, read, put1, Cells}
+use Rattle.pm_world.specs.Sights.{Sight, is_use, is_soiled, is_recorded, is_slot_drained, is_logged_from, fresh, is_made, sight_of}
+use Rattle.pm_world.specs.Lanes.{Ghost, owns, left, is_decided, TurnFlight, SightFits, settled, Flies, flies_at, Bits}
+use Rattle.pm_world.specs.Logs.{slot_list, ends_with, used_slots, seal_in, BumpFits, PhaseFits, AreWhole, LogFits}
 use Rattle.pm_world.specs.Memory.{Memory, PoolWord, CommitCounter, StopWord, bit, cells_of}
 use Rattle.pm_world.specs.World.{Opening, Views, Past, origin, ghost_of, settled_words, NumberFits, AreaFits, LaneFits, World}
 use Rattle.pm_world.specs.Course.{holder_after, past_made, past_decided, past_drained}
@@ -75,6 +75,7 @@ module _ (sh : Shape) (lane generation seal : ℕ) (entry slot : ℕ → ℕ →
     olds = λ p y e. absurd (both_ways false refl (ap given e));
     slot_part = λ i q. absurd (omega arith);
     stale = λ j u _ q e. ⊎_elim (λ (a : j < length l.records). older j u e a) (λ (a : length l.records ≤ j). let z = f.stale j u (used j a) q e in omega arith) (cases_lt j (length l.records));
+    slot_changes = λ i d q. let z = ap length clean in absurd (omega arith);
     area_changes = λ i d q. let z = ap length clean in absurd (omega arith);
     phase = phase;
   }
@@ -104,6 +105,7 @@ module _ (sh : Shape) (lane generation seal : ℕ) (entry slot : ℕ → ℕ →
     olds = λ p y q b. (to p b (f.olds p y q b).0, λ u. absurd (both_ways true u refl));
     slot_part = f.slot_part;
     stale = f.stale;
+    slot_changes = λ i d q. let z = ap length clean in absurd (omega arith);
     area_changes = λ i d q. let z = ap length clean in absurd (omega arith);
     phase = (whole phase.0, record { done = []; are = refl; ends = λ b. absurd (both_ways l.bumped bump b); to_end = λ _. last_of phase.0 }, phase.1, phase.2);
   }

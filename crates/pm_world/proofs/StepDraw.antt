@@ -1,30 +1,26 @@
 -- A LANE DRAWS ITS CALL'S NUMBER.
 use Rattle.std.specs.Prelude.{List, [], ◌∷◌, All, IsTrue, length, is_none}
 use Rattle.std.specs.List.{list_any}
-use Rattle.std.proofs.Common.{◌≡◌, ◌≢◌, ℕ, zero, suc, ◌+◌, ◌*◌, ◌^◌, ◌<◌, ◌≤◌, ◌⊎◌, inl, inr, ⊎_elim, Bool, true, false, cond, nat_lt, ◌==◌, ◌&&◌, ◌||◌, eqb, refl, sym, ap, ◌∙◌, subst, arith, eq-eqb, ne_eqb, Option, None, Some}
+use Rattle.std.proofs.Common.{◌≡◌, ◌≢◌, ℕ, zero, suc, ◌+◌, ◌*◌, ◌^◌, ◌<◌, ◌≤◌, ◌⊎◌, inl, inr, ⊎_elim, Bool, true, false, cond, nat_lt, ◌==◌, ◌&&◌, ◌||◌, refl, sym, ap, ◌∙◌, subst, arith, eq-eqb, ne_eqb, Option, None, Some}
 use Rattle.std.proofs.lemmas.Bool.{cases_eq, cases_Bool, eqb-true, lt-ltb, both_ways, and_from, and_parts, cond-true, cond-false}
 use Rattle.std.proofs.lemmas.List.Folds.{list_any_at}
-use Rattle.pm_layout.specs.declared.shape.Shape.{Shape}
 use Rattle.pm_view.specs.Limits.{greatest_generation}
 use Rattle.pm_layout.specs.Chunks.{line_of_chunk}
-use Rattle.pm_record.specs.declared.redo.Op.{Op}
-use Rattle.pm_record.specs.declared.redo.Op.TheVariants.{Set}
-use Rattle.pm_view.specs.Changes.{Undrained, is_dirty_bit}
+use Rattle.pm_view.specs.Changes.{Undrained}
 use Rattle.pm_view.specs.Places.{Place, InRun, InHuge, Descr, RootWord, Block, Small, Big, Root, header, same_place}
-use Rattle.pm_view.specs.Entries.{Entry, Redo, given_bit, latest, redos, with_redo, turn, first_of_two}
+use Rattle.pm_view.specs.Entries.{Entry, given_bit, latest, redos, with_redo, turn, first_of_two}
 use Rattle.pm_view.specs.Log.{Phase, Idle, Open, Drawn, Recorded, Log, phase_drawn}
 use Rattle.pm_view.specs.Claims.{class, locked, header_in}
 use Rattle.pm_view.specs.Steps.Step.{Draw, NumberSeen}
-use Rattle.pm_view.specs.View.{View, Numbered, runs_one}
+use Rattle.pm_view.specs.View.{View, Numbered}
 use Rattle.pm_view.specs.Views.{after}
 use Rattle.pm_view.specs.Counts.{IsAtStop}
-use Rattle.pm_view.specs.Founds.{Found}
-use Rattle.pm_world.specs.States.{State, Diff, diff, given, over, after_diff, val, root_line, put1, Cells}
+use Rattle.pm_world.specs.States.{diff, given, over, after_diff, val, root_line, put1}
 use Rattle.pm_world.specs.Sights.{Hold, is_use, is_soiled, call_of, call_in, sight_of}
 use Rattle.pm_world.specs.Lanes.{Ghost, own, rights, owns, TurnBefore, TurnFlight, GuardsFit, SightFits, Flies, flies_at}
 use Rattle.pm_world.specs.Logs.{LogFits, AreaChange}
 use Rattle.pm_world.specs.Memory.{Memory, PoolWord, ZoneLock, CommitCounter, StopWord, bit, cells_of}
-use Rattle.pm_world.specs.World.{Opening, Views, Past, origin, ghost_of, settled_words, numbered_by, LaneFits, NumberFits, is_low, may_draw, may_draw_count, World}
+use Rattle.pm_world.specs.World.{Opening, Views, Past, origin, ghost_of, settled_words, numbered_by, LaneFits, NumberFits, is_low, may_draw, World}
 use Rattle.pm_world.specs.Lawful.{HoldsRoot, KeepsRoot, NewBlock, FilledChange, HasDrained, MayDraw}
 use Rattle.pm_world.specs.Course.{is_idle, past_drawn}
 use Rattle.pm_world.specs.Laws.{Turn, Keeps}
@@ -34,7 +30,7 @@ use Rattle.pm_world.proofs.Counting.{count_less}
 use Rattle.pm_world.proofs.Draws.{Longer, settled_same, around, draws, draws_idle}
 use Rattle.pm_world.proofs.Frame.{mine_own, own_has}
 use Rattle.pm_world.proofs.Going.{Turned, at_phase}
-use Rattle.pm_world.proofs.Replays.{put1_here, put1_else, over_none}
+use Rattle.pm_world.proofs.Replays.{put1_here, put1_else}
 use Rattle.pm_world.proofs.Values.{val_word}
 use Rattle.pm_world.proofs.Worlds.{Aside, turned, world_after}
 
@@ -200,6 +196,7 @@ module _ (o : Opening) (mem new : Memory) (views views' : Views) (g : Past) (x :
     olds = l.olds;
     slot_part = l.slot_part;
     stale = l.stale;
+    slot_changes = λ i d q. let z = ap length e in absurd (omega arith);
     area_changes = λ i d q. let z = ap length e in absurd (omega arith);
     phase = (e, a.whole.0, a.whole.1);
   }
@@ -231,6 +228,9 @@ module _ (o : Opening) (mem new : Memory) (views views' : Views) (g : Past) (x :
     olds = l.olds;
     slot_part = l.slot_part;
     stale = l.stale;
+    slot_changes = ⊎_elim (λ (e : (views k).changes ≡ []). λ i d q. let z = ap length e in absurd (omega arith))
+        (λ (e : ((views k).log.records ≡ []) × ((views k).log.entries ≡ []) × All (FilledChange (views k)) (views k).changes). λ i d q s. let c = Rattle.std.specs.Prelude.slice_index_or (views k).changes i d in
+        absurd (both_ways true (sym (subst (λ n. Rattle.pm_world.specs.Lawful.is_chunk_part (Rattle.pm_view.specs.Parts.part_of o.shape n c.word) ≡ true) f.lane (subst (λ t. Rattle.pm_world.specs.Lawful.is_chunk_part (Rattle.pm_view.specs.Parts.part_of t (views k).fixed.lane c.word) ≡ true) f.shape (e.2 i d q).0)) ∙ ap Rattle.pm_world.specs.Lawful.is_chunk_part s) refl)) a.drained;
     area_changes = ⊎_elim (λ (e : (views k).changes ≡ []). λ i d q. let z = ap length e in absurd (omega arith))
         (λ (e : ((views k).log.records ≡ []) × ((views k).log.entries ≡ []) × All (FilledChange (views k)) (views k).changes). λ i d q. let c = Rattle.std.specs.Prelude.slice_index_or (views k).changes i d in
         chunk_change (Rattle.pm_view.specs.Parts.part_of o.shape k c.word) c (subst (λ n. Rattle.pm_world.specs.Lawful.is_chunk_part (Rattle.pm_view.specs.Parts.part_of o.shape n c.word) ≡ true) f.lane (subst (λ s. Rattle.pm_world.specs.Lawful.is_chunk_part (Rattle.pm_view.specs.Parts.part_of s (views k).fixed.lane c.word) ≡ true) f.shape (e.2 i d q).0))) a.drained;

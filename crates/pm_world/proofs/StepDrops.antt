@@ -1,7 +1,7 @@
 -- A drain drops flushed changes and makes chunks runs, at the world.
 use Rattle.std.specs.Prelude.{[], ◌∷◌, List, length, IsSomeAnd}
 use Rattle.std.specs.List.{filter, list_any}
-use Rattle.std.proofs.Common.{◌≡◌, ℕ, suc, ◌+◌, ◌^◌, ◌<◌, ◌≤◌, inl, inr, ⊎_elim, nat_lt, Bool, true, false, cond, not, ◌==◌, ◌&&◌, ◌||◌, refl, sym, ap, ◌∙◌, subst, arith, Option, None, Some}
+use Rattle.std.proofs.Common.{◌*◌, ◌≡◌, ℕ, suc, ◌+◌, ◌^◌, ◌<◌, ◌≤◌, inl, inr, ⊎_elim, nat_lt, Bool, true, false, cond, not, ◌==◌, ◌&&◌, ◌||◌, refl, sym, ap, ◌∙◌, subst, arith, Option, None, Some}
 use Rattle.std.proofs.lemmas.Bool.{cases_Bool, both_ways, eqb-true, and_parts, and_from, or_cases, or_left, or_right, not-true, not_from_false, cond-true, false_from_ne_true}
 use Rattle.std.proofs.lemmas.List.Elements.{All-filter}
 use Rattle.pm_layout.specs.declared.shape.Shape.{Shape}
@@ -203,6 +203,7 @@ module _ (o : Opening) (mem : Memory) (views views' : Views) (g : Past) (x : Wor
           olds = λ p m q b. let y = l.olds p m q b in let z = kept_of p b (ap given q) y.0 in (subst (λ w. owns g.geo S w.hold p b ≡ true) (sym sight_is) (dropped o.shape o.lanes (origin o) cells sights (ghost_of g) x.bits k ink dirty p b z.0 z.1), y.1);
           slot_part = l.slot_part;
           stale = l.stale;
+          slot_changes = All-filter (λ (c : Undrained). not c.flushed) (λ (c : Undrained). Rattle.pm_view.specs.Parts.part_of o.shape k c.word ≡ Rattle.pm_view.specs.Parts.SlotPart → c.word < 8 * Rattle.pm_layout.specs.Areas.line_of_slot o.shape k (Rattle.pm_world.specs.Logs.used_slots (views k).log)) (views k).changes l.slot_changes;
           area_changes = All-filter (λ (c : Undrained). not c.flushed) (λ (c : Undrained). Rattle.pm_world.specs.Logs.AreaChange (views k).log.phase (length (views k).log.entries) (views k).log.generation (Rattle.pm_view.specs.Parts.part_of o.shape k c.word) c) (views k).changes l.area_changes;
           phase = drained_phase o.shape k (sights k).picture (views k).log (views k).changes (views k).log.phase l.phase;
         };

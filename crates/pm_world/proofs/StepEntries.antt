@@ -29,6 +29,7 @@ use Rattle.pm_world.specs.Logs.{AreaChange, IsEntryAt, EntryOf, ends_with, LogFi
 use Rattle.pm_world.specs.Memory.{Memory, PoolWord, LockWord, RunWord, ZoneWord, ZoneLock, CommitCounter, StopWord, occ_at, Becomes, bit, run_told, cells_by, cells_of}
 use Rattle.pm_world.specs.World.{Opening, Views, Past, origin, ghost_of, settled_words, AloneFits, LaneFits, is_header, World}
 use Rattle.pm_world.specs.Laws.{Turn}
+use Rattle.pm_world.proofs.SlotWords.{slot_range}
 use Rattle.pm_world.proofs.AfterStore.{counts_on, stop_stays}
 use Rattle.pm_world.proofs.Counting.{count_same}
 use Rattle.pm_world.proofs.Replays.{put1_else}
@@ -337,6 +338,7 @@ module _ (o : Opening) (mem : Memory) (views : Views) (g : Past) (x : World o me
     olds = l.olds;
     slot_part = λ i q. let r = ap length l.phase.2 in absurd (omega arith);
     stale = λ i u q z t. l.stale i u q z (sym (ap Rattle.pm_record.specs.Undo.undo_of (slots i in_ z)) ∙ t);
+    slot_changes = all_cons (λ (c : Undrained). part_of o.shape k c.word ≡ Rattle.pm_view.specs.Parts.SlotPart → c.word < 8 * line_of_slot o.shape k (Rattle.pm_world.specs.Logs.used_slots (v.log))) change v.changes (λ e. absurd (let r = slot_range o.shape k w e in no_area o.shape p₀ k (w - word_of_generation o.shape k) in_ (omega arith) pair.0 (at_word ∙ omega arith))) l.slot_changes;
     area_changes = all_cons (λ (u : Undrained). Rattle.pm_world.specs.Logs.AreaChange (Applying todo) (length v.log.entries) v.log.generation (part_of o.shape k u.word) u) change v.changes new_change l.area_changes;
     phase = (
       record { front = l.phase.0.front; are = l.phase.0.are; placed = l.phase.0.placed },

@@ -151,7 +151,7 @@ module _ (o : Opening) (mem : Memory) (views : Views) (g : Past) (x : World o me
       claims_step o mem new views views' g x k ink l same (Took l w ∷ (views k).claims) (s ∷ (views k).seen) t early
       (λ p b _ e. subst (λ z. owns g.geo (settled_words o g) z.hold p b ≡ true) (sym sight) (owned_more o.shape o.lanes (origin o) (cells_of o.shape mem) (λ j. sight_of (views j)) (ghost_of g) x.bits k ink n (λ B y. y) (λ m y. or_right (w && (l == m)) (locked (views k).claims m) y) p b e))
       (λ p q B y. took_here sh (views k).fixed.lane (views k).claims (views k).log (views k).changes l w found_held free B ∙ y)
-      (λ p b d y. ap given (took_known sh (views k).fixed.lane (views k).claims (views k).log (views k).changes l w p b d) ∙ y)
+      (λ p b q d y. ap given (took_known sh (views k).fixed.lane (views k).claims (views k).log (views k).changes l w p b d) ∙ y)
       (λ one v y e. ((x.each_lane k ink).alone one).words v y (forgot ((l == 0) && (v == word_of_root sh)) (pictured sh (views k).claims v) y e))
       (λ m j ne. r.writer_else m j (inr ne)) (λ m j ne. r.reader_else m j (inr ne)) draws
       (takes o.shape o.lanes (origin o) (cells_of o.shape mem) (λ j. sight_of (views j)) (ghost_of g) x.bits k ink early l (cells_of o.shape new).writer (cells_of o.shape new).reader w free r (λ i ne. none_.writer i ne) (λ i ne e. (readers e).reader i ne)
@@ -217,7 +217,7 @@ raised line true o mem new views views' g k x ink law moves t = let m = raise_mo
           (λ p b _ e. owned_more o.shape o.lanes (origin o) (cells_of o.shape mem) (λ j. sight_of (views j)) (ghost_of g) x.bits k ink n (λ B y. let z = and_parts (found sh c B) (locked c (header_in sh c B)) y in and_from (found sh c B) ((line == header_in sh c B) || locked c (header_in sh c B)) z.0 (or_right (line == header_in sh c B) (locked c (header_in sh c B)) z.1))
           (λ a y. or_right (line == a) (locked c a) y) p b e)
           (λ p q B y. let z = and_parts (found sh c B) (locked c (header_in sh c B)) y in and_from (found sh c B) ((line == header_in sh c B) || locked c (header_in sh c B)) z.0 (or_right (line == header_in sh c B) (locked c (header_in sh c B)) z.1))
-          (λ p b d y. y)
+          (λ p b r d y. y)
           (λ one w y e. ((x.each_lane k ink).alone one).words w y e) (λ a j ne. r.writer_else a j (inr ne)) (λ a j ne. r.reader_else a j (inr ne)) refl
           (raises o.shape o.lanes (origin o) (cells_of o.shape mem) (λ j. sight_of (views j)) (ghost_of g) x.bits k ink law.allowed.early line (cells_of o.shape new).writer (cells_of o.shape new).reader law.allowed.held r (λ i ne. m.1.writer i ne) (λ i ne. m.2.reader i ne)
           (here sh (Raised line ∷ c)) is (λ j. sight_of (views' j)) record { here = ap sight_of t.here; else_ = λ j ne. ap sight_of (t.else_ j ne) }),
@@ -364,7 +364,7 @@ module _ (o : Opening) (mem new : Memory) (views views' : Views) (g : Past) (x :
       let hi : (B : Block) → here sh (Gave line ∷ c) B ≡ (found sh (Gave line ∷ c) B && (not (line == header o.shape g.geo B) && locked c (header o.shape g.geo B))) = λ B. and_at (found sh (Gave line ∷ c) B) (not (line == header_in sh c B) && locked c (header_in sh c B)) (not (line == header o.shape g.geo B) && locked c (header o.shape g.geo B))
       (λ e. ap (λ a. not (line == a) && locked c a) (header_found o mem views g x k ink B (and_parts (not (line == header_in sh c B)) (found sh c B) e).1)) in
       claims_step o mem new views views' g x k ink line moves.0 (Gave line ∷ c) (views k).seen t early
-      (λ p b e w. ⊎_elim (λ (q : owns g.geo (settled_words o g) gave_held p b ≡ true). q) (λ (q : owns g.geo (settled_words o g) gave_held p b ≡ false). absurd (recorded_kept p b e w q)) (cases_Bool (owns g.geo (settled_words o g) gave_held p b))) recorded_here (λ p b d y. y)
+      (λ p b e w. ⊎_elim (λ (q : owns g.geo (settled_words o g) gave_held p b ≡ true). q) (λ (q : owns g.geo (settled_words o g) gave_held p b ≡ false). absurd (recorded_kept p b e w q)) (cases_Bool (owns g.geo (settled_words o g) gave_held p b))) recorded_here (λ p b r d y. y)
       (λ one w y e. ((x.each_lane k ink).alone one).words w y e) (λ a j ne. r.writer_else a j (inr ne)) (λ a j ne. r.reader_else a j (inr ne)) refl
       (gives o.shape o.lanes (origin o) (cells_of o.shape mem) (λ j. sight_of (views j)) (ghost_of g) x.bits k ink early line (cells_of o.shape new).writer (cells_of o.shape new).reader r (found sh (Gave line ∷ c)) (here sh (Gave line ∷ c)) fi hi
       freed undone (λ j. sight_of (views' j)) record { here = ap sight_of t.here; else_ = λ j ne. ap sight_of (t.else_ j ne) })

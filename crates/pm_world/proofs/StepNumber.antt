@@ -133,6 +133,7 @@ module _ (o : Opening) (mem new : Memory) (views views' : Views) (g : Past) (x :
           olds = λ p y e b. let z = q.olds p y e b in (z.0, λ _. z.1 (ap Rattle.pm_world.specs.Lanes.is_decided idle_));
           slot_part = q.slot_part;
           stale = q.stale;
+          slot_changes = q.slot_changes;
           area_changes = λ i d l. let c = Rattle.std.proofs.Common.get_or (views k).changes i d in area_begins (length (views k).log.entries) (views k).log.generation (part_of o.shape k c.word) c
               (subst (λ ph. AreaChange ph (length (views k).log.entries) (views k).log.generation (part_of o.shape k c.word) c) idle_ (q.area_changes i d l));
           phase = (let e = ap length idle_log.2 in omega arith, let e = ap length idle_log.3 in omega arith);

@@ -1,6 +1,6 @@
 -- Steps that change no word and no claim: the stop word is seen, or is set, and an operation is told.
 use Rattle.std.specs.Prelude.{◌∷◌}
-use Rattle.std.proofs.Common.{◌≡◌, ◌≢◌, ℕ, suc, ◌+◌, ◌<◌, ◌≤◌, ◌⊎◌, inl, inr, ⊎_elim, Bool, true, false, eqb, ◌==◌, refl, sym, ap, ◌∙◌, subst, arith, Option, None, Some}
+use Rattle.std.proofs.Common.{◌≡◌, ◌≢◌, ℕ, ◌+◌, ◌<◌, inl, inr, ⊎_elim, Bool, refl, sym, ap, subst, Option}
 use Rattle.pm_objects.specs.declared.calls.Operation.{Operation}
 use Rattle.pm_objects.specs.declared.history.Value.{Value}
 use Rattle.pm_view.specs.Steps.Step.{StopSeen, Tell}
@@ -8,14 +8,12 @@ use Rattle.pm_view.specs.View.{View}
 use Rattle.pm_view.specs.Views.{after}
 use Rattle.pm_world.specs.Sights.{sight_of}
 use Rattle.pm_world.specs.Lanes.{Flies, SightFits}
-use Rattle.pm_world.specs.Memory.{Memory, PoolWord, ZoneLock, CommitCounter, StopWord, IsSame, cells_of}
-use Rattle.pm_world.specs.World.{Opening, Views, Past, origin, ghost_of, settled_words, LaneFits, may_draw, may_draw_count, World}
+use Rattle.pm_world.specs.Memory.{Memory, CommitCounter, StopWord, IsSame, cells_of}
+use Rattle.pm_world.specs.World.{Opening, Views, Past, origin, ghost_of, settled_words, LaneFits, may_draw, World}
 use Rattle.pm_world.specs.Laws.{Turn, Keeps}
-use Rattle.pm_world.proofs.Cells.{cells_alike}
 use Rattle.pm_world.proofs.Counting.{count_same}
-use Rattle.pm_world.proofs.Frame.{Around}
 use Rattle.pm_world.proofs.Going.{unchanged}
-use Rattle.pm_world.proofs.Worlds.{Aside, turned, world_after}
+use Rattle.pm_world.proofs.Worlds.{turned, world_after}
 use Rattle.pm_view.specs.Counts.{IsAtStop}
 
 -- A STEP WITH NO CHANGE of words, claims, changes or log: the world's clauses go over as they are

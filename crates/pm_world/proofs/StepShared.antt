@@ -27,6 +27,7 @@ use Rattle.pm_world.specs.Logs.{AreaChange, EntryOf}
 use Rattle.pm_world.specs.Memory.{Memory, PoolWord, Becomes}
 use Rattle.pm_world.specs.World.{Opening, Views, Past, World}
 use Rattle.pm_world.proofs.PlacesAt.{is_at}
+use Rattle.pm_world.proofs.Known.{known_so}
 use Rattle.pm_world.proofs.StepApply.{made_word, mask_of, OneWord, same_cell}
 use Rattle.pm_world.proofs.StepChange.{tag, stores_at, clears_seal, applies_generation}
 use Rattle.pm_world.proofs.StepEntries.{pair, change, next_place, entry_applied, applies_root, applies_descriptor, applies_chunk}
@@ -160,3 +161,13 @@ decided_stores w n o old mem views new g k x ink law e moves t = go (views k).lo
     go Clearing q a b d = stores_at Clearing q (λ w n o mem new views views' g k x ink m due e part c moves t. absurd c) w n o old mem views new g k x ink law a b moves t
     go (Retiring m) q a b d = absurd (both_ways false refl d)
     go Voiding q a b d = absurd (both_ways false refl d)
+
+known_is_so : KnownIsSo
+known_is_so o mem views g k x ink w inside = known_so o mem views g x k ink w
+
+-- ORs and ANDs keep the world
+pub or_keeps : (w bits found : ℕ) → Keeps (Or w bits found)
+or_keeps = or_from known_is_so
+
+pub and_keeps : (w bits found : ℕ) → Keeps (And w bits found)
+and_keeps = and_from known_is_so

@@ -1,30 +1,27 @@
 -- STEPS THAT CHANGE NO BIT: zones' locks are tried and given back, the stop word is set.
-use Rattle.std.specs.Prelude.{List, [], ◌∷◌, IsTrue, IfSome}
+use Rattle.std.specs.Prelude.{List, [], ◌∷◌}
 use Rattle.std.specs.List.{filter, list_any}
-use Rattle.std.proofs.Common.{◌≡◌, ◌≢◌, ℕ, suc, ◌+◌, ◌*◌, ◌/◌, ◌^◌, ◌<◌, ◌⊎◌, inl, inr, ⊎_elim, Bool, true, false, cond, not, ◌&&◌, ◌||◌, eqb, ◌==◌, refl, sym, ap, ◌∙◌, subst, arith, eq-eqb, ne_eqb, Option, None, Some}
-use Rattle.std.proofs.lemmas.Bool.{cases_eq, cases_Bool, eqb-true, both_ways, or_parts}
+use Rattle.std.proofs.Common.{◌≡◌, ◌≢◌, ℕ, suc, ◌+◌, ◌*◌, ◌^◌, ◌<◌, ◌⊎◌, inl, inr, ⊎_elim, Bool, true, false, cond, not, ◌||◌, ◌==◌, refl, sym, ap, ◌∙◌, subst, arith, eq-eqb, ne_eqb}
+use Rattle.std.proofs.lemmas.Bool.{cases_eq, eqb-true, both_ways}
 use Rattle.pm_layout.specs.declared.shape.Shape.{Shape}
 use Rattle.pm_layout.specs.Areas.{word_of_generation, word_of_seal, word_of_entry, line_of_slot}
-use Rattle.pm_view.specs.declared.occ.Occ.{Occ}
-use Rattle.pm_view.specs.declared.occ.Occ.TheVariants.{Run, Zone}
 use Rattle.pm_view.specs.Limits.{greatest_generation}
 use Rattle.pm_view.specs.Counts.{IsAtStop}
 use Rattle.pm_view.specs.Steps.{Step}
-use Rattle.pm_view.specs.Steps.Step.{ZoneTry, ZoneGive, Occupied, SetStop}
-use Rattle.pm_view.specs.View.{View, Seen}
-use Rattle.pm_view.specs.Views.{after, is_same_occ, occupancy_of, with_seen_at}
+use Rattle.pm_view.specs.Steps.Step.{ZoneTry, ZoneGive, SetStop}
+use Rattle.pm_view.specs.View.{View}
 use Rattle.pm_world.specs.States.{State, Cells}
 use Rattle.pm_world.specs.Sights.{Sight, sight_of}
-use Rattle.pm_world.specs.Lanes.{Ghost, SightFits, Bits}
+use Rattle.pm_world.specs.Lanes.{Ghost, Bits}
 use Rattle.pm_world.specs.Memory.{Location, Memory, PoolWord, LockWord, RunWord, ZoneWord, ZoneLock, CommitCounter, StopWord, occ_at, IsSame, cells_by, cells_of}
-use Rattle.pm_world.specs.World.{Opening, Views, Past, origin, ghost_of, settled_words, AloneFits, LaneFits, may_draw, may_draw_count, World}
+use Rattle.pm_world.specs.World.{Opening, Views, Past, origin, ghost_of, settled_words, LaneFits, may_draw, may_draw_count, World}
 use Rattle.pm_world.specs.Laws.{Turn, Keeps}
 use Rattle.pm_world.proofs.Cells.{sort, other_sort, other_number, occ_sort}
 use Rattle.pm_world.proofs.Counting.{count_same}
 use Rattle.pm_world.proofs.Frame.{Around}
 use Rattle.pm_world.proofs.StepClaims.{lane_again}
 use Rattle.pm_world.proofs.StepPlain.{plain_step}
-use Rattle.pm_world.proofs.Worlds.{Aside, world_after}
+use Rattle.pm_world.proofs.Worlds.{world_after}
 
 -- the bits say nothing of zones' locks and of the stop word
 bits_aside : (sh : Shape) (L : ℕ) (o : State) (cells : Cells) (sights sights' : ℕ → Sight) (g : Ghost) (zone : ℕ → ℕ) (stop : ℕ) → ((j : ℕ) → sights' j ≡ sights j) → Bits sh L o cells sights g → Bits sh L o (record cells { zone = zone; stop = stop }) sights' g

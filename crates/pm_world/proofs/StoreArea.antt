@@ -3,7 +3,7 @@ use Rattle.std.specs.Prelude.{List, [], ◌∷◌, length, bit_and, not}
 use Rattle.std.specs.List.{list_any}
 use Rattle.std.specs.Int.{bit_at}
 use Rattle.std.specs.Option.{option_map}
-use Rattle.std.proofs.Common.{◌≡◌, ◌≢◌, ℕ, suc, ◌+◌, ◌*◌, ◌/◌, ◌<◌, ◌≤◌, Bool, true, false, cond, eqb, ◌==◌, ◌&&◌, ◌||◌, refl, sym, ap, ◌∙◌, subst, arith, ne_eqb, Option, None, Some}
+use Rattle.std.proofs.Common.{◌≡◌, ◌≢◌, ℕ, suc, ◌+◌, ◌/◌, ◌<◌, Bool, true, false, cond, ◌==◌, ◌&&◌, ◌||◌, refl, sym, ap, ◌∙◌, subst, arith, ne_eqb, None, Some}
 use Rattle.std.proofs.lemmas.Bool.{cond-false}
 use Rattle.pm_layout.specs.declared.shape.Shape.{Shape}
 use Rattle.pm_layout.specs.Areas.{word_of_generation, line_of_slot}
@@ -15,13 +15,13 @@ use Rattle.pm_view.specs.Log.{Phase, Recorded, Log, old_in}
 use Rattle.pm_view.specs.Places.{Place, InRun, InHuge, Descr, RootWord, Block, word_of, is_place, twin}
 use Rattle.pm_view.specs.View.{View}
 use Rattle.pm_view.specs.Views.{value_in}
-use Rattle.pm_world.specs.States.{State, Diff, Cells, read, given, put1}
+use Rattle.pm_world.specs.States.{State, Diff, Cells, given, put1}
 use Rattle.pm_world.specs.Sights.{Hold, Sight, hold_of, is_pictured, picture, is_use, is_soiled, is_slot_drained, is_logged_from, is_logged, call_of, sight_of}
 use Rattle.pm_world.specs.Lanes.{Ghost, owns, Flies, flies_at, SightFits}
 use Rattle.pm_world.specs.Logs.{LogFits}
 use Rattle.pm_world.specs.Lawful.{MayStore}
 use Rattle.pm_world.specs.Laws.{Turn}
-use Rattle.pm_world.specs.Memory.{Memory, PoolWord, LockWord, RunWord, ZoneWord, ZoneLock, CommitCounter, StopWord, Becomes, bit, huge_told, run_told, bits_of, descriptor_told, occupancy_bit, cells_by, cells_of}
+use Rattle.pm_world.specs.Memory.{Memory, PoolWord, LockWord, RunWord, ZoneWord, ZoneLock, CommitCounter, StopWord, Becomes, bit, bits_of, descriptor_told, cells_by, cells_of}
 use Rattle.pm_world.specs.World.{Opening, Views, Past, ghost_of, settled_words, NumberFits, AreaFits, World}
 use Rattle.pm_world.proofs.AfterStore.{after_store, store_world}
 use Rattle.pm_world.proofs.Cells.{cells_stored, bits_else, descriptor_else}

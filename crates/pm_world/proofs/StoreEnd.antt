@@ -1,10 +1,9 @@
 -- THE STORES THAT DECIDE, and the one that aborts: the seal, and the next generation.
-use Rattle.std.specs.Prelude.{List, [], ◌∷◌, length, slice_get, slice_index, bit_and, if◌then◌else◌}
+use Rattle.std.specs.Prelude.{List, [], ◌∷◌, length, bit_and, if◌then◌else◌}
 use Rattle.std.specs.Option.{option_map}
-use Rattle.std.proofs.Common.{◌≡◌, ◌≢◌, ℕ, zero, suc, ◌+◌, ◌*◌, ◌/◌, ◌%◌, ◌^◌, ◌<◌, ◌≤◌, ◌⊎◌, inl, inr, ⊎_elim, Bool, true, false, cond, ◌==◌, ◌&&◌, ◌||◌, refl, sym, ap, ◌∙◌, subst, arith, Option, None, Some}
+use Rattle.std.proofs.Common.{◌≡◌, ◌≢◌, ℕ, suc, ◌+◌, ◌*◌, ◌/◌, ◌%◌, ◌^◌, ◌<◌, Bool, true, false, cond, ◌==◌, ◌&&◌, refl, sym, ap, ◌∙◌, subst, arith, None, Some}
 use Rattle.std.proofs.lemmas.Bool.{eqb-true, both_ways, cond_both}
 use Rattle.std.proofs.lemmas.Nat.{and_mask}
-use Rattle.std.proofs.lemmas.Option.{slice_get_within}
 use Rattle.std.proofs.Math.Nat.{mod-eq_of_lt}
 use Rattle.pm_layout.specs.declared.shape.Shape.{Shape}
 use Rattle.pm_layout.specs.Areas.{word_of_generation, word_of_seal, word_of_entry, line_of_slot}
@@ -15,19 +14,19 @@ use Rattle.pm_view.specs.Changes.{Undrained, is_dirty_bit}
 use Rattle.pm_view.specs.Counts.{MayCount}
 use Rattle.pm_view.specs.Entries.{Entry, latest, redos, turn}
 use Rattle.pm_view.specs.Limits.{greatest_generation}
-use Rattle.pm_view.specs.Log.{Phase, Idle, Open, Drawn, Sealing, Retiring, Voiding, Log}
+use Rattle.pm_view.specs.Log.{Phase, Open, Drawn, Sealing, Retiring, Voiding, Log}
 use Rattle.pm_view.specs.Parts.{Part, GenerationPart, SealPart, EntryPart, SlotPart, RootPart, DescriptorPart, ChunkPart, OtherPart, is_entry_word, is_slot_word, pool_part, part_of}
 use Rattle.pm_view.specs.Places.{Place, Block, Small, Big, Root}
 use Rattle.pm_view.specs.View.{View}
 use Rattle.pm_view.specs.Views.{part_in, value_in}
-use Rattle.pm_world.specs.States.{State, Diff, put1}
-use Rattle.pm_world.specs.Sights.{is_use, call_of, sight_of}
+use Rattle.pm_world.specs.States.{put1}
+use Rattle.pm_world.specs.Sights.{is_use, sight_of}
 use Rattle.pm_world.specs.Lanes.{owns, SightFits, Flies, flies_at}
 use Rattle.pm_world.specs.Lawful.{Seals, EndsGeneration, Voids, MayStore}
 use Rattle.pm_world.specs.Logs.{LogFits, IsOld, AreaChange, BumpFits, PhaseFits, seal_in, slot_list}
 use Rattle.pm_world.specs.Laws.{KeepsAt, Turn}
 use Rattle.pm_world.specs.Memory.{Memory, PoolWord, Becomes, cells_of}
-use Rattle.pm_world.specs.World.{Opening, Views, Past, origin, ghost_of, settled_words, NumberFits, LaneFits, World}
+use Rattle.pm_world.specs.World.{Opening, Views, Past, origin, ghost_of, settled_words, NumberFits, World}
 use Rattle.pm_world.proofs.AfterStore.{after_store, keeps_at}
 use Rattle.pm_world.proofs.Going.{at_phase}
 use Rattle.pm_world.proofs.Replays.{put1_here, put1_else}
@@ -111,6 +110,7 @@ module _ (w n i : ℕ) (o : Opening) (mem new : Memory) (views views' : Views) (
     olds = λ p y q c. let t = l.olds p y q c in (t.0, λ u. t.1 (sym same ∙ u));
     slot_part = λ j q. slot_else (length (views k).log.records) j ∙ l.slot_part j q;
     stale = λ j u q z t. l.stale j u q z (sym (ap undo_of (slots j)) ∙ t);
+    slot_changes = all_cons (λ (c : Undrained). part_of o.shape k c.word ≡ Rattle.pm_view.specs.Parts.SlotPart → c.word < 8 * line_of_slot o.shape k (Rattle.pm_world.specs.Logs.used_slots ((views k).log))) (undrained_by (views k) w) (views k).changes (λ _. omega arith) (λ j d q. let z = ap length clean in absurd (omega arith));
     area_changes = all_cons (λ (c : Undrained). AreaChange ph (length (views k).log.entries) (views k).log.generation (part_of o.shape k c.word) c) (undrained_by (views k) w) (views k).changes change (λ j d q. let z = ap length clean in absurd (omega arith));
     phase = phase;
   }
@@ -158,9 +158,22 @@ module _ (w n i : ℕ) (o : Opening) (mem new : Memory) (views views' : Views) (
   voiding : i ≡ 0 → (views k).log.phase ≡ Open → part_in (views k) w ≡ GenerationPart → Voids (views k) n → Turn views views' k (after_store (views k) w n (record (views k).log { phase = Voiding; bumped = true })) → World o new views' g
   voiding z e p a t = let l = old_log Open e in let f = old_sight Open e in
       world_in Voiding true refl (ap Rattle.pm_world.specs.Lanes.is_decided e) (λ j y. subst (λ z. flies_at z j) e y)
-      record { hold = f.hold; bits = f.bits; picture = f.picture; turns = no_turn (views k).log.entries a.ends.unentered; call = record { flight = tt; todo = f.call.todo; descr = f.call.descr }; reach = f.reach; plain = f.plain; logged = f.logged; stored = f.stored; fresh = f.fresh; sizes = f.sizes;
-      born = λ y. absurd (both_ways false refl y); guarded = λ y. absurd (both_ways false refl y);
-      soiled = λ q c y. absurd (both_ways false refl (sym (ap (λ cs. is_use (sight_of (views k)).hold q && is_dirty_bit cs (Rattle.pm_view.specs.Places.word_of (views k).fixed.shape q) c) clean ∙ and_false (is_use (sight_of (views k)).hold q)) ∙ y)) }
+      record {
+        hold = f.hold;
+        bits = f.bits;
+        picture = f.picture;
+        turns = no_turn (views k).log.entries a.ends.unentered;
+        call = record { flight = tt; todo = f.call.todo; descr = f.call.descr };
+        reach = f.reach;
+        plain = f.plain;
+        logged = f.logged;
+        stored = f.stored;
+        fresh = f.fresh;
+        sizes = f.sizes;
+        born = λ y. absurd (both_ways false refl y);
+        guarded = λ y. absurd (both_ways false refl y);
+        soiled = λ q c y. absurd (both_ways false refl (sym (ap (λ cs. is_use (sight_of (views k)).hold q && is_dirty_bit cs (Rattle.pm_view.specs.Places.word_of (views k).fixed.shape q) c) clean ∙ and_false (is_use (sight_of (views k)).hold q)) ∙ y));
+      }
       (log_in Open Voiding true e refl (below_of a.ends.below) (generation_here z a.ends.next) refl (else_ (word_of_seal o.shape k) (λ q. omega arith) ∙ l.sealed)
       (subst (λ q. AreaChange Voiding (length (views k).log.entries) (views k).log.generation q (undrained_by (views k) w)) (sym (part_at GenerationPart p)) (old_generation z a.ends.known))
       (a.ends.unentered, a.whole.0, a.whole.1, a.restored)) (subst (λ z. NumberFits z (views k).number) e (x.each_lane k ink).number) t

@@ -1,43 +1,40 @@
 -- A WORD OF AN ENTRY is stored: an entry is whole with its second word.
 use Rattle.std.specs.Prelude.{List, [], ◌∷◌, ◌++◌, All, length, take, slice_index, slice_get, IfSome}
-use Rattle.std.proofs.Common.{◌≡◌, ◌≢◌, ℕ, zero, suc, ◌+◌, ◌*◌, ◌/◌, ◌%◌, ◌^◌, ◌<◌, ◌≤◌, ◌⊎◌, inl, inr, ⊎_elim, Bool, true, false, cond, ◌==◌, ◌&&◌, ◌||◌, refl, sym, ap, ◌∙◌, subst, arith, Option, None, Some}
-use Rattle.std.proofs.lemmas.Bool.{cases_eq, cases_Bool, both_ways, and_parts, or_left, or_right}
+use Rattle.std.proofs.Common.{◌≡◌, ◌≢◌, ℕ, zero, suc, ◌+◌, ◌*◌, ◌/◌, ◌%◌, ◌^◌, ◌<◌, ◌≤◌, ◌⊎◌, inl, inr, ⊎_elim, true, false, ◌||◌, refl, sym, ap, ◌∙◌, subst, arith, Option, None, Some}
+use Rattle.std.proofs.lemmas.Bool.{cases_eq, cases_Bool, and_parts, or_left, or_right}
 use Rattle.std.proofs.lemmas.List.{length-append}
 use Rattle.std.proofs.lemmas.Option.{slice_get_within}
 use Rattle.std.proofs.Math.Nat.{pow-suc, div-one, mod-eq_of_lt}
-use Rattle.pm_layout.specs.declared.shape.Shape.{Shape}
 use Rattle.pm_layout.specs.Areas.{word_of_entry, word_of_generation, line_of_slot, redo_entries}
 use Rattle.pm_record.specs.Redo.{op_code, op_of}
 use Rattle.pm_record.specs.declared.redo.Op.{Op}
 use Rattle.pm_record.specs.declared.redo.Op.TheVariants.{Set, Or, And}
 use Rattle.pm_record.specs.Undo.{undo_of}
-use Rattle.pm_view.specs.Bits.{all_bits}
 use Rattle.pm_view.specs.Changes.{Undrained}
-use Rattle.pm_view.specs.Claims.{class, pictured}
+use Rattle.pm_view.specs.Claims.{class}
 use Rattle.pm_view.specs.Counts.{MayCount}
 use Rattle.pm_view.specs.Entries.{Entry, entry_head}
-use Rattle.pm_view.specs.Log.{Phase, Open, Log, place_at, entered, with_pair}
+use Rattle.pm_view.specs.Log.{Open, Log, place_at, entered, with_pair}
 use Rattle.pm_view.specs.Parts.{Part, GenerationPart, SealPart, EntryPart, SlotPart, RootPart, DescriptorPart, ChunkPart, OtherPart, part_of}
-use Rattle.pm_view.specs.Places.{Place, InRun, InHuge, Descr, RootWord, Block, Root, is_place, word_of}
-use Rattle.pm_view.specs.View.{View}
+use Rattle.pm_view.specs.Places.{Place, RootWord, Root, is_place, word_of}
 use Rattle.pm_view.specs.Views.{value_in}
-use Rattle.pm_world.specs.States.{State, Diff, Cells, read, val, root_line, put1}
-use Rattle.pm_world.specs.Sights.{Sight, call_of, sight_of}
-use Rattle.pm_world.specs.Lanes.{Ghost, own, all_held, rights, owns, SightFits, Flies}
+use Rattle.pm_world.specs.States.{val, root_line, put1}
+use Rattle.pm_world.specs.Sights.{call_of, sight_of}
+use Rattle.pm_world.specs.Lanes.{all_held, rights, owns, SightFits, Flies}
 use Rattle.pm_world.specs.Lawful.{HoldsRoot, AppendsToPair, EntersWord, MayStore}
 use Rattle.pm_world.specs.Logs.{LogFits, IsEntryAt, AreaChange, EntryOf}
 use Rattle.pm_world.specs.Laws.{KeepsAt, Turn}
 use Rattle.pm_world.specs.Memory.{Memory, PoolWord, Becomes, bit, cells_of}
-use Rattle.pm_world.specs.World.{Opening, Views, Past, origin, ghost_of, settled_words, NumberFits, LaneFits, World}
-use Rattle.pm_world.proofs.AfterStore.{after_store, KeepsWith, keeps_at}
+use Rattle.pm_world.specs.World.{Opening, Views, Past, origin, ghost_of, settled_words, LaneFits, World}
+use Rattle.pm_world.proofs.AfterStore.{after_store, keeps_at}
 use Rattle.pm_world.proofs.EntryBits.{enters, enters_none}
 use Rattle.pm_world.proofs.Entering.{added, Enters, val_alike, entered_fits}
 use Rattle.pm_world.proofs.Frame.{root_apart}
 use Rattle.pm_world.proofs.Going.{at_phase}
-use Rattle.pm_world.proofs.PlacesAt.{HasUse, IsAt, is_at}
+use Rattle.pm_world.proofs.PlacesAt.{is_at}
 use Rattle.pm_world.proofs.Replays.{put1_here, put1_else}
 use Rattle.pm_world.proofs.StepDraw.{all_cons}
-use Rattle.pm_world.proofs.StoreArea.{undrained_by, logged_else, sight_from, apart_in, Logged, area_world}
+use Rattle.pm_world.proofs.StoreArea.{undrained_by, logged_else, sight_from, Logged, area_world}
 use Rattle.pm_world.proofs.Values.{val_from, val_word}
 
 -- ---- numbers that have the same bits
@@ -176,6 +173,7 @@ module _ (w n : ℕ) (o : Opening) (mem new : Memory) (views views' : Views) (g 
     olds = l.olds;
     slot_part = λ j q. let u = l.records_most in let s = l.phase.0 in slot_else (length (views k).log.records) j (omega arith) (omega arith) ∙ l.slot_part j q;
     stale = λ j u q z t. l.stale j u q z (sym (ap undo_of (slots j z)) ∙ t);
+    slot_changes = all_cons (λ (c : Undrained). part_of o.shape k c.word ≡ Rattle.pm_view.specs.Parts.SlotPart → c.word < 8 * line_of_slot o.shape k (Rattle.pm_world.specs.Logs.used_slots ((views k).log))) (undrained_by (views k) w) (views k).changes (λ _. let e = lane_at in let s = short in let r = free in omega arith) l.slot_changes;
     area_changes = all_cons (λ (c : Undrained). AreaChange Open (length es') (views k).log.generation (part_of o.shape k c.word) c) (undrained_by (views k) w) (views k).changes
         (subst (λ p. AreaChange Open (length es') (views k).log.generation p (undrained_by (views k) w)) (sym (subst (λ i. part_of o.shape i w ≡ EntryPart) (x.each_lane k ink).lane (subst (λ s. part_of s (views k).fixed.lane w ≡ EntryPart) (x.each_lane k ink).shape in_entry))) tt)
         (λ j d q. let c = Rattle.std.specs.Prelude.slice_index_or (views k).changes j d in open_change (length (views k).log.entries) (length es') (views k).log.generation (views k).log.generation (part_of o.shape k c.word) c (l.area_changes j d q));

@@ -1,24 +1,23 @@
 -- A WORD OF AN UNDO RECORD is stored: a record is whole with its eighth word.
-use Rattle.std.specs.Prelude.{List, [], ◌∷◌, ◌++◌, All, length, take, replicate, slice_index, slice_get, unwrap_or}
+use Rattle.std.specs.Prelude.{List, [], ◌∷◌, ◌++◌, length, take, slice_index, slice_get, unwrap_or}
 use Rattle.std.proofs.Common.{◌||◌, ◌≡◌, ◌≢◌, ℕ, zero, suc, ◌+◌, ◌-◌, ◌*◌, ◌/◌, ◌^◌, ◌<◌, ◌≤◌, ◌⊎◌, inl, inr, ⊎_elim, nat_le, nat_lt, Bool, true, false, cond, ◌==◌, ◌&&◌, refl, sym, ap, ◌∙◌, subst, arith, ne_eqb, Option, None, Some}
 use Rattle.std.proofs.lemmas.Bool.{leb-true, cases_lt, cases_Bool, eqb-true, both_ways, and_parts, and_from, cond-true, cond-false, false_from_ne_true}
-use Rattle.std.proofs.lemmas.List.{length-append, get_or-take}
+use Rattle.std.proofs.lemmas.List.{length-append}
 use Rattle.std.proofs.lemmas.Option.{slice_get_within}
 use Rattle.std.proofs.Math.ListN.{get_or-append}
 use Rattle.std.proofs.Math.Seq.{get_or-append_seam}
 use Rattle.pm_layout.specs.declared.shape.Shape.{Shape}
 use Rattle.pm_layout.specs.Areas.{word_of_generation, word_of_seal, word_of_entry, line_of_slot}
 use Rattle.pm_record.specs.Undo.{undo_of}
-use Rattle.pm_record.specs.declared.undo.Undo.{Undo}
 use Rattle.pm_view.specs.Changes.{Undrained}
 use Rattle.pm_view.specs.Claims.{class, first, pictured}
 use Rattle.pm_view.specs.Counts.{MayCount}
 use Rattle.pm_view.specs.Limits.{greatest_generation}
-use Rattle.pm_view.specs.Log.{Phase, Open, Recorded, Log, old_in, old_of, place_at, recorded, with_slot}
+use Rattle.pm_view.specs.Log.{Open, Recorded, Log, old_in, old_of, place_at, recorded, with_slot}
 use Rattle.pm_view.specs.Parts.{Part, SlotPart, part_of}
 use Rattle.pm_view.specs.Places.{Place, InRun, InHuge, Descr, RootWord, Small, Big, block_of, is_data, is_place, word_of, place_after, distance}
 use Rattle.pm_view.specs.View.{View}
-use Rattle.pm_world.specs.States.{State, Diff, Cells, given, live, read, put1}
+use Rattle.pm_world.specs.States.{given, read, put1}
 use Rattle.pm_world.specs.Sights.{is_pictured, is_recorded, is_logged, call_of, sight_of}
 use Rattle.pm_world.specs.Lanes.{owns, SightFits, Flies}
 use Rattle.pm_world.specs.Lawful.{CanRecordAt, AppendsToSlot, MayStore}
@@ -149,6 +148,8 @@ module _ (w n : ℕ) (o : Opening) (mem new : Memory) (views views' : Views) (g 
     olds = λ p y q c. let t = olds p y q c in (t.0, λ _. t.1);
     slot_part = parts;
     stale = λ j u q z t. let s = used in let ne : j ≢ length (views k).log.records = λ e. omega arith in l.stale j u (let r = used_most (length (views k).log.records) (length (views k).log.slot) in omega arith) z (sym (ap undo_of (slots j ne)) ∙ t);
+    slot_changes = all_cons (λ (c : Undrained). part_of o.shape k c.word ≡ Rattle.pm_view.specs.Parts.SlotPart → c.word < 8 * line_of_slot o.shape k (Rattle.pm_world.specs.Logs.used_slots (record (views k).log { records = rs'; slot = slot' }))) (undrained_by (views k) w) (views k).changes (λ _. let e = lane_at in let s = short in let u = used in omega arith)
+        (λ i d q p. let z = l.slot_changes i d q p in let r = used_most (length (views k).log.records) (length (views k).log.slot) in let u = used in omega arith);
     area_changes = all_cons (λ (c : Undrained). AreaChange Open (length (views k).log.entries) (views k).log.generation (part_of o.shape k c.word) c) (undrained_by (views k) w) (views k).changes
         (subst (λ p. AreaChange Open (length (views k).log.entries) (views k).log.generation p (undrained_by (views k) w)) (sym (subst (λ i. part_of o.shape i w ≡ SlotPart) (x.each_lane k ink).lane (subst (λ s. part_of s (views k).fixed.lane w ≡ SlotPart) (x.each_lane k ink).shape in_slot))) tt) l.area_changes;
     phase = (few, l.phase.1);

@@ -1,8 +1,8 @@
 -- A USER WORD IS STORED: under its drained record, or in a block of the lane's own.
-use Rattle.std.specs.Prelude.{List, [], ◌∷◌, All, length, not}
+use Rattle.std.specs.Prelude.{[], ◌∷◌, length, not}
 use Rattle.std.specs.Int.{bit_at}
 use Rattle.std.specs.Option.{option_map}
-use Rattle.std.proofs.Common.{◌≡◌, ◌≢◌, ℕ, zero, suc, ◌+◌, ◌-◌, ◌*◌, ◌/◌, ◌%◌, ◌<◌, ◌≤◌, ◌⊎◌, inl, inr, ⊎_elim, nat_le, nat_lt, Bool, true, false, cond, ◌==◌, ◌&&◌, ◌||◌, eqb, refl, sym, ap, ◌∙◌, subst, arith, eq-eqb, ne_eqb, Option, None, Some}
+use Rattle.std.proofs.Common.{◌≡◌, ◌≢◌, ℕ, ◌+◌, ◌-◌, ◌*◌, ◌/◌, ◌%◌, ◌<◌, ◌≤◌, ◌⊎◌, inl, inr, ⊎_elim, nat_le, nat_lt, Bool, true, false, cond, ◌==◌, ◌&&◌, ◌||◌, refl, sym, ap, ◌∙◌, subst, arith, eq-eqb, ne_eqb, Option, None, Some}
 use Rattle.std.proofs.lemmas.Bool.{cases_eq, cases_lt, cases_Bool, eqb-true, ltb-true, lt-ltb, both_ways, and_parts, and_from, or_cases, or_left, or_right, cond-false, false_from_ne_true}
 use Rattle.pm_layout.specs.declared.shape.Shape.{Shape}
 use Rattle.pm_layout.specs.Areas.{word_of_generation, word_of_seal, word_of_entry, line_of_slot}
@@ -20,15 +20,16 @@ use Rattle.pm_view.specs.View.{View}
 use Rattle.pm_view.specs.Views.{part_in}
 use Rattle.pm_world.specs.States.{State, Diff, Cells, given, there, live, shown, bright_huge, cell, read, put1}
 use Rattle.pm_world.specs.Sights.{Hold, is_pictured, picture, is_use, is_recorded, is_logged, sight_of}
-use Rattle.pm_world.specs.Lanes.{Ghost, own, owns, is_in_making, is_decided, in_flight, open_soils, soils, FlightFits, SightFits, Flies, GeoFits, TurnBefore}
+use Rattle.pm_world.specs.Lanes.{Ghost, own, owns, is_in_making, is_decided, in_flight, open_soils, soils, FlightFits, SightFits, Flies, TurnBefore}
 use Rattle.pm_world.specs.Lawful.{MayWrite, MayFill, MayStore}
 use Rattle.pm_world.specs.Logs.{slot_list, AreaChange, LogFits}
 use Rattle.pm_world.specs.Laws.{Turn}
 use Rattle.pm_world.specs.Memory.{Memory, PoolWord, LockWord, RunWord, ZoneWord, ZoneLock, CommitCounter, StopWord, Becomes, bit, huge_told, run_told, bits_of, descriptor_told, cells_by, cells_of}
 use Rattle.pm_world.specs.World.{Opening, Views, Past, origin, ghost_of, settled_words, World}
+use Rattle.pm_world.proofs.SlotWords.{slot_range}
 use Rattle.pm_world.proofs.AfterStore.{after_store, store_world, keeps_at}
 use Rattle.pm_world.proofs.Cells.{cells_stored, bits_else, descriptor_else}
-use Rattle.pm_world.proofs.Entering.{block_known, logged_recorded}
+use Rattle.pm_world.proofs.Entering.{block_known}
 use Rattle.pm_world.proofs.EntryBits.{data_bit, huge_plain, run_plain}
 use Rattle.pm_world.proofs.Frame.{mine_own, own_has, no_run, small_cases}
 use Rattle.pm_world.proofs.Going.{at_phase}
@@ -39,7 +40,7 @@ use Rattle.pm_world.proofs.StoreArea.{area_apart, undrained_by, logged_else}
 use Rattle.pm_world.proofs.Stored.{OwnWords}
 use Rattle.pm_world.specs.Laws.{KeepsAt}
 use Rattle.pm_world.proofs.WordsApart.{one_cell}
-use Rattle.pm_world.proofs.Writing.{Writes, one_cell_twin, written_fits}
+use Rattle.pm_world.proofs.Writing.{Writes, written_fits}
 
 -- ---- places that are one word
 twin_twin : (p : Place) → twin (twin p) ≡ p
@@ -172,8 +173,10 @@ module _ (w n : ℕ) (o : Opening) (mem new : Memory) (views views' : Views) (g 
 
   places : (p : Place) → (p ≡ p₀) ⊎ ((p ≡ twin p₀) ⊎ ((c : ℕ) → (bits_of o.shape (put1 (λ u. mem (PoolWord u)) w n) (cell p) c ≡ bits_of o.shape (λ u. mem (PoolWord u)) (cell p) c) × (picture (views k).fixed.shape (Knows w n ∷ (views k).claims) p c ≡ picture (views k).fixed.shape (views k).claims p c)))
   places p = ⊎_elim (λ (e : word_of o.shape p ≡ w). ⊎_elim (λ (t : is_place o.shape p ≡ true). ⊎_elim (λ (q : p ≡ p₀). inl q) (λ (q : p ≡ twin p₀). inr (inl q)) (two_uses p p₀ a.data_ (same_here p t e)))
-      (λ (t : is_place o.shape p ≡ false). let z = not_pictured o.shape p (subst (λ y. y < words_of o.shape) (sym e) low) t in inr (inr (λ c. (no_bits o.shape (put1 (λ u. mem (PoolWord u)) w n) p c t ∙ sym (no_bits o.shape (λ u. mem (PoolWord u)) p c t),
-      cond-false (is_pictured p) (option_map (λ y. bit_at y c == 1) (pictured (views k).fixed.shape (Knows w n ∷ (views k).claims) (word_of (views k).fixed.shape p))) None z ∙ sym (cond-false (is_pictured p) (option_map (λ y. bit_at y c == 1) (pictured (views k).fixed.shape (views k).claims (word_of (views k).fixed.shape p))) None z))))) (cases_Bool (is_place o.shape p)))
+      (λ (t : is_place o.shape p ≡ false). let z = not_pictured o.shape p (subst (λ y. y < words_of o.shape) (sym e) low) t in inr (inr (λ c. (
+        no_bits o.shape (put1 (λ u. mem (PoolWord u)) w n) p c t ∙ sym (no_bits o.shape (λ u. mem (PoolWord u)) p c t),
+        cond-false (is_pictured p) (option_map (λ y. bit_at y c == 1) (pictured (views k).fixed.shape (Knows w n ∷ (views k).claims) (word_of (views k).fixed.shape p))) None z ∙ sym (cond-false (is_pictured p) (option_map (λ y. bit_at y c == 1) (pictured (views k).fixed.shape (views k).claims (word_of (views k).fixed.shape p))) None z),
+      )))) (cases_Bool (is_place o.shape p)))
       (λ (ne : word_of o.shape p ≢ w). inr (inr (λ c. (bits_else o.shape (λ u. mem (PoolWord u)) w n p c ne, same_picture p c ne)))) (cases_eq (word_of o.shape p) w)
 
   descr_same : (c : ℕ) → descriptor_told o.shape (put1 (λ u. mem (PoolWord u)) w n) c ≡ descriptor_told o.shape (λ u. mem (PoolWord u)) c
@@ -294,6 +297,7 @@ module _ (w n : ℕ) (o : Opening) (mem new : Memory) (views views' : Views) (g 
       olds = l.olds;
       slot_part = λ j q. let s = short.0 in let u = Rattle.pm_world.proofs.Worlds.slot_taken (views k).log j q in let r = l.records_most in slot_else (length (views k).log.records) j (omega arith) (omega arith) ∙ l.slot_part j q;
       stale = λ j u q z t. l.stale j u q z (sym (ap undo_of (slots j z)) ∙ t);
+      slot_changes = all_cons (λ (c : Undrained). part_of o.shape k c.word ≡ Rattle.pm_view.specs.Parts.SlotPart → c.word < 8 * line_of_slot o.shape k (Rattle.pm_world.specs.Logs.used_slots ((views k).log))) (undrained_by (views k) w) (views k).changes (λ e. absurd (let r = slot_range o.shape k w e in let m = x.most_lanes in let up = above in omega arith)) l.slot_changes;
       area_changes = all_cons (λ (c : Undrained). AreaChange ph (length (views k).log.entries) (views k).log.generation (part_of o.shape k c.word) c) (undrained_by (views k) w) (views k).changes change l.area_changes;
       phase = phase d;
     }
@@ -322,28 +326,34 @@ data_given false made y e = e
 
 module _ (w : ℕ) (o : Opening) (mem : Memory) (views : Views) (g : Past) (k : ℕ) (x : World o mem views g) (ink : k < o.lanes) where
   to_write : is_decided (views k).log.phase ≡ false → MayWrite (views k) w → (p₀ : Place) × Target o g (views k) w p₀
-  to_write u a = let f = x.bits.each_lane k in let p = a.place in (a.place, record {
-    at = is_at (views k).fixed.shape (class (views k).claims) w a.place a.at;
-    data_ = data_given (is_data a.place) (Rattle.pm_world.specs.Sights.is_made (turn (latest (redos (views k).log.entries)) (block_of (geometry (views k).fixed.shape (views k).claims) a.place 0)) || is_recorded (views k).log.records a.place) ((sight_of (views k)).picture a.place 0) (f.stored a.place 0 u a.logged);
-    own_ = λ c. (f.logged a.place c u a.logged).0;
-    plain = (f.logged a.place 0 u a.logged).1;
-    quiet = inl a.logged;
-    soil = λ c. or_right ((sight_of (views k)).hold.mine (block_of g.geo a.place c)) ((sight_of (views k)).logged a.place) a.logged;
-    unentered = a.unentered;
-  })
+  to_write u a = let f = x.bits.each_lane k in let p = a.place in (
+    a.place,
+    record {
+      at = is_at (views k).fixed.shape (class (views k).claims) w a.place a.at;
+      data_ = data_given (is_data a.place) (Rattle.pm_world.specs.Sights.is_made (turn (latest (redos (views k).log.entries)) (block_of (geometry (views k).fixed.shape (views k).claims) a.place 0)) || is_recorded (views k).log.records a.place) ((sight_of (views k)).picture a.place 0) (f.stored a.place 0 u a.logged);
+      own_ = λ c. (f.logged a.place c u a.logged).0;
+      plain = (f.logged a.place 0 u a.logged).1;
+      quiet = inl a.logged;
+      soil = λ c. or_right ((sight_of (views k)).hold.mine (block_of g.geo a.place c)) ((sight_of (views k)).logged a.place) a.logged;
+      unentered = a.unentered;
+    },
+  )
 
   to_fill : SightFits o.shape (cells_of o.shape mem) (settled_words o g) (Flies (ghost_of g) k) (ghost_of g) k (record (sight_of (views k)) { phase = Open }) → MayFill (views k) w → (p₀ : Place) × Target o g (views k) w p₀
   to_fill f a = let at = is_at (views k).fixed.shape (class (views k).claims) w a.place a.at in let B = block_of (geometry (views k).fixed.shape (views k).claims) a.place 64 in
       let same = block_known o.shape (cells_of o.shape mem) (settled_words o g) (Flies (ghost_of g) k) (ghost_of g) x.bits.geo k (views k) f a.place 64 (own_has (sight_of (views k)).hold B (mine_own (sight_of (views k)).hold B a.own)) in
-      let mine : (c : ℕ) → (sight_of (views k)).hold.mine (block_of g.geo a.place c) ≡ true = λ c. subst (λ C. (sight_of (views k)).hold.mine C ≡ true) (same ∙ sym (data_bit g.geo a.place c a.plain)) a.own in (a.place, record {
-    at = at;
-    data_ = a.plain;
-    own_ = λ c. Rattle.pm_world.proofs.EntryBits.data_owned o.shape (cells_of o.shape mem) (settled_words o g) (Flies (ghost_of g) k) (ghost_of g) x.bits.geo k (views k) f (Rattle.pm_world.proofs.StoreEntry.root_owned o mem views g x k ink) a.place c a.plain (mine_own (sight_of (views k)).hold B a.own);
-    plain = plain_of a.place a.plain at.use_ a.own;
-    quiet = inr (dead (settled_words o g) (ghost_of g) a.place 0 a.plain (f.hold.mine (block_of g.geo a.place 0) (mine 0)).2, a.unrecorded);
-    soil = λ c. or_left ((sight_of (views k)).hold.mine (block_of g.geo a.place c)) ((sight_of (views k)).logged a.place) (mine c);
-    unentered = a.unentered;
-  })
+      let mine : (c : ℕ) → (sight_of (views k)).hold.mine (block_of g.geo a.place c) ≡ true = λ c. subst (λ C. (sight_of (views k)).hold.mine C ≡ true) (same ∙ sym (data_bit g.geo a.place c a.plain)) a.own in (
+        a.place,
+        record {
+          at = at;
+          data_ = a.plain;
+          own_ = λ c. Rattle.pm_world.proofs.EntryBits.data_owned o.shape (cells_of o.shape mem) (settled_words o g) (Flies (ghost_of g) k) (ghost_of g) x.bits.geo k (views k) f (Rattle.pm_world.proofs.StoreEntry.root_owned o mem views g x k ink) a.place c a.plain (mine_own (sight_of (views k)).hold B a.own);
+          plain = plain_of a.place a.plain at.use_ a.own;
+          quiet = inr (dead (settled_words o g) (ghost_of g) a.place 0 a.plain (f.hold.mine (block_of g.geo a.place 0) (mine 0)).2, a.unrecorded);
+          soil = λ c. or_left ((sight_of (views k)).hold.mine (block_of g.geo a.place c)) ((sight_of (views k)).logged a.place) (mine c);
+          unentered = a.unentered;
+        },
+      )
     where
       plain_of : (p : Place) → is_data p ≡ true → HasUse (class (views k).claims) p → (sight_of (views k)).hold.mine (block_of (geometry (views k).fixed.shape (views k).claims) p 64) ≡ true → is_in_making (sight_of (views k)).hold p ≡ false
       plain_of (InRun c u) d e t = run_plain o.shape (cells_of o.shape mem) (settled_words o g) (Flies (ghost_of g) k) (ghost_of g) x.bits.geo k (views k) f (Rattle.pm_world.proofs.StoreEntry.root_owned o mem views g x k ink) c (Rattle.pm_view.specs.Places.part (class (views k).claims c) u 64) t
@@ -353,9 +363,22 @@ module _ (w : ℕ) (o : Opening) (mem : Memory) (views : Views) (g : Past) (k : 
 
 -- a lane between calls has changed no block
 idle_open : (sh : Shape) (cells : Cells) (S : State) (flies : ℕ → Diff → Type 0) (g : Ghost) (k : ℕ) (v : View) → SightFits sh cells S flies g k (record (sight_of v) { phase = Idle }) → SightFits sh cells S flies g k (record (sight_of v) { phase = Open })
-idle_open sh cells S flies g k v f = record { hold = f.hold; bits = f.bits; picture = f.picture;
-    turns = λ B. subst (TurnBefore ((sight_of v).hold.locked (Rattle.pm_view.specs.Places.header sh g.geo B)) ((sight_of v).hold.mine B) ((sight_of v).hold.here B)) (sym (f.turns B)) tt;
-    call = record { flight = tt; todo = f.call.todo; descr = f.call.descr }; reach = f.reach; plain = f.plain; logged = f.logged; stored = f.stored; fresh = f.fresh; sizes = f.sizes; born = λ y. absurd (both_ways false refl y); guarded = λ y. absurd (both_ways false refl y); soiled = f.soiled }
+idle_open sh cells S flies g k v f = record {
+  hold = f.hold;
+  bits = f.bits;
+  picture = f.picture;
+  turns = λ B. subst (TurnBefore ((sight_of v).hold.locked (Rattle.pm_view.specs.Places.header sh g.geo B)) ((sight_of v).hold.mine B) ((sight_of v).hold.here B)) (sym (f.turns B)) tt;
+  call = record { flight = tt; todo = f.call.todo; descr = f.call.descr };
+  reach = f.reach;
+  plain = f.plain;
+  logged = f.logged;
+  stored = f.stored;
+  fresh = f.fresh;
+  sizes = f.sizes;
+  born = λ y. absurd (both_ways false refl y);
+  guarded = λ y. absurd (both_ways false refl y);
+  soiled = f.soiled;
+}
 
 module _ (w n : ℕ) (o : Opening) (mem new : Memory) (views views' : Views) (g : Past) (k : ℕ) (x : World o mem views g) (ink : k < o.lanes) (m : MayStore (views k) w n) (due : MayCount (views k)) (c i : ℕ) (p : part_in (views k) w ≡ ChunkPart c i) (b : Becomes (PoolWord w) n mem new) (t : Turn views views' k (after_store (views k) w n (views k).log)) where
   part_at : part_of o.shape k w ≡ ChunkPart c i

@@ -1,7 +1,7 @@
 -- What each part of a drain does.
 use Rattle.std.specs.Prelude.{[], ◌∷◌}
 use Rattle.std.proofs.Common.{false, ◌≡◌, ℕ, ◌+◌, ◌<◌}
-use Rattle.pm_view.specs.Changes.{Undrained, drained}
+use Rattle.pm_view.specs.Changes.{drained}
 use Rattle.pm_view.specs.Claims.{making, Drained}
 use Rattle.pm_view.specs.Log.{Phase, log_drained}
 use Rattle.pm_view.specs.View.{View}

@@ -1,26 +1,25 @@
 -- What a power failure may leave of each word: of a bit what is in memory, where no lane has an undrained change of it; of a lane's area its own words, but
 -- for the seal and the generation as they were, by how far its call has come.
-use Rattle.std.proofs.Common.{◌≡◌, ◌≢◌, ℕ, zero, suc, ◌+◌, ◌-◌, ◌*◌, ◌/◌, ◌%◌, ◌^◌, ◌<◌, ◌≤◌, ◌⊎◌, inl, inr, ⊎_elim, min, max, nat_le, nat_lt, Bool, true, false, cond, not, ◌&&◌, ◌||◌, eqb, leb, ltb, ◌==◌, All, Contains, List, [], ◌∷◌, length, slice_index, IfSome, refl, sym, ap, ◌∙◌, subst, arith, bit_and, bit_or, Option, None, Some}
+use Rattle.std.proofs.Common.{◌≡◌, ◌≢◌, ℕ, suc, ◌+◌, ◌-◌, ◌*◌, ◌/◌, ◌%◌, ◌<◌, ◌≤◌, ◌⊎◌, inl, inr, ⊎_elim, min, max, nat_le, nat_lt, Bool, true, false, cond, ◌&&◌, leb, ltb, ◌==◌, All, Contains, List, [], ◌∷◌, length, slice_index, IfSome, refl, sym, ap, ◌∙◌, subst, arith, bit_and, bit_or}
 use Rattle.std.specs.Int.{bit_at, bit_not, w64}
 use Rattle.std.specs.Int.Bits.{and_zero_r, or_zero_l}
-use Rattle.std.specs.List.{list_any}
-use Rattle.std.proofs.lemmas.Bool.{cases_eq, cases_lt, cases_Bool, both_ways, eqb-true, eq-eqb, ne_eqb, and_from, and_parts, cond-true, cond-false, false_from_ne_true, le-leb, lt-ltb, leb-true, ltb-true}
+use Rattle.std.proofs.lemmas.Bool.{cases_eq, cases_lt, cases_Bool, both_ways, eq-eqb, ne_eqb, and_from, and_parts, cond-true, cond-false, false_from_ne_true, le-leb, lt-ltb, leb-true, ltb-true}
 use Rattle.std.proofs.lemmas.List.Elements.{All-contains, All-head, All-tail}
 use Rattle.std.proofs.lemmas.List.Folds.{list_any_at}
 use Rattle.std.proofs.lemmas.Nat.Bits.{bit_at_and, bit_at_or, bit_at_not, bit_at-lt}
 use Rattle.pm_layout.specs.declared.shape.Shape.{Shape}
 use Rattle.pm_layout.specs.Areas.{word_of_generation, word_of_seal, word_of_entry, line_of_slot, undo_slots, redo_entries}
-use Rattle.pm_layout.specs.Chunks.{words_of, is_in_zone, is_chunk_page, is_descriptor_word, chunk_at, chunk_described, page_of_zone, page_in_zone, word_of_root}
-use Rattle.pm_image.specs.Logs.{area_word, seal_word, generation_word}
+use Rattle.pm_layout.specs.Chunks.{words_of, is_in_zone, is_chunk_page, is_descriptor_word, page_of_zone, page_in_zone, word_of_root}
+use Rattle.pm_image.specs.Logs.{seal_word, generation_word}
 use Rattle.pm_view.specs.declared.change.Change.{Change}
 use Rattle.pm_view.specs.Bits.{all_bits, with_bits}
 use Rattle.pm_view.specs.Changes.{Undrained, IsFormed, IsUndrained, taken_back, is_dirty_bit}
-use Rattle.pm_view.specs.Parts.{Part, GenerationPart, SealPart, EntryPart, SlotPart, RootPart, DescriptorPart, ChunkPart, OtherPart, is_entry_word, is_slot_word, pool_part, part_of}
+use Rattle.pm_view.specs.Parts.{GenerationPart, SealPart, EntryPart, SlotPart, OtherPart, is_entry_word, is_slot_word, part_of}
 use Rattle.pm_view.specs.Log.{Phase, Idle, Open, Drawn, Sealing, Applying, Clearing, Retiring, Voiding}
 use Rattle.pm_world.specs.Logs.{IsOld, AreaChange, LogFits, seal_in}
 use Rattle.pm_world.specs.Memory.{Memory, PoolWord, bit}
 use Rattle.pm_world.specs.World.{Opening, Views, Past, AreaFits, World}
-use Rattle.pm_world.specs.Crash.{IsUndrainedOf, IsLeft, Survives, all_taken_back}
+use Rattle.pm_world.specs.Crash.{IsUndrainedOf, Survives, all_taken_back}
 
 -- ---- a change that is taken back
 

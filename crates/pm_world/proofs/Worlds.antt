@@ -1,7 +1,7 @@
 -- THE WORLD GOES ON: what a step of lane k owes of words, views and ghosts beside the bits.
 use Rattle.std.specs.Prelude.{List, [], ◌∷◌, length, slice_index}
-use Rattle.std.proofs.Common.{◌≡◌, ◌≢◌, ℕ, zero, suc, ◌+◌, ◌*◌, ◌^◌, ◌<◌, ◌≤◌, ◌⊎◌, ⊎_elim, Bool, true, false, cond, eqb, ne_eqb, ◌==◌, refl, sym, ap, ◌∙◌, subst, arith, Option, None, Some}
-use Rattle.std.proofs.lemmas.Bool.{cases_eq, eqb-true, eq-eqb, cases_lt, both_ways}
+use Rattle.std.proofs.Common.{◌≡◌, ◌≢◌, ℕ, zero, suc, ◌+◌, ◌^◌, ◌<◌, ◌≤◌, ◌⊎◌, ⊎_elim, true, false, cond, ne_eqb, ◌==◌, refl, sym, ap, ◌∙◌, subst, arith}
+use Rattle.std.proofs.lemmas.Bool.{cases_eq, eqb-true, eq-eqb}
 use Rattle.pm_layout.specs.declared.shape.Shape.{Shape}
 use Rattle.pm_view.specs.Limits.{greatest_generation}
 use Rattle.pm_record.specs.Undo.{undo_of}
@@ -12,9 +12,9 @@ use Rattle.pm_layout.specs.Areas.{undo_slots, slot_words, redo_entries}
 use Rattle.std.proofs.lemmas.Option.{slice_get_within}
 use Rattle.pm_view.specs.Places.{block_of}
 use Rattle.pm_view.specs.View.{View}
-use Rattle.pm_world.specs.States.{State, Diff, Cells}
-use Rattle.pm_world.specs.Sights.{Hold, Sight, sight_of}
-use Rattle.pm_world.specs.Lanes.{Ghost, settled, has, owns, Flies, SightFits, Bits}
+use Rattle.pm_world.specs.States.{State, Diff}
+use Rattle.pm_world.specs.Sights.{sight_of}
+use Rattle.pm_world.specs.Lanes.{has, owns, Flies, SightFits, Bits}
 use Rattle.pm_world.specs.Logs.{used_slots, PhaseFits, LogFits}
 use Rattle.pm_world.specs.Memory.{Memory, PoolWord, ZoneLock, CommitCounter, StopWord, cells_of}
 use Rattle.pm_world.specs.World.{Opening, Views, Past, origin, ghost_of, settled_words, numbered_by, AreaFits, LaneFits, may_draw_count, is_header, World}
@@ -84,6 +84,7 @@ module _ (o : Opening) (mem : Memory) (views : Views) (g : Past) (x : World o me
     olds = λ p y q b. let t = l.olds p y q b in (owned p b t.0, λ u. m.set p b (away p b t.0) ∙ t.1 u);
     slot_part = λ i q. let r = parts_short o.shape j (sight_of (views j)).picture (views j).log (views j).changes (views j).log.phase l.phase in let most = slot_taken (views j).log i q in let n = l.records_most in a.slot j (length (views j).log.records) i most_ (omega arith) (omega arith) ne ∙ l.slot_part i q;
     stale = λ i u q z t. l.stale i u q z (sym (ap undo_of (slots i z)) ∙ t);
+    slot_changes = l.slot_changes;
     area_changes = l.area_changes;
     phase = l.phase;
   }

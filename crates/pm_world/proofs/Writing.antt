@@ -1,18 +1,17 @@
 -- A DATA WORD IS STORED, over bits: under its drained record, or in a block of the lane's own.
-use Rattle.std.specs.Prelude.{List, [], ◌∷◌, not}
-use Rattle.std.proofs.Common.{◌≡◌, ◌≢◌, ℕ, zero, suc, ◌+◌, ◌*◌, ◌/◌, ◌<◌, ◌⊎◌, inl, inr, ⊎_elim, nat_lt, Bool, true, false, cond, ◌==◌, ◌&&◌, ◌||◌, refl, sym, ap, ◌∙◌, subst, arith, eq-eqb, Option, None, Some}
+use Rattle.std.specs.Prelude.{◌∷◌, not}
+use Rattle.std.proofs.Common.{◌≡◌, ℕ, ◌⊎◌, inl, inr, ⊎_elim, Bool, true, false, cond, ◌==◌, ◌&&◌, ◌||◌, refl, sym, ap, ◌∙◌, subst, eq-eqb, Option, None, Some}
 use Rattle.std.specs.Option.{option_map}
-use Rattle.std.proofs.lemmas.Bool.{both_ways, and_parts, and_from, or_cases, or_right, cond-true, false_from_ne_true}
+use Rattle.std.proofs.lemmas.Bool.{both_ways, and_parts, and_from, or_cases, cond-true, false_from_ne_true}
 use Rattle.pm_layout.specs.declared.shape.Shape.{Shape}
-use Rattle.pm_view.specs.Changes.{Undrained}
 use Rattle.pm_view.specs.Claims.{Knows, geometry, pictured}
 use Rattle.pm_view.specs.Entries.{latest, redos, turn}
 use Rattle.pm_view.specs.Log.{Phase}
 use Rattle.pm_view.specs.Places.{Place, InRun, InHuge, Descr, RootWord, Block, block_of, is_data, twin, word_of}
 use Rattle.pm_view.specs.View.{View}
-use Rattle.pm_world.specs.States.{State, Diff, diff, given, live, cell, read, Cells}
+use Rattle.pm_world.specs.States.{State, Diff, diff, given, live, cell, Cells}
 use Rattle.pm_world.specs.Sights.{is_pictured, picture, is_soiled, is_made, is_recorded, hold_of, call_of, call_in, sight_of}
-use Rattle.pm_world.specs.Lanes.{Ghost, owns, is_in_making, is_decided, in_flight, left, blank, BitFits, open_soils, soils, FlightFits, is_size, SightFits}
+use Rattle.pm_world.specs.Lanes.{Ghost, owns, is_in_making, is_decided, in_flight, left, blank, BitFits, open_soils, soils, FlightFits, SightFits}
 use Rattle.pm_world.specs.Memory.{bit}
 use Rattle.pm_world.proofs.Entering.{logged_recorded}
 use Rattle.pm_world.proofs.Frame.{some_first, fresh_given}

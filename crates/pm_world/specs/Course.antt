@@ -1,15 +1,15 @@
 -- How a step moves the ghosts on: a draw adds a call to the history; the drain of a deciding store decides one, and makes chunks runs; occupancy bits change
 -- hands; chunks become one claim, or get a class.
-use Rattle.std.specs.Prelude.{ℕ, suc, ◌/◌, ◌*◌, ◌+◌, Bool, true, false, cond, ◌==◌, ◌&&◌, ◌||◌, not, nat_lt, List, [], ◌∷◌, Option, None, Some}
+use Rattle.std.specs.Prelude.{ℕ, suc, ◌/◌, ◌*◌, ◌+◌, Bool, true, false, cond, ◌&&◌, ◌||◌, nat_lt, List, [], ◌∷◌, Option, None, Some}
 use Rattle.pm_layout.specs.declared.shape.Shape.{Shape}
 use Rattle.pm_layout.specs.Sizes.{blocks_of}
 use Rattle.pm_view.specs.declared.occ.Occ.{Occ}
 use Rattle.pm_view.specs.declared.occ.Occ.TheVariants.{Run, Zone}
 use Rattle.pm_view.specs.Changes.{Undrained, drained}
 use Rattle.pm_view.specs.Places.{Block, Small, Big, Root, Geometry}
-use Rattle.pm_view.specs.Entries.{Redo, latest, redos, turn}
+use Rattle.pm_view.specs.Entries.{latest, redos, turn}
 use Rattle.pm_view.specs.Parts.{Part, DescriptorPart}
-use Rattle.pm_view.specs.Log.{Phase, Idle, Open, Drawn, Sealing, Retiring, Log, phase_drawn}
+use Rattle.pm_view.specs.Log.{Phase, Idle, Open, Sealing, Retiring, phase_drawn}
 use Rattle.pm_view.specs.Claims.{Claim, becomes, class, is_block_of, is_among, lowest, ones}
 use Rattle.pm_view.specs.Steps.{Step}
 use Rattle.pm_view.specs.Steps.Step.{Store, Drain, Occupy, Vacate, Draw}

@@ -1,14 +1,13 @@
 -- What a power failure may leave of a world's words, which calls it loses, and what recovery then gives.
-use Rattle.std.specs.Prelude.{◌≡◌, ◌≢◌, ◌⊎◌, ℕ, zero, suc, ◌+◌, ◌<◌, ◌≤◌, ◌==◌, ◌&&◌, ◌||◌, not, cond, Bool, true, false, All, Contains, List, [], ◌∷◌, length, slice_index, Option, Some}
+use Rattle.std.specs.Prelude.{◌≡◌, ◌⊎◌, ℕ, zero, suc, ◌+◌, ◌<◌, ◌≤◌, ◌==◌, ◌&&◌, ◌||◌, not, cond, Bool, true, false, All, Contains, List, [], ◌∷◌, length, slice_index, Some}
 use Rattle.pm_record.specs.declared.undo.Undo.{Undo}
-use Rattle.pm_layout.specs.declared.shape.Shape.{Shape}
 use Rattle.pm_layout.specs.Chunks.{chunks_of, word_of_chunk}
 use Rattle.pm_image.specs.Logs.{undo_slot, generation_word, recovered, seal_word}
 use Rattle.pm_image.specs.Steps.{valid_record}
 use Rattle.pm_view.specs.declared.change.Change.{Change}
 use Rattle.pm_view.specs.Changes.{Undrained, IsUndrained, IsFormed, taken_back}
-use Rattle.pm_view.specs.Log.{Phase, Idle, Open, Drawn, Sealing, Applying, Clearing, Retiring, Voiding, Recorded}
-use Rattle.pm_view.specs.Places.{Place, Geometry, is_place}
+use Rattle.pm_view.specs.Log.{Phase, Sealing, Retiring, Recorded}
+use Rattle.pm_view.specs.Places.{Place, is_place}
 use Rattle.pm_view.specs.View.{View}
 use Rattle.pm_world.specs.States.{State, live, replay}
 use Rattle.pm_world.specs.Sights.{is_slot_drained}

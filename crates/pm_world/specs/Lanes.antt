@@ -4,11 +4,11 @@ use Rattle.pm_layout.specs.declared.shape.Shape.{Shape}
 use Rattle.pm_layout.specs.Sizes.{blocks_of}
 use Rattle.pm_layout.specs.Chunks.{chunks_of}
 use Rattle.pm_view.specs.Places.{Place, InRun, InHuge, Descr, RootWord, Block, Small, Big, Root, Geometry, block_of, header, in_span, is_data}
-use Rattle.pm_view.specs.Entries.{latest, redos, turn, first_of_two}
+use Rattle.pm_view.specs.Entries.{latest, redos, turn}
 use Rattle.pm_view.specs.Log.{Phase, Idle, Open, Drawn, Sealing, Applying, Clearing, Retiring, Voiding}
 use Rattle.pm_view.specs.Claims.{making_of}
 use Rattle.pm_world.specs.States.{State, Diff, Call, diff, given, over, after_diff, there, val, spans, live, guards, read, replay, Cells}
-use Rattle.pm_world.specs.Sights.{Hold, Sight, is_pictured}
+use Rattle.pm_world.specs.Sights.{Hold, Sight}
 
 -- the ghosts: the history, each call's lane, what is decided; which chunks are runs, the geometry; whose a block is that is not allocated (0, or one more
 -- than the lane)

@@ -1,11 +1,10 @@
 -- WHICH STEPS A LANE MAY MAKE, by its own view alone, whatever a load or a lock answers.
-use Rattle.std.specs.Prelude.{◌≡◌, ◌≢◌, ◌⊎◌, ℕ, zero, suc, ◌+◌, ◌-◌, ◌*◌, ◌/◌, ◌%◌, ◌^◌, ◌<◌, ◌≤◌, ◌==◌, ◌&&◌, ◌||◌, nat_le, nat_lt, Bool, true, false, not, IsTrue, All, Any, Contains, List, [], ◌∷◌, ◌++◌, length, slice_index, take, Option, None, Some, IfSome, IsSomeAnd}
+use Rattle.std.specs.Prelude.{◌≡◌, ◌≢◌, ◌⊎◌, ℕ, zero, suc, ◌+◌, ◌-◌, ◌*◌, ◌/◌, ◌^◌, ◌<◌, ◌≤◌, ◌==◌, ◌&&◌, ◌||◌, nat_le, Bool, true, false, not, IsTrue, All, Contains, List, [], ◌∷◌, ◌++◌, length, slice_index, take, Option, None, Some, IfSome, IsSomeAnd}
 use Rattle.std.specs.Int.{bit_at}
 use Rattle.std.specs.List.{list_any}
-use Rattle.pm_layout.specs.declared.shape.Shape.{Shape}
-use Rattle.pm_layout.specs.Areas.{undo_slots, slot_words, old_words, redo_entries, word_of_generation, word_of_seal, word_of_entry, line_of_slot}
+use Rattle.pm_layout.specs.Areas.{undo_slots, old_words, redo_entries, word_of_generation, word_of_seal, word_of_entry, line_of_slot}
 use Rattle.pm_view.specs.Limits.{greatest_generation}
-use Rattle.pm_layout.specs.Chunks.{words_of, chunks_of, word_of_chunk, word_of_descriptor, page_of_chunk, line_of_chunk}
+use Rattle.pm_layout.specs.Chunks.{words_of, chunks_of, word_of_chunk, word_of_descriptor, page_of_chunk}
 use Rattle.pm_layout.specs.Sizes.{blocks_of}
 use Rattle.pm_record.specs.Redo.{op_code}
 use Rattle.pm_record.specs.declared.redo.Op.{Op}
@@ -16,20 +15,20 @@ use Rattle.pm_view.specs.declared.occ.Occ.{Occ}
 use Rattle.pm_view.specs.declared.occ.Occ.TheVariants.{Run, Zone}
 use Rattle.pm_view.specs.Changes.{Undrained}
 use Rattle.pm_view.specs.Places.{Place, InRun, InHuge, Descr, RootWord, Block, Small, Big, Root, block_of, in_span, is_data, word_of, place_after, is_place}
-use Rattle.pm_view.specs.Entries.{Entry, entry_head, given_bit, latest, redos, turn}
-use Rattle.pm_view.specs.Parts.{Part, GenerationPart, SealPart, EntryPart, SlotPart, RootPart, DescriptorPart, ChunkPart, OtherPart}
-use Rattle.pm_view.specs.Log.{Phase, Idle, Open, Drawn, Sealing, Applying, Clearing, Retiring, Voiding, Recorded, is_early, old_of, place_at}
-use Rattle.pm_view.specs.Claims.{Claim, locked, reads, holds, class, making, header_in, found, here, mine, span, first, geometry, block_at, passes, is_among, is_block_of, run_chunk, ones}
+use Rattle.pm_view.specs.Entries.{Entry, given_bit, latest, redos, turn}
+use Rattle.pm_view.specs.Parts.{Part, GenerationPart, SealPart, EntryPart, SlotPart, RootPart, DescriptorPart, ChunkPart}
+use Rattle.pm_view.specs.Log.{Phase, Idle, Open, Drawn, Applying, Recorded, is_early, place_at}
+use Rattle.pm_view.specs.Claims.{locked, reads, holds, class, making, header_in, found, here, mine, span, first, geometry, block_at, passes, is_among, run_chunk}
 use Rattle.pm_view.specs.Counts.{is_counted, MayCount, IsAtStop, HasRoom, FlushesSome, DropsSome}
 use Rattle.pm_view.specs.Founds.{knows}
 use Rattle.pm_view.specs.Steps.{Step}
 use Rattle.pm_view.specs.Steps.Step.{Load, Store, Or, And, Flush, Drain, TakeWrite, TakeRead, Raise, Give, ZoneTry, ZoneGive, Occupied, Occupy, Vacate, Draw, NumberSeen, StopSeen, SetStop, Tell}
 use Rattle.pm_view.specs.View.{View, Told}
 use Rattle.pm_view.specs.Views.{part_in, value_in}
-use Rattle.pm_world.specs.States.{given, root_line}
+use Rattle.pm_world.specs.States.{root_line}
 use Rattle.pm_world.specs.Sights.{is_recorded, is_logged, picture}
 use Rattle.pm_world.specs.Lanes.{all_held}
-use Rattle.pm_world.specs.Logs.{spelled, ends_with, EntryOf, AreWhole, AreRestored, IsEntryAt}
+use Rattle.pm_world.specs.Logs.{spelled, EntryOf, AreWhole, AreRestored}
 
 -- ---- words of the view
 
@@ -98,6 +97,7 @@ pub record CanRecordAt (v : View) (p : Place) (x : ℕ) : Type 0 where
 pub record CanRecord (v : View) (r : Recorded) : Type 0 where
   pub some : 1 ≤ length r.old
   pub most : length r.old ≤ old_words v.fixed.shape
+  pub below : v.log.generation < greatest_generation v.fixed.shape
   pub each : (i : ℕ) → i < length r.old → CanRecordAt v (place_after r.place i) (slice_index r.old i)
   pub use_ : place_in v (word_of v.fixed.shape r.place) ≡ Some r.place
 

@@ -1,5 +1,6 @@
 -- THE LAWS of a world.
-use Rattle.std.specs.Prelude.{◌≡◌, ◌≢◌, ℕ, ◌<◌, Bool, true, false, List, ◌||◌}
+use Rattle.std.specs.Prelude.{◌≡◌, ◌≢◌, ℕ, ◌<◌, Bool, true, false, List, None, ◌||◌}
+use Rattle.pm_image.specs.LogFaults.{log_fault}
 use Rattle.pm_view.specs.Places.{Place}
 use Rattle.pm_view.specs.Log.{Phase}
 use Rattle.pm_view.specs.Parts.{Part}
@@ -16,7 +17,7 @@ use Rattle.pm_world.specs.Moves.{Moves}
 use Rattle.pm_world.specs.Lawful.{IsLawful}
 use Rattle.pm_world.specs.Course.{past_after}
 use Rattle.pm_world.specs.World.{Opening, Views, Past, World, origin, ghost_of, settled_words}
-use Rattle.pm_world.specs.Crash.{Survives, NoneTorn, MeansKept, is_kept}
+use Rattle.pm_world.specs.Crash.{Survives, NoneTorn, MeansKept}
 
 -- lane k's view is v, the others' are as before
 pub record Turn (views new : Views) (k : ℕ) (v : View) : Type 0 where
@@ -42,6 +43,11 @@ RightsApart = (o : Opening) (mem : Memory) (views : Views) (g : Past) → World 
 -- EVERY CRASH IMAGE MEANS WHAT THE KEPT CALLS DO
 abbrev pub CrashLaw : Type 0
 CrashLaw = (o : Opening) (mem : Memory) (views : Views) (g : Past) (image : List ℕ) → World o mem views g → Survives o mem views image → NoneTorn o views image → MeansKept o views g image
+
+-- and has no fault in its logs
+abbrev pub CrashLogsLaw : Type 0
+CrashLogsLaw = (o : Opening) (mem : Memory) (views : Views) (g : Past) (image : List ℕ) → World o mem views g → Survives o mem views image → NoneTorn o views image
+    → log_fault image o.shape.lanes o.shape.zones ≡ None
 
 -- EACH CALL FINDS WHAT IT KNEW: whatever its lane owned or saw as it took its number, the words before it are what they were settled to be then, whichever of
 -- the calls in flight are kept. `was` has the settled words at each draw

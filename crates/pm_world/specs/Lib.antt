@@ -10,3 +10,4 @@ pub mod Course
 pub mod Crash
 pub mod Laws
 pub mod Decisions
+pub mod Opens

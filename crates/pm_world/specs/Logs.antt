@@ -1,8 +1,8 @@
 -- How a lane's log, as its view has it, stands in its area of the pool: the generation, the seal, the entries in their pairs and the records in their slots.
-use Rattle.std.specs.Prelude.{◌≡◌, ◌≢◌, ◌⊎◌, ℕ, suc, ◌+◌, ◌-◌, ◌*◌, ◌/◌, ◌^◌, ◌<◌, ◌≤◌, Bool, true, false, cond, ◌==◌, not, All, Any, Contains, List, [], ◌∷◌, ◌++◌, length, replicate, slice_get, slice_index, Option, None, Some, IfSome}
+use Rattle.std.specs.Prelude.{◌≡◌, ◌≢◌, ◌⊎◌, ℕ, suc, ◌+◌, ◌-◌, ◌*◌, ◌^◌, ◌<◌, ◌≤◌, Bool, true, false, cond, ◌==◌, All, Contains, List, [], ◌∷◌, ◌++◌, length, replicate, slice_get, slice_index, None, Some, IfSome}
 use Rattle.std.specs.Int.{bit_at}
 use Rattle.pm_layout.specs.declared.shape.Shape.{Shape}
-use Rattle.pm_layout.specs.Areas.{undo_slots, slot_words, old_words, redo_entries, word_of_generation, word_of_seal, line_of_slot}
+use Rattle.pm_layout.specs.Areas.{undo_slots, slot_words, old_words, redo_entries, word_of_generation, line_of_slot}
 use Rattle.pm_view.specs.Limits.{greatest_generation}
 use Rattle.pm_record.specs.Undo.{undo_of, undo_words}
 use Rattle.pm_record.specs.declared.undo.Undo.{Undo}
@@ -11,7 +11,7 @@ use Rattle.pm_record.specs.declared.redo.Op.TheVariants.{Set}
 use Rattle.pm_view.specs.Bits.{all_bits}
 use Rattle.pm_view.specs.Changes.{Undrained}
 use Rattle.pm_view.specs.Claims.{is_run}
-use Rattle.pm_view.specs.Places.{Place, InRun, InHuge, Descr, RootWord, word_of, is_place, is_data, place_after}
+use Rattle.pm_view.specs.Places.{Place, Descr, word_of, is_place, is_data, place_after}
 use Rattle.pm_view.specs.Entries.{Entry, entry_head, given_bit}
 use Rattle.pm_view.specs.Parts.{Part, GenerationPart, SealPart, EntryPart, SlotPart, DescriptorPart, OtherPart, part_of}
 use Rattle.pm_view.specs.Log.{Phase, Idle, Open, Drawn, Sealing, Applying, Clearing, Retiring, Voiding, Recorded, Log, old_in, old_of}
@@ -137,5 +137,7 @@ pub record LogFits (sh : Shape) (lane generation seal : ℕ) (entry slot : ℕ �
   pub olds : (p : Place) (x : ℕ) → old_of l.records p ≡ Some x → OldFits (is_decided l.phase) S owned p x
   pub slot_part : (i : ℕ) → i < length l.slot → slot (length l.records) i ≡ slice_index l.slot i
   pub stale : (j : ℕ) (u : Undo) → used_slots l ≤ j → j < undo_slots sh → undo_of (slot_list (slot j)) ≡ Some u → u.generation < l.generation
+  -- undrained changes of slots are of those that have words of this generation
+  pub slot_changes : All (λ (c : Undrained). part_of sh lane c.word ≡ SlotPart → c.word < 8 * line_of_slot sh lane (used_slots l)) changes
   pub area_changes : All (λ (c : Undrained). AreaChange l.phase (length l.entries) l.generation (part_of sh lane c.word) c) changes
   pub phase : PhaseFits sh lane picture l changes l.phase

@@ -1,12 +1,12 @@
 -- The words that all lanes share, by their location, and the same bit by bit.
-use Rattle.std.specs.Prelude.{◌≡◌, ◌≢◌, ℕ, ◌+◌, ◌*◌, ◌/◌, ◌%◌, nat_lt, Bool, true, false, cond, ◌==◌, ◌&&◌, not, List, [], ◌∷◌, slice_index}
+use Rattle.std.specs.Prelude.{◌≡◌, ◌≢◌, ℕ, ◌+◌, ◌*◌, ◌/◌, ◌%◌, nat_lt, Bool, true, cond, ◌==◌, ◌&&◌, not}
 use Rattle.std.specs.Int.{bit_at}
 use Rattle.pm_layout.specs.declared.shape.Shape.{Shape}
 use Rattle.pm_layout.specs.Areas.{word_of_generation, word_of_seal, word_of_entry, line_of_slot}
 use Rattle.pm_layout.specs.Chunks.{page_of_chunk, word_of_descriptor}
 use Rattle.pm_view.specs.declared.occ.Occ.{Occ}
 use Rattle.pm_view.specs.declared.occ.Occ.TheVariants.{Run, Zone}
-use Rattle.pm_view.specs.Places.{Place, InRun, InHuge, Descr, RootWord, Block, Small, Big, Root, is_place, word_of}
+use Rattle.pm_view.specs.Places.{InRun, InHuge, Descr, RootWord, Block, Small, Big, Root, is_place, word_of}
 use Rattle.pm_view.specs.Claims.{is_run}
 use Rattle.pm_world.specs.States.{State, Cells}
 

@@ -1,5 +1,5 @@
 -- What each step of a lane does to the memory, and what it is answered.
-use Rattle.std.specs.Prelude.{◌≡◌, ◌≢◌, ℕ, ◌+◌, not, Bool, true, false, ◌==◌, Option, Some, None, bit_and, bit_or}
+use Rattle.std.specs.Prelude.{◌≡◌, ◌≢◌, ℕ, ◌+◌, not, true, false, ◌==◌, Some, None, bit_and, bit_or}
 use Rattle.pm_view.specs.LockWords.{with_writer, with_reader, with_raised, without_lane}
 use Rattle.std.specs.Int.{bit_not, w64}
 use Rattle.pm_view.specs.Steps.{Step}

@@ -1,8 +1,7 @@
 -- Bits of the pool at places: which of them a meaning looks at, what a call makes of them, and what a history does.
-use Rattle.std.specs.Prelude.{◌≡◌, ℕ, zero, suc, ◌+◌, ◌-◌, ◌*◌, ◌/◌, ◌%◌, nat_le, nat_lt, Bool, true, false, cond, ◌==◌, ◌&&◌, ◌||◌, List, [], ◌∷◌, Option, None, Some}
-use Rattle.pm_layout.specs.declared.shape.Shape.{Shape}
-use Rattle.pm_view.specs.Places.{Place, InRun, InHuge, Descr, RootWord, Block, Small, Big, Root, Geometry, block_of, in_span, same, same_place}
-use Rattle.pm_view.specs.Entries.{Redo, delta, given_bit, latest, first_of_two}
+use Rattle.std.specs.Prelude.{ℕ, zero, suc, ◌+◌, ◌-◌, ◌*◌, ◌/◌, ◌%◌, nat_le, nat_lt, Bool, true, false, cond, ◌==◌, ◌&&◌, ◌||◌, List, [], ◌∷◌, Option, None, Some}
+use Rattle.pm_view.specs.Places.{Place, InRun, InHuge, Descr, RootWord, Block, Small, Big, Root, Geometry, in_span, same, same_place}
+use Rattle.pm_view.specs.Entries.{Redo, given_bit, latest, first_of_two}
 
 abbrev pub Word : Type 0
 Word = ℕ → Bool

@@ -1,5 +1,5 @@
 -- THE WORLD: the words that lanes share, with each lane's view, and what must be so of them at every moment.
-use Rattle.std.specs.Prelude.{◌≡◌, ◌⊎◌, ℕ, zero, suc, ◌+◌, ◌*◌, ◌/◌, ◌%◌, ◌^◌, ◌<◌, ◌≤◌, nat_lt, Bool, true, false, cond, ◌==◌, ◌&&◌, ◌||◌, not, All, List, [], ◌∷◌, length, slice_index, Option, None, Some, is_none}
+use Rattle.std.specs.Prelude.{◌≡◌, ◌⊎◌, ℕ, zero, suc, ◌+◌, ◌%◌, ◌^◌, ◌<◌, ◌≤◌, nat_lt, Bool, true, false, cond, ◌==◌, ◌&&◌, ◌||◌, not, All, List, [], ◌∷◌, length, slice_index, Option, None, Some, is_none}
 use Rattle.std.specs.Option.{ForSome}
 use Rattle.std.specs.List.{list_any}
 use Rattle.pm_layout.specs.declared.shape.Shape.{Shape}
@@ -11,12 +11,12 @@ use Rattle.pm_view.specs.Changes.{Undrained}
 use Rattle.pm_view.specs.Places.{Place, InRun, InHuge, Descr, RootWord, Block, Geometry, block_of, is_data}
 use Rattle.pm_view.specs.Claims.{making, pictured, is_run}
 use Rattle.pm_view.specs.Counts.{max_changes, IsAtStop}
-use Rattle.pm_view.specs.Log.{Phase, Idle, Open, Drawn, Sealing, Applying, Clearing, Retiring, Voiding}
+use Rattle.pm_view.specs.Log.{Phase, Idle, Open, Drawn, Sealing, Retiring, Voiding}
 use Rattle.pm_view.specs.Steps.{Step}
 use Rattle.pm_view.specs.Steps.Step.{NumberSeen}
 use Rattle.pm_view.specs.View.{View, Numbered}
 use Rattle.pm_view.specs.Views.{occupancy_of}
-use Rattle.pm_world.specs.States.{State, Call, given}
+use Rattle.pm_world.specs.States.{State, given}
 use Rattle.pm_world.specs.Sights.{Sight, is_recorded, call_in, sight_of}
 use Rattle.pm_world.specs.Lanes.{Ghost, owns, settled, is_decided, Bits}
 use Rattle.pm_world.specs.Logs.{LogFits}
