@@ -71,9 +71,10 @@ pub mod StepChunks
 pub mod CrashFaults
 pub mod CrashClashes
 pub mod SlotWords
-pub mod Opening
+pub mod Opened
 pub mod OpenWords
 pub mod OpenChunks
 pub mod OpenGeometry
 pub mod OpenTaken
+pub mod OpenFaults
 pub mod EveryStep

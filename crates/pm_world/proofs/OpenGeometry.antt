@@ -13,7 +13,7 @@ use Rattle.pm_world.specs.Lanes.{GeoFits, is_occupancy, is_taken}
 use Rattle.pm_world.specs.Memory.{Memory, bit, huge_told, cells_of}
 use Rattle.pm_world.specs.Opens.{descriptor, IsOpening, idle_views}
 use Rattle.pm_world.specs.World.{Opening, Views, origin, ghost_of, World}
-use Rattle.pm_world.proofs.Opening.{opened, opens}
+use Rattle.pm_world.proofs.Opened.{opened, opens}
 use Rattle.pm_world.proofs.OpenWords.{IsRunIn, IsHugeIn, InTable, classes, within, zeros}
 use Rattle.pm_world.proofs.OpenChunks.{is_head, first_of, first_is, first_cases, twice}
 use Rattle.pm_world.proofs.Values.{val_from}

@@ -16,7 +16,7 @@ use Rattle.pm_world.specs.Lanes.{is_occupancy, is_taken}
 use Rattle.pm_world.specs.Memory.{Memory, bit, huge_told, cells_of}
 use Rattle.pm_world.specs.Opens.{descriptor, is_in_huge, takes, IsOpening, idle_views}
 use Rattle.pm_world.specs.World.{Opening, Views, Past, origin, ghost_of, World}
-use Rattle.pm_world.proofs.Opening.{opened}
+use Rattle.pm_world.proofs.Opened.{opened}
 use Rattle.pm_world.proofs.OpenWords.{InTable}
 use Rattle.pm_world.proofs.OpenChunks.{is_head, first_of, first_is}
 use Rattle.pm_world.proofs.OpenGeometry.{huge_there, has_chunk, no_run_word, opens_in_table}

@@ -12,7 +12,7 @@ use Rattle.pm_world.specs.Lanes.{valid}
 use Rattle.pm_world.specs.Memory.{bit, huge_told, bits_of}
 use Rattle.pm_world.specs.Opens.{descriptor}
 use Rattle.pm_world.specs.World.{Opening, Views, origin, ghost_of, was_run}
-use Rattle.pm_world.proofs.Opening.{opened}
+use Rattle.pm_world.proofs.Opened.{opened}
 use Rattle.pm_world.proofs.StepMark.{some_class}
 use Rattle.std.specs.Int.{bit_at}
 use Rattle.std.specs.Prelude.{slice_index}

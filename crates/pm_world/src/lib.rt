@@ -5,17 +5,19 @@
 //! It speaks of places and bits, and of the calls by what they make final; what they mean is
 //! said above. Docs/MODEL.md, "The world".
 //!
-//! It is proved of all twenty kinds of step that they keep the world; of each world that every
-//! crash image keeps the decided calls, means what the kept calls do and has no fault in its
-//! logs; and that two lanes own no common bit.
+//! It is proved that recovered words, of which nothing of the heap is wrong, open a world; of all
+//! twenty kinds of step that they keep the world; of each world that every crash image keeps the
+//! decided calls, means what the kept calls do and has no fault in its logs; and that two lanes
+//! own no common bit.
 //!
-//! Still to come: that recovered words open a world, of which the part over descriptors of the
-//! table stands in proofs/; the history of what each call held, knew and found; the causes of
-//! `Busy`, `NoObject` and `NoSpace`.
+//! Still to come: the history of what each call held, knew and found; the causes of `Busy`,
+//! `NoObject` and `NoSpace`.
 #![tactic(auto)]
 
 mod crash_laws;
 mod laws;
+mod opening;
 
 pub use crash_laws::crash_keeps_decided_calls;
 pub use laws::{lawful_steps_keep_the_world, no_bit_is_owned_twice};
+pub use opening::recovered_words_open_a_world;
