@@ -1,6 +1,9 @@
--- HOW A WORLD OPENS: what the words that lanes share are, and what each lane's view is, before any lane made a step. The pool's words are recovered ones, and
--- nothing of the heap is wrong; each lane's log is retired; no lock is held, and no number drawn; the occupancy words are what the pool's words take.
-use Rattle.std.specs.Prelude.{◌≡◌, ℕ, ◌+◌, ◌*◌, ◌/◌, ◌^◌, ◌<◌, ◌≤◌, nat_lt, Bool, true, cond, not, ◌&&◌, ◌||◌, List, length, slice_index, Option, None, Some}
+-- HOW A WORLD OPENS: what the words that lanes share are, and what each lane's view is, before any
+-- lane made a step. The pool's words are recovered ones, and nothing of the heap is wrong; each
+-- lane's log is retired; no lock is held, and no number drawn; the occupancy words are what the
+-- pool's words take.
+use Rattle.std.specs.Prelude.{◌≡◌, ℕ, ◌+◌, ◌*◌, ◌/◌, ◌^◌, ◌<◌, ◌≤◌, nat_lt, length, slice_index}
+use Rattle.std.specs.Prelude.{Bool, true, not, ◌&&◌, ◌||◌, None, Some}
 use Rattle.std.specs.List.{list_any, range_with_len}
 use Rattle.pm_layout.specs.declared.shape.Shape.{Shape}
 use Rattle.pm_layout.specs.Areas.{undo_slots, word_of_generation, word_of_seal, line_of_slot}
@@ -15,19 +18,25 @@ use Rattle.pm_view.specs.Places.{Block, Small, Big, Root, in_span}
 use Rattle.pm_view.specs.View.{Constants, View, idle}
 use Rattle.pm_world.specs.Lanes.{is_occupancy}
 use Rattle.pm_world.specs.Logs.{slot_list}
-use Rattle.pm_world.specs.Memory.{Memory, PoolWord, LockWord, ZoneLock, CommitCounter, StopWord, bit, cells_of}
+use Rattle.pm_world.specs.Memory.{Memory, bit, cells_of}
+use Rattle.pm_world.specs.Memory.{PoolWord, LockWord, ZoneLock, CommitCounter, StopWord}
 use Rattle.pm_world.specs.World.{Opening, Views, Past, World}
 
--- the lane's log is retired at this generation: no seal, and no slot has a record of it, or of one to come
+-- the lane's log is retired at this generation: no seal, and no slot has a record of it, or of one
+-- to come
 pub record IsRetired (o : Opening) (lane generation : ℕ) : Type 0 where
   pub stored : slice_index o.words (word_of_generation o.shape lane) ≡ generation
   pub first : 1 ≤ generation
   pub last : generation ≤ greatest_generation o.shape
   pub unsealed : slice_index o.words (word_of_seal o.shape lane) ≡ 0
-  pub stale : (j : ℕ) (u : Undo) → j < undo_slots o.shape → undo_of (slot_list (λ i. slice_index o.words (8 * line_of_slot o.shape lane j + i))) ≡ Some u → u.generation < generation
+  pub stale : (j : ℕ) (u : Undo) → j < undo_slots o.shape
+      → undo_of (slot_list (λ i. slice_index o.words (8 * line_of_slot o.shape lane j + i)))
+      ≡ Some u
+      → u.generation < generation
 
 -- the lanes' constants, their generations, and the memory, before any step
-pub record IsOpening (o : Opening) (mem : Memory) (fixed : ℕ → Constants) (generation : ℕ → ℕ) : Type 0 where
+pub record IsOpening (o : Opening) (mem : Memory) (fixed : ℕ → Constants) (generation : ℕ → ℕ)
+    : Type 0 where
   pub some_lanes : 1 ≤ o.lanes
   pub most_lanes : o.lanes ≤ o.shape.lanes
   pub few_lanes : o.lanes ≤ 32
@@ -47,20 +56,27 @@ pub record IsOpening (o : Opening) (mem : Memory) (fixed : ℕ → Constants) (g
 abbrev pub idle_views : (ℕ → Constants) → (ℕ → ℕ) → Views
 idle_views fixed generation k = idle (fixed k) (generation k)
 
--- ---- WHAT THE WORDS TAKE: of a run each block that is allocated, and the bits past its blocks; of a page that is no run each bit; of a zone each run, and each
--- chunk of a huge block
+-- ---- WHAT THE WORDS TAKE: of a run each block that is allocated, and the bits past its blocks;
+-- of a page that is no run each bit; of a zone each run, and each chunk of a huge block
 abbrev pub descriptor : Opening → ℕ → ℕ
 descriptor o c = slice_index o.words (word_of_descriptor o.shape c)
 
 abbrev pub is_in_huge : Opening → ℕ → Bool
-is_in_huge o c = list_any (λ f. is_huge (descriptor o f) && in_span f (descriptor o f / 256) c) (range_with_len 0 (chunks_of o.shape))
+is_in_huge o c =
+    list_any (λ f. is_huge (descriptor o f) && in_span f (descriptor o f / 256) c)
+    (range_with_len 0 (chunks_of o.shape))
 
 abbrev pub takes : Opening → Block → Bool
-takes o (Small c i) = not (is_run (descriptor o c) && nat_lt i (blocks_of (descriptor o c / 256))) || bit (slice_index o.words (word_of_chunk o.shape c)) i
+takes o (Small c i) =
+    not (is_run (descriptor o c) && nat_lt i (blocks_of (descriptor o c / 256)))
+    || bit (slice_index o.words (word_of_chunk o.shape c)) i
 takes o (Big c) = is_run (descriptor o c) || is_in_huge o c
 takes o Root = true
 
 -- THE OPENING LAW: a world opens, for some ghosts
 abbrev pub Opens : Type 0
-Opens = (o : Opening) (mem : Memory) (fixed : ℕ → Constants) (generation : ℕ → ℕ) → IsOpening o mem fixed generation → heap_fault (slice_index o.words) o.shape.lanes o.shape.zones ≡ None
-    → ((a : Block) → is_occupancy o.shape a ≡ true → (cells_of o.shape mem).occ a ≡ takes o a) → (g : Past) × World o mem (idle_views fixed generation) g
+Opens = (o : Opening) (mem : Memory) (fixed : ℕ → Constants) (generation : ℕ → ℕ)
+    → IsOpening o mem fixed generation
+    → heap_fault (slice_index o.words) o.shape.lanes o.shape.zones ≡ None
+    → ((a : Block) → is_occupancy o.shape a ≡ true → (cells_of o.shape mem).occ a ≡ takes o a)
+    → (g : Past) × World o mem (idle_views fixed generation) g
