@@ -7,15 +7,18 @@
 //!
 //! It is proved of all twenty kinds of step that they keep the world; of each world that every
 //! crash image keeps the decided calls, means what the kept calls do and has no fault in its
-//! logs; and that two lanes own no common bit.
+//! logs; that two lanes own no common bit; that two blocks, allocated or a lane's own, share no
+//! line; and that a run stays a run of its class.
 //!
 //! Still to come: that recovered words open a world, of which the part over descriptors of the
 //! table stands in proofs/; the history of what each call held, knew and found; the causes of
 //! `Busy`, `NoObject` and `NoSpace`.
 #![tactic(auto)]
 
+mod block_laws;
 mod crash_laws;
 mod laws;
 
+pub use block_laws::{a_run_stays_a_run, blocks_share_no_line};
 pub use crash_laws::crash_keeps_decided_calls;
 pub use laws::{lawful_steps_keep_the_world, no_bit_is_owned_twice};
