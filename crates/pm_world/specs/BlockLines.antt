@@ -43,7 +43,8 @@ chunks_claimed h (Big f) = h.span f
 chunks_claimed h Root = 0
 
 -- the block is allocated and has the line
-pub record AllocatedHas (sh : Shape) (s : State) (G : Geometry) (B : Block) (line : ℕ) : Type 0 where
+pub record AllocatedHas (sh : Shape) (s : State) (G : Geometry) (B : Block) (line : ℕ)
+    : Type 0 where
   pub allocated : there s B ≡ true
   pub has : IsLineOf sh G (chunks_told s B) B line
 
