@@ -78,3 +78,4 @@ pub mod OpenGeometry
 pub mod OpenTaken
 pub mod OpenFaults
 pub mod EveryStep
+pub mod BlockLines

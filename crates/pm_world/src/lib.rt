@@ -3,21 +3,24 @@
 //! world has the settled words with the calls that it does not lose.
 //!
 //! It speaks of places and bits, and of the calls by what they make final; what they mean is
-//! said above. Docs/MODEL.md, "The world".
+//! said above. Docs/MODEL.md, "The world of any number of lanes".
 //!
 //! It is proved that recovered words, of which nothing of the heap is wrong, open a world; of all
 //! twenty kinds of step that they keep the world; of each world that every crash image keeps the
-//! decided calls, means what the kept calls do and has no fault in its logs; and that two lanes
-//! own no common bit.
+//! decided calls, means what the kept calls do and has no fault in its logs; that two lanes own
+//! no common bit; that two blocks, allocated or a lane's own, share no line; that a run stays a
+//! run of its class; and which steps, wrong ones, are not lawful.
 //!
 //! Still to come: the history of what each call held, knew and found; the causes of `Busy`,
 //! `NoObject` and `NoSpace`.
 #![tactic(auto)]
 
+mod block_laws;
 mod crash_laws;
 mod laws;
 mod opening;
 
+pub use block_laws::{a_run_stays_a_run, blocks_share_no_line};
 pub use crash_laws::crash_keeps_decided_calls;
 pub use laws::{lawful_steps_keep_the_world, no_bit_is_owned_twice};
 pub use opening::recovered_words_open_a_world;
