@@ -77,3 +77,4 @@ pub mod OpenChunks
 pub mod OpenGeometry
 pub mod OpenTaken
 pub mod EveryStep
+pub mod WrongSteps

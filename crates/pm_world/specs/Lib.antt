@@ -11,3 +11,4 @@ pub mod Crash
 pub mod Laws
 pub mod Decisions
 pub mod Opens
+pub mod WrongSteps

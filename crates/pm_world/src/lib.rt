@@ -16,6 +16,8 @@
 
 mod crash_laws;
 mod laws;
+mod wrong_steps;
 
 pub use crash_laws::crash_keeps_decided_calls;
 pub use laws::{lawful_steps_keep_the_world, no_bit_is_owned_twice};
+pub use wrong_steps::wrong_steps_are_not_lawful;
