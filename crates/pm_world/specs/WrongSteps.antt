@@ -4,7 +4,7 @@ use Rattle.std.specs.Int.{bit_at}
 use Rattle.pm_layout.specs.Chunks.{words_of}
 use Rattle.pm_view.specs.declared.occ.Occ.{Occ}
 use Rattle.pm_view.specs.declared.occ.Occ.TheVariants.{Run, Zone}
-use Rattle.pm_view.specs.Places.{Place, Block, Small, Big}
+use Rattle.pm_view.specs.Places.{Place, Small, Big}
 use Rattle.pm_view.specs.Entries.{Entry}
 use Rattle.pm_view.specs.Parts.{Part, SealPart, RootPart, ChunkPart}
 use Rattle.pm_view.specs.Log.{Open, Applying, is_early}
@@ -54,7 +54,8 @@ NoHastySeal = (v : View) (w : ℕ)
     → part_in v w ≡ SealPart → v.changes ≢ []
     → IsUnwritable v w
 
--- A drained seal is not cleared while anything is undrained, nor before all entries are applied
+-- A drained seal is not cleared while anything is undrained, nor while an entry is still to be
+-- applied: todo has these entries
 abbrev pub NoHastyClear : Type 0
 NoHastyClear = (v : View) (w : ℕ) (todo : List Entry)
     → part_in v w ≡ SealPart → v.log.phase ≡ Applying todo → (v.changes ≢ []) ⊎ (todo ≢ [])
@@ -89,7 +90,7 @@ abbrev pub NoForeignChunkRelease : Type 0
 NoForeignChunkRelease = (v : View) (zone bits i : ℕ)
     → bit_at bits i ≡ 1
     → ((f : ℕ) → f ≤ 64 * zone + i → 64 * zone + i < f + span v.fixed.shape v.claims f
-        → is_mine v (Big f) ≡ false)
+    → is_mine v (Big f) ≡ false)
     → IsUnlawful v (Vacate (Zone zone) bits)
 
 -- Before a call has its number, and while its log may grow, no block is released that a reply of

@@ -7,7 +7,8 @@
 //!
 //! It is proved of all twenty kinds of step that they keep the world; of each world that every
 //! crash image keeps the decided calls, means what the kept calls do and has no fault in its
-//! logs; and that two lanes own no common bit.
+//! logs; that two lanes own no common bit; and of each view of a lane that wrong steps are not
+//! lawful, as a store before its record is drained, or the release of a block not its own.
 //!
 //! Still to come: that recovered words open a world, of which the part over descriptors of the
 //! table stands in proofs/; the history of what each call held, knew and found; the causes of

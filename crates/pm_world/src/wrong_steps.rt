@@ -1,10 +1,14 @@
-ghost use Rattle.pm_world.specs.WrongSteps.{NoUnloggedChange, NoHastySeal, NoHastyClear, NoHastyGive};
-ghost use Rattle.pm_world.specs.WrongSteps.{NoHastyRelease, NoForeignRelease, NoForeignChunkRelease};
-ghost use Rattle.pm_world.specs.WrongSteps.{NoToldRelease, StoresAreInPool, OccupancyStays};
+ghost use Rattle.pm_world.specs.WrongSteps.{NoUnloggedChange, NoHastySeal, NoHastyClear};
+ghost use Rattle.pm_world.specs.WrongSteps.{NoHastyGive, NoHastyRelease, NoForeignRelease};
+ghost use Rattle.pm_world.specs.WrongSteps.{NoForeignChunkRelease, NoToldRelease};
+ghost use Rattle.pm_world.specs.WrongSteps.{StoresAreInPool, OccupancyStays};
 
-/// A law: the wrong steps that a lane could make are not lawful: a change of a user's word before its record is drained, a seal
-/// stored or cleared too early, a lock given back or a block released too early, a block released that is not the lane's own
-/// or that a reply names. Occupancy words change by their own two steps alone. No code runs.
+/// A law: whatever a lane's view is, none of these steps is lawful. A user's word in a block that
+/// is not the lane's own is changed before its record is drained. The seal is stored while
+/// anything is undrained, or cleared before all entries are applied. A lock is given back, or a
+/// block released, before the log is retired. A block is released that is not the lane's own, or
+/// that a reply of a call without a number names, but for a pending reservation. And occupancy
+/// words are changed by the two steps that take and release their bits alone. No code runs.
 pub fn wrong_steps_are_not_lawful()
     ensures unlogged_change { NoUnloggedChange }
     ensures hasty_seal { NoHastySeal }
