@@ -12,3 +12,4 @@ pub mod Laws
 pub mod Decisions
 pub mod Opens
 pub mod BlockLines
+pub mod WrongSteps

@@ -19,8 +19,10 @@ mod block_laws;
 mod crash_laws;
 mod laws;
 mod opening;
+mod wrong_steps;
 
 pub use block_laws::{a_run_stays_a_run, blocks_share_no_line};
 pub use crash_laws::crash_keeps_decided_calls;
 pub use laws::{lawful_steps_keep_the_world, no_bit_is_owned_twice};
 pub use opening::recovered_words_open_a_world;
+pub use wrong_steps::wrong_steps_are_not_lawful;
