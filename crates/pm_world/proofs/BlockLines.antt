@@ -46,8 +46,19 @@ fit_in (e ∷ t) f lines i = cond_both (e.0 == lines) (Some e) (find (λ e. e.0 
     (λ _ q. fit_in t f.1 lines i q)
 
 all_fit : AllFit blocks_by_class
-all_fit = (λ i q. omega arith, (λ i q. omega arith, (λ i q. omega arith, (λ i q. omega arith, 
-    (λ i q. omega arith, (λ i q. omega arith, (λ i q. omega arith, (λ i q. omega arith, 0))))))))
+all_fit = (
+  λ i q. omega arith,
+  (
+    λ i q. omega arith,
+    (
+      λ i q. omega arith,
+      (
+        λ i q. omega arith,
+        (λ i q. omega arith, (λ i q. omega arith, (λ i q. omega arith, (λ i q. omega arith, 0)))),
+      ),
+    ),
+  ),
+)
 
 run_fits : (lines i : ℕ) → i < blocks_of lines → 1 + (lines * i + lines) ≤ 64
 run_fits lines i q = fit_in blocks_by_class all_fit lines i q
@@ -74,7 +85,7 @@ abbrev IsOf : Shape → Past → Block → ℕ → Type 0
 IsOf sh g B line =
     ((B ≡ Root) × (line ≡ word_of_root sh / 8))
     ⊎ ((c : ℕ) × IsInChunk sh c line
-        × (B ≡ block_at g.geo g.runs c (line - line_of_chunk sh c)))
+    × (B ≡ block_at g.geo g.runs c (line - line_of_chunk sh c)))
 
 -- the root word is in the header page, which no chunk is
 header_page : (sh : Shape) (c line : ℕ) → line ≡ word_of_root sh / 8 → IsInChunk sh c line → ⊥
@@ -87,7 +98,7 @@ one_block sh g B C line (inl a) (inr b) = absurd (header_page sh b.0 line a.1 b.
 one_block sh g B C line (inr a) (inl b) = absurd (header_page sh a.0 line b.1 a.1)
 one_block sh g B C line (inr a) (inr b) = a.2
     ∙ (ap (λ c. block_at g.geo g.runs c (line - line_of_chunk sh c))
-        (chunk_apart sh a.0 b.0 line a.1 b.1) ∙ sym b.2)
+    (chunk_apart sh a.0 b.0 line a.1 b.1) ∙ sym b.2)
 
 module _ (o : Opening) (mem : Memory) (views : Views) (g : Past) (x : World o mem views g) where
   fit : (k : ℕ) → SightFits o.shape (cells_of o.shape mem) (settled_words o g)
@@ -100,18 +111,25 @@ module _ (o : Opening) (mem : Memory) (views : Views) (g : Past) (x : World o me
       let y = and_parts (g.runs c) (nat_lt i (blocks_of cl)) v in
       let most = run_fits cl i (ltb-true i (blocks_of cl) y.1) in let from = a.from in
       let to : line < line_of_chunk o.shape c + 1 + (cl * i + cl) =
-          subst (λ n. line < line_of_chunk o.shape c + 1 + n) (next_times cl i) a.to in
-      inr (c, record { from = omega arith; to = omega arith },
-          sym (cond-true (g.runs c) (Small c ((l - 1) / cl)) (Big (g.geo.first c)) y.0
-          ∙ ap (λ j. Small c j) (small_lines cl l i (omega arith) (omega arith))))
+      subst (λ n. line < line_of_chunk o.shape c + 1 + n) (next_times cl i) a.to in
+      inr (
+        c,
+        record { from = omega arith; to = omega arith },
+        sym (cond-true (g.runs c) (Small c ((l - 1) / cl)) (Big (g.geo.first c)) y.0
+            ∙ ap (λ j. Small c j) (small_lines cl l i (omega arith) (omega arith))),
+      )
 
   big_has : (f c line : ℕ) → (g.geo.first c == f) ≡ true
       → (g.geo.first c ≡ f → g.runs c ≡ false) → IsInChunk o.shape c line
       → IsOf o.shape g (Big f) line
   big_has f c line e none a = let l = line - line_of_chunk o.shape c in
       let q = eqb-true (g.geo.first c) f e in
-      inr (c, a, sym (cond-false (g.runs c) (Small c ((l - 1) / g.geo.class c))
-          (Big (g.geo.first c)) (none q) ∙ ap (λ y. Big y) q))
+      inr (
+        c,
+        a,
+        sym (cond-false (g.runs c) (Small c ((l - 1) / g.geo.class c))
+            (Big (g.geo.first c)) (none q) ∙ ap (λ y. Big y) q),
+      )
 
   allocated_of : (B : Block) (line : ℕ) → AllocatedHas o.shape (settled_words o g) g.geo B line
       → IsOf o.shape g B line
@@ -119,7 +137,7 @@ module _ (o : Opening) (mem : Memory) (views : Views) (g : Past) (x : World o me
   allocated_of (Big f) line a = let t = a.has in
       big_has f t.0 line (x.bits.geo.shape f a.allocated t.0 ∙ t.1)
       (λ q. x.bits.geo.huge t.0
-          (subst (λ y. there (settled_words o g) (Big y) ≡ true) (sym q) a.allocated)) t.2
+      (subst (λ y. there (settled_words o g) (Big y) ≡ true) (sym q) a.allocated)) t.2
   allocated_of Root line a = inl (refl, a.has)
 
   own_of : (k : ℕ) (B : Block) (line : ℕ)
@@ -234,7 +252,7 @@ module _ (o : Opening) (mem : Memory) (views : Views) (g : Past) (x : World o me
   stored_class Open RootPart w n f c r = refl
   stored_class Open (DescriptorPart d) w n f c r = cond-false (c == d) (n / 256) (g.geo.class c)
       (ne_eqb c d (λ e. both_ways (g.runs d) (own_no_run d f.own)
-          (subst (λ y. g.runs y ≡ true) e r)))
+      (subst (λ y. g.runs y ≡ true) e r)))
   stored_class Open (ChunkPart d i) w n f c r = refl
   stored_class Open OtherPart w n f c r = refl
   stored_class Idle q w n f c r = refl

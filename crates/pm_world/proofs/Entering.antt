@@ -5,13 +5,13 @@ use Rattle.std.proofs.Common.{◌≡◌, ℕ, zero, suc, ◌+◌, ◌*◌, ◌<�
 use Rattle.std.proofs.lemmas.Bool.{both_ways, and_parts, and_from, or_cases, or_right, cond-true, false_from_ne_true}
 use Rattle.pm_layout.specs.declared.shape.Shape.{Shape}
 use Rattle.pm_view.specs.Changes.{Undrained}
-use Rattle.pm_view.specs.Claims.{class, first, span, geometry}
+use Rattle.pm_view.specs.Claims.{first, geometry}
 use Rattle.pm_view.specs.Entries.{Entry, delta, latest, redos, with_redo, turn, first_of_two}
 use Rattle.pm_view.specs.Log.{Open, Recorded, Log, old_in, old_of}
 use Rattle.pm_view.specs.Places.{Place, InRun, InHuge, Descr, RootWord, Block, Small, Big, Root, part, block_of, header, is_data, in_span}
 use Rattle.pm_view.specs.View.{View}
 use Rattle.pm_world.specs.States.{State, Diff, diff, given, over, there, val, Cells}
-use Rattle.pm_world.specs.Sights.{Hold, is_made, is_recorded, is_slot_drained, is_logged_from, fresh, call_of, call_in, sight_of}
+use Rattle.pm_world.specs.Sights.{Hold, is_made, is_recorded, is_slot_drained, is_logged_from, call_of, call_in, sight_of}
 use Rattle.pm_world.specs.Lanes.{Ghost, own, has, owns, is_in_making, TurnBefore, DescrFits, is_size, SightFits, GeoFits}
 use Rattle.pm_world.proofs.BlocksKnown.{first_so, block_so}
 use Rattle.pm_world.proofs.Frame.{mine_own, own_has, some_first, fresh_given, maker_no_run, maker_owns, small_run}

@@ -1,5 +1,4 @@
 -- EVERY KIND OF STEP KEEPS THE WORLD.
-use Rattle.std.proofs.Common.{ℕ}
 use Rattle.pm_view.specs.Steps.{Step}
 use Rattle.pm_view.specs.Steps.Step.{Load, Store, Or, And, Flush, Drain, TakeWrite, TakeRead, Raise, Give, ZoneTry, ZoneGive, Occupied, Occupy, Vacate, Draw, NumberSeen, StopSeen, SetStop, Tell}
 use Rattle.pm_world.specs.Laws.{Keeps}

@@ -11,7 +11,7 @@ use Rattle.pm_view.specs.Log.{place_at}
 use Rattle.pm_view.specs.Places.{Place, InRun, InHuge, Descr, RootWord, block_of, is_data, is_place, word_of}
 use Rattle.pm_view.specs.View.{View, runs_one}
 use Rattle.pm_world.specs.States.{State, Diff, read, Cells}
-use Rattle.pm_world.specs.Sights.{is_pictured, picture, sight_of}
+use Rattle.pm_world.specs.Sights.{is_pictured, sight_of}
 use Rattle.pm_world.specs.Lanes.{Ghost, own, owns, sees, Flies, SightFits, GeoFits}
 use Rattle.pm_world.specs.Memory.{Memory, PoolWord, bit, cells_of}
 use Rattle.pm_world.specs.World.{Opening, Views, Past, ghost_of, settled_words, World}

@@ -79,5 +79,4 @@ pub mod OpenTaken
 pub mod OpenFaults
 pub mod EveryStep
 pub mod BlockLines
-pub mod Opening
 pub mod WrongSteps

@@ -1,18 +1,13 @@
 -- Which huge block a chunk is in, as a world opens: its first chunk is the nearest one before it whose descriptor has the chunk.
-use Rattle.std.proofs.Common.{◌≡◌, ◌≢◌, ℕ, zero, suc, ◌+◌, ◌-◌, ◌*◌, ◌/◌, ◌%◌, ◌^◌, ◌<◌, ◌≤◌, ◌⊎◌, inl, inr, ⊎_elim, nat_le, nat_lt, Bool, true, false, cond, not, eqb, ◌==◌, ◌&&◌, refl, sym, ap, ◌∙◌, subst, arith, eq-eqb, ne_eqb}
-use Rattle.std.proofs.lemmas.Bool.{cases_eq, cases_lt, cases_Bool, both_ways, eqb-true, ltb-true, lt-ltb, leb-true, le-leb, and_parts, and_from, and_left, and_right, cond-true, cond-false, false_from_ne_true, not-true}
-use Rattle.std.proofs.lemmas.Nat.Bits.{bit_at-zero}
-use Rattle.std.specs.Int.{bit_at}
+use Rattle.std.proofs.Common.{◌≡◌, ◌≢◌, ℕ, zero, suc, ◌+◌, ◌-◌, ◌/◌, ◌%◌, ◌^◌, ◌<◌, ◌≤◌, ◌⊎◌, inl, inr, ⊎_elim, nat_le, nat_lt, Bool, true, false, cond, ◌&&◌, refl, ap, ◌∙◌, arith}
+use Rattle.std.proofs.lemmas.Bool.{cases_eq, cases_lt, cases_Bool, both_ways, eqb-true, ltb-true, lt-ltb, leb-true, le-leb, and_parts, and_from, cond-true, cond-false}
 use Rattle.std.specs.Prelude.{slice_index}
 use Rattle.pm_layout.specs.Chunks.{chunks_of}
-use Rattle.pm_view.specs.Claims.{is_run, is_huge}
-use Rattle.pm_view.specs.Places.{Descr, Big, is_place, in_span}
-use Rattle.pm_world.specs.States.{there, spans, val}
-use Rattle.pm_world.specs.Memory.{bit, huge_told}
+use Rattle.pm_view.specs.Claims.{is_huge}
+use Rattle.pm_view.specs.Places.{Descr, is_place, in_span}
 use Rattle.pm_world.specs.Opens.{descriptor}
-use Rattle.pm_world.specs.World.{Opening, origin}
+use Rattle.pm_world.specs.World.{Opening}
 use Rattle.pm_world.proofs.OpenWords.{IsRunIn, IsHugeIn, InTable}
-use Rattle.pm_world.proofs.Values.{val_from}
 
 -- chunk f is the first of a huge block that has chunk c
 abbrev pub is_head : Opening → ℕ → ℕ → Bool

@@ -1,14 +1,13 @@
 -- The geometry of a world that opens fits its words; and so the world opens.
-use Rattle.std.proofs.Common.{◌≡◌, ◌≢◌, ℕ, zero, suc, ◌+◌, ◌*◌, ◌/◌, ◌%◌, ◌^◌, ◌<◌, ◌≤◌, ◌⊎◌, inl, inr, ⊎_elim, nat_le, nat_lt, Bool, true, false, cond, not, eqb, ◌==◌, ◌&&◌, refl, sym, ap, ◌∙◌, subst, arith, eq-eqb, ne_eqb}
-use Rattle.std.proofs.lemmas.Bool.{cases_eq, cases_Bool, both_ways, eqb-true, ltb-true, lt-ltb, leb-true, le-leb, and_parts, and_from, and_left, and_right, not-true}
+use Rattle.std.proofs.Common.{◌≡◌, ◌≢◌, ℕ, ◌+◌, ◌/◌, ◌%◌, ◌^◌, ◌<◌, ◌⊎◌, ⊎_elim, nat_le, nat_lt, true, false, not, ◌==◌, ◌&&◌, refl, sym, ap, ◌∙◌, subst, arith, eq-eqb, ne_eqb}
+use Rattle.std.proofs.lemmas.Bool.{cases_eq, cases_Bool, both_ways, ltb-true, lt-ltb, leb-true, le-leb, and_parts, and_from, and_right}
 use Rattle.std.proofs.lemmas.Nat.Bits.{bit_at-zero}
-use Rattle.std.specs.Int.{bit_at}
 use Rattle.std.specs.Prelude.{slice_index}
 use Rattle.pm_layout.specs.Chunks.{chunks_of, word_of_descriptor}
 use Rattle.pm_view.specs.Claims.{is_run, is_huge}
 use Rattle.pm_view.specs.Places.{Block, Descr, Big, is_place, in_span}
 use Rattle.pm_view.specs.View.{Constants}
-use Rattle.pm_world.specs.States.{there, spans, val}
+use Rattle.pm_world.specs.States.{there, val}
 use Rattle.pm_world.specs.Lanes.{GeoFits, is_occupancy, is_taken}
 use Rattle.pm_world.specs.Memory.{Memory, bit, huge_told, cells_of}
 use Rattle.pm_world.specs.Opens.{descriptor, IsOpening, idle_views}

@@ -1,15 +1,15 @@
 -- The occupancy bits of a world that opens are what its words take.
-use Rattle.std.specs.Prelude.{slice_index, slice_index_or, length}
-use Rattle.std.specs.List.{range_with_len, list_any}
+use Rattle.std.specs.Prelude.{slice_index, slice_index_or}
+use Rattle.std.specs.List.{range_with_len}
 use Rattle.std.specs.Int.{bit_at}
-use Rattle.std.proofs.Common.{◌≡◌, ◌≢◌, ℕ, zero, suc, ◌+◌, ◌*◌, ◌/◌, ◌%◌, ◌^◌, ◌<◌, ◌≤◌, ◌⊎◌, inl, inr, ⊎_elim, nat_le, nat_lt, Bool, true, false, not, eqb, ◌==◌, ◌&&◌, ◌||◌, refl, sym, ap, ◌∙◌, subst, arith, eq-eqb, ne_eqb}
+use Rattle.std.proofs.Common.{◌≡◌, ℕ, ◌+◌, ◌/◌, ◌%◌, ◌^◌, ◌<◌, ⊎_elim, nat_le, nat_lt, Bool, true, false, not, ◌&&◌, ◌||◌, refl, sym, ap, ◌∙◌, subst, arith, eq-eqb, ne_eqb}
 use Rattle.std.proofs.lemmas.Bool.{cases_Bool, both_ways, eqb-true, ltb-true, lt-ltb, leb-true, and_parts, and_from, false_from_ne_true}
 use Rattle.std.proofs.lemmas.List.Folds.{list_any_none, list_any_at}
 use Rattle.std.proofs.lemmas.List.FromFn.{length-range_with_len, get_or-range_with_len}
 use Rattle.pm_layout.specs.Chunks.{chunks_of, word_of_chunk}
 use Rattle.pm_layout.specs.Sizes.{blocks_of}
 use Rattle.pm_view.specs.Claims.{is_run, is_huge}
-use Rattle.pm_view.specs.Places.{Block, Small, Big, Root, Descr, InRun, is_place, in_span}
+use Rattle.pm_view.specs.Places.{Block, Small, Big, Root, Descr, is_place, in_span}
 use Rattle.pm_view.specs.View.{Constants}
 use Rattle.pm_world.specs.States.{there}
 use Rattle.pm_world.specs.Lanes.{is_occupancy, is_taken}
@@ -18,8 +18,8 @@ use Rattle.pm_world.specs.Opens.{descriptor, is_in_huge, takes, IsOpening, idle_
 use Rattle.pm_world.specs.World.{Opening, Views, Past, origin, ghost_of, World}
 use Rattle.pm_world.proofs.Opened.{opened}
 use Rattle.pm_world.proofs.OpenWords.{InTable}
-use Rattle.pm_world.proofs.OpenChunks.{is_head, first_of, first_is}
-use Rattle.pm_world.proofs.OpenGeometry.{huge_there, has_chunk, no_run_word, opens_in_table}
+use Rattle.pm_world.proofs.OpenChunks.{first_of, first_is}
+use Rattle.pm_world.proofs.OpenGeometry.{huge_there, has_chunk, opens_in_table}
 
 module _ (o : Opening) (views : Views) (small : (w : ℕ) → slice_index o.words w < 2 ^ 64) (table : (c : ℕ) → c < chunks_of o.shape → InTable o c) where
   abbrev has_it : ℕ → ℕ → Bool

@@ -1,6 +1,6 @@
 -- What the words of a pool say of runs and of descriptors, as a world opens, where each descriptor is one of the table and no bitmap has a bit past its run's
 -- blocks.
-use Rattle.std.proofs.Common.{◌≡◌, ℕ, ◌+◌, ◌*◌, ◌/◌, ◌%◌, ◌<◌, ◌≤◌, ◌⊎◌, ⊎_elim, nat_lt, Bool, true, false, not, eqb, ◌==◌, ◌&&◌, ◌||◌, refl, sym, ap, ◌∙◌, subst, arith, eq-eqb, ne_eqb}
+use Rattle.std.proofs.Common.{◌≡◌, ℕ, ◌+◌, ◌/◌, ◌%◌, ◌<◌, ◌≤◌, ◌⊎◌, ⊎_elim, nat_lt, true, false, not, ◌==◌, ◌&&◌, ap, ◌∙◌, arith, eq-eqb, ne_eqb}
 use Rattle.std.proofs.lemmas.Bool.{cases_Bool, both_ways, eqb-true, ltb-true, lt-ltb, and_parts, and_from, and_left, and_right}
 use Rattle.std.proofs.lemmas.Nat.Bits.{bit_at-zero}
 use Rattle.pm_layout.specs.Chunks.{chunks_of}
@@ -9,7 +9,7 @@ use Rattle.pm_view.specs.Claims.{is_run}
 use Rattle.pm_view.specs.Places.{InRun, Descr, Small, Big, is_place, word_of}
 use Rattle.pm_world.specs.States.{there}
 use Rattle.pm_world.specs.Lanes.{valid}
-use Rattle.pm_world.specs.Memory.{bit, huge_told, bits_of}
+use Rattle.pm_world.specs.Memory.{bit, huge_told}
 use Rattle.pm_world.specs.Opens.{descriptor}
 use Rattle.pm_world.specs.World.{Opening, Views, origin, ghost_of, was_run}
 use Rattle.pm_world.proofs.Opened.{opened}

@@ -1,26 +1,22 @@
 -- A world opens, where the geometry of its huge blocks and runs fits its words.
-use Rattle.std.specs.Prelude.{List, [], ◌∷◌, length, slice_index}
-use Rattle.std.specs.Int.{bit_at}
-use Rattle.std.proofs.Common.{◌≡◌, ◌≢◌, ℕ, zero, suc, ◌+◌, ◌-◌, ◌*◌, ◌/◌, ◌%◌, ◌^◌, ◌<◌, ◌≤◌, ◌⊎◌, inl, inr, ⊎_elim, nat_le, nat_lt, Bool, true, false, cond, not, eqb, ◌==◌, ◌&&◌, ◌||◌, refl, sym, ap, ◌∙◌, subst, arith, eq-eqb, ne_eqb, Option, None, Some}
-use Rattle.std.proofs.lemmas.Bool.{both_ways, eqb-true, and_parts, and_right, or_right}
+use Rattle.std.specs.Prelude.{[], slice_index}
+use Rattle.std.proofs.Common.{◌≡◌, ℕ, zero, suc, ◌+◌, ◌*◌, ◌/◌, ◌^◌, ◌<◌, ◌≤◌, inl, ⊎_elim, nat_lt, Bool, true, false, cond, not, ◌==◌, ◌&&◌, ◌||◌, refl, sym, ap, ◌∙◌, subst, arith, ne_eqb, Option, None}
+use Rattle.std.proofs.lemmas.Bool.{both_ways, and_parts, or_right}
 use Rattle.std.proofs.lemmas.Nat.Bits.{bit_at-zero}
-use Rattle.pm_layout.specs.declared.shape.Shape.{Shape}
-use Rattle.pm_layout.specs.Areas.{undo_slots, word_of_generation, word_of_seal, word_of_entry, line_of_slot}
-use Rattle.pm_layout.specs.Chunks.{chunks_of, word_of_descriptor}
+use Rattle.pm_layout.specs.Areas.{word_of_generation, word_of_seal, line_of_slot}
+use Rattle.pm_layout.specs.Chunks.{word_of_descriptor}
 use Rattle.pm_record.specs.Undo.{undo_of}
 use Rattle.pm_view.specs.Claims.{is_run}
 use Rattle.pm_view.specs.Entries.{latest, turn}
-use Rattle.pm_view.specs.Limits.{greatest_generation}
-use Rattle.pm_view.specs.Log.{new_log, Idle}
-use Rattle.pm_view.specs.Places.{Place, InRun, InHuge, Descr, RootWord, Block, Small, Big, Root, Geometry, block_of, is_data, is_place}
-use Rattle.pm_view.specs.View.{Constants, View, idle}
+use Rattle.pm_view.specs.Places.{Place, InRun, InHuge, Descr, RootWord, Block, Small, Big, Root, block_of, is_data, is_place}
+use Rattle.pm_view.specs.View.{Constants, idle}
 use Rattle.pm_world.specs.States.{State, given, diff, live, read, shown}
 use Rattle.pm_world.specs.Sights.{Hold, is_use, hold_of, picture, sight_of}
-use Rattle.pm_world.specs.Lanes.{Ghost, own, owns, sees, Flies, SightFits, GeoFits, Bits, is_occupancy, is_taken}
-use Rattle.pm_world.specs.Logs.{slot_list, LogFits}
-use Rattle.pm_world.specs.Memory.{Memory, PoolWord, LockWord, ZoneLock, CommitCounter, StopWord, bit, run_told, bits_of, cells_of}
+use Rattle.pm_world.specs.Lanes.{own, owns, sees, Flies, SightFits, GeoFits, Bits, is_occupancy, is_taken}
+use Rattle.pm_world.specs.Logs.{slot_list}
+use Rattle.pm_world.specs.Memory.{Memory, PoolWord, LockWord, bit, run_told, bits_of, cells_of}
 use Rattle.pm_world.specs.Opens.{IsOpening, idle_views, descriptor}
-use Rattle.pm_world.specs.World.{Opening, Views, Past, origin, ghost_of, was_run, AreaFits, LaneFits, may_draw_count, World}
+use Rattle.pm_world.specs.World.{Opening, Views, Past, origin, ghost_of, was_run, AreaFits, may_draw_count, World}
 use Rattle.pm_world.proofs.StepDrain.{and_false}
 
 -- the ghosts of a world that opens: no call, the runs that descriptors tell, each of its class, and nothing held; the first chunks of huge blocks are given

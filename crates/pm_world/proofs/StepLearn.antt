@@ -14,7 +14,7 @@ use Rattle.pm_view.specs.Steps.Step.{Load}
 use Rattle.pm_view.specs.View.{View}
 use Rattle.pm_view.specs.Views.{part_in, seen_by}
 use Rattle.pm_world.specs.States.{given}
-use Rattle.pm_world.specs.Sights.{is_recorded, is_made, picture, sight_of}
+use Rattle.pm_world.specs.Sights.{is_recorded, is_made, sight_of}
 use Rattle.pm_world.specs.Lanes.{own, owns}
 use Rattle.pm_world.specs.Laws.{Turn, Keeps}
 use Rattle.pm_world.specs.Memory.{Memory, PoolWord}

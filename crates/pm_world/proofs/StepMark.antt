@@ -1,9 +1,8 @@
 -- A CHUNK IS MARKED AS A RUN by the store of its descriptor, and the world is kept.
-use Rattle.std.specs.Prelude.{List, [], ◌∷◌, All, length, slice_index, slice_index_or, bit_and, IsSomeAnd, if◌then◌else◌}
+use Rattle.std.specs.Prelude.{List, [], ◌∷◌, length, slice_index_or, bit_and, IsSomeAnd, if◌then◌else◌}
 use Rattle.std.specs.Int.{bit_at}
-use Rattle.std.specs.List.{list_any}
 use Rattle.std.specs.Option.{option_map, ForSome}
-use Rattle.std.proofs.Common.{◌≡◌, ◌≢◌, ℕ, zero, suc, ◌+◌, ◌-◌, ◌*◌, ◌/◌, ◌%◌, ◌^◌, ◌<◌, ◌≤◌, ◌⊎◌, inl, inr, ⊎_elim, nat_le, nat_lt, Bool, true, false, cond, not, eqb, ◌==◌, ◌&&◌, ◌||◌, refl, sym, ap, ◌∙◌, subst, arith, eq-eqb, ne_eqb, Option, None, Some}
+use Rattle.std.proofs.Common.{◌≡◌, ◌≢◌, ℕ, zero, suc, ◌+◌, ◌*◌, ◌/◌, ◌%◌, ◌^◌, ◌<◌, ◌≤◌, inl, inr, ⊎_elim, nat_le, nat_lt, Bool, true, false, cond, not, eqb, ◌==◌, ◌&&◌, ◌||◌, refl, sym, ap, ◌∙◌, subst, arith, eq-eqb, ne_eqb, Option, None, Some}
 use Rattle.std.proofs.lemmas.Bool.{cases_eq, cases_Bool, both_ways, eqb-true, ltb-true, and_parts, and_from, and_left, and_right, or_cases, not-true, cond-true, cond-false, cond_both, false_from_ne_true}
 use Rattle.std.proofs.lemmas.List.Folds.{list_any_none}
 use Rattle.std.proofs.lemmas.Nat.{and_mask}
@@ -16,32 +15,30 @@ use Rattle.pm_layout.specs.Sizes.{blocks_of}
 use Rattle.pm_layout.specs.Chunks.{words_of, chunks_of, page_of_chunk, word_of_chunk, word_of_descriptor, word_of_root, is_descriptor_word, is_chunk_page, chunk_at, chunk_described}
 use Rattle.pm_view.specs.Bits.{all_bits}
 use Rattle.pm_view.specs.Changes.{Undrained, is_dirty_bit}
-use Rattle.pm_view.specs.Claims.{Claim, Marked, Knows, locked, reads, class, making, header_in, found, here, mine, span, first, geometry, pictured, is_held}
+use Rattle.pm_view.specs.Claims.{Claim, Marked, Knows, locked, class, making, header_in, found, here, geometry, pictured, is_held}
 use Rattle.pm_view.specs.Counts.{MayCount, IsAtStop}
 use Rattle.pm_view.specs.Entries.{latest, redos, turn}
-use Rattle.pm_view.specs.Limits.{greatest_generation}
-use Rattle.pm_view.specs.Log.{Phase, Open, Log, place_at}
-use Rattle.pm_view.specs.Parts.{Part, GenerationPart, SealPart, EntryPart, SlotPart, RootPart, DescriptorPart, ChunkPart, OtherPart, is_entry_word, is_slot_word, pool_part, part_of, place_in}
+use Rattle.pm_view.specs.Log.{Open, place_at}
+use Rattle.pm_view.specs.Parts.{Part, GenerationPart, SealPart, EntryPart, SlotPart, DescriptorPart, is_entry_word, is_slot_word, pool_part, part_of, place_in}
 use Rattle.pm_view.specs.Places.{Place, InRun, InHuge, Descr, RootWord, Block, Small, Big, Root, part, block_of, is_data, is_place, word_of}
 use Rattle.pm_view.specs.View.{View}
 use Rattle.pm_view.specs.Views.{part_in, value_in, changed}
 use Rattle.pm_world.specs.States.{State, given, diff, read, put1, Cells}
-use Rattle.pm_world.specs.Sights.{Hold, Sight, hold_of, is_pictured, picture, is_use, is_soiled, is_recorded, is_logged, is_made, fresh, sight_of}
+use Rattle.pm_world.specs.Sights.{Hold, Sight, hold_of, is_pictured, picture, is_soiled, is_recorded, is_logged, is_made, fresh, sight_of}
 use Rattle.pm_world.specs.Lanes.{Ghost, owns, is_decided, Flies, SightFits, Bits}
 use Rattle.pm_world.specs.Logs.{slot_list, AreaChange, IsOld, PhaseFits, LogFits}
 use Rattle.pm_world.specs.Lawful.{MayMark, MayStore}
 use Rattle.pm_world.specs.Laws.{Turn, KeepsAt}
 use Rattle.pm_world.specs.Memory.{Memory, PoolWord, LockWord, RunWord, ZoneWord, ZoneLock, CommitCounter, StopWord, Becomes, occ_at, bit, run_told, huge_told, bits_of, descriptor_told, cells_by, cells_of}
-use Rattle.pm_world.specs.World.{Opening, Views, Past, origin, ghost_of, settled_words, AloneFits, RecordedFits, LaneFits, is_header, World}
-use Rattle.pm_world.proofs.AfterStore.{KeepsWith, keeps_at}
+use Rattle.pm_world.specs.World.{Opening, Views, Past, origin, ghost_of, settled_words, AloneFits, RecordedFits, LaneFits, World}
+use Rattle.pm_world.proofs.AfterStore.{keeps_at}
 use Rattle.pm_world.proofs.Cells.{other_sort, other_number, occ_sort, cells_stored, bits_else, descriptor_else}
 use Rattle.pm_world.proofs.Counting.{count_same}
 use Rattle.pm_world.proofs.Frame.{Around, mine_own}
 use Rattle.pm_world.proofs.Occupies.{split}
-use Rattle.pm_world.proofs.OccWorlds.{early_undecided}
 use Rattle.pm_world.proofs.PlacesAt.{is_at}
 use Rattle.pm_world.proofs.Replays.{put1_here, put1_else}
-use Rattle.pm_world.proofs.Runs.{is_of_chunk, with_mark, ghost_with_mark, Marks, marks_run}
+use Rattle.pm_world.proofs.Runs.{is_of_chunk, with_mark, Marks, marks_run}
 use Rattle.pm_world.proofs.SlotWords.{slot_range}
 use Rattle.pm_world.proofs.StepDraw.{all_cons}
 use Rattle.pm_world.proofs.StoreArea.{undrained_by, logged_else, over_area}

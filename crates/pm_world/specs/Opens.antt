@@ -5,7 +5,6 @@
 use Rattle.std.specs.Prelude.{◌≡◌, ℕ, ◌+◌, ◌*◌, ◌/◌, ◌^◌, ◌<◌, ◌≤◌, nat_lt, length, slice_index}
 use Rattle.std.specs.Prelude.{Bool, true, not, ◌&&◌, ◌||◌, None, Some}
 use Rattle.std.specs.List.{list_any, range_with_len}
-use Rattle.pm_layout.specs.declared.shape.Shape.{Shape}
 use Rattle.pm_layout.specs.Areas.{undo_slots, word_of_generation, word_of_seal, line_of_slot}
 use Rattle.pm_layout.specs.Chunks.{words_of, chunks_of, word_of_chunk, word_of_descriptor}
 use Rattle.pm_layout.specs.Sizes.{blocks_of}
@@ -15,7 +14,7 @@ use Rattle.pm_record.specs.declared.undo.Undo.{Undo}
 use Rattle.pm_view.specs.Limits.{greatest_generation}
 use Rattle.pm_view.specs.Claims.{is_run, is_huge}
 use Rattle.pm_view.specs.Places.{Block, Small, Big, Root, in_span}
-use Rattle.pm_view.specs.View.{Constants, View, idle}
+use Rattle.pm_view.specs.View.{Constants, idle}
 use Rattle.pm_world.specs.Lanes.{is_occupancy}
 use Rattle.pm_world.specs.Logs.{slot_list}
 use Rattle.pm_world.specs.Memory.{Memory, bit, cells_of}
