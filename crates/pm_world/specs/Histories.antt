@@ -1,5 +1,5 @@
--- HOW THE HISTORY IS KEPT: with what each call knew as it took its number, from the opening on and by
--- every lawful step.
+-- HOW THE HISTORY IS KEPT, with what each call knew as it took its number: from the opening on,
+-- and by every lawful step.
 use Rattle.std.specs.Prelude.{◌≡◌, ℕ, ◌<◌}
 use Rattle.pm_view.specs.Steps.{Step}
 use Rattle.pm_view.specs.Steps.Step.{Draw}
