@@ -78,5 +78,6 @@ pub mod OpenGeometry
 pub mod OpenTaken
 pub mod OpenFaults
 pub mod EveryStep
+pub mod Histories
 pub mod BlockLines
 pub mod WrongSteps

@@ -9,20 +9,22 @@
 //! twenty kinds of step that they keep the world; of each world that every crash image keeps the
 //! decided calls, means what the kept calls do and has no fault in its logs; that two lanes own
 //! no common bit; that two blocks, allocated or a lane's own, share no line; that a run stays a
-//! run of its class; and which steps, wrong ones, are not lawful.
+//! run of its class; that what each call held, knew and found as it took its number agrees with
+//! the kept words before it; and which steps, wrong ones, are not lawful.
 //!
-//! Still to come: the history of what each call held, knew and found; the causes of `Busy`,
-//! `NoObject` and `NoSpace`.
+//! Still to come: the causes of `Busy`, `NoObject` and `NoSpace`.
 #![tactic(auto)]
 
 mod block_laws;
 mod crash_laws;
+mod history;
 mod laws;
 mod opening;
 mod wrong_steps;
 
 pub use block_laws::{a_run_stays_a_run, blocks_share_no_line};
 pub use crash_laws::crash_keeps_decided_calls;
+pub use history::history_stands;
 pub use laws::{lawful_steps_keep_the_world, no_bit_is_owned_twice};
 pub use opening::recovered_words_open_a_world;
 pub use wrong_steps::wrong_steps_are_not_lawful;
