@@ -81,3 +81,4 @@ pub mod EveryStep
 pub mod Histories
 pub mod BlockLines
 pub mod WrongSteps
+pub mod RunsKept

@@ -14,3 +14,5 @@ pub mod Decisions
 pub mod Opens
 pub mod BlockLines
 pub mod WrongSteps
+pub mod Reports
+pub mod Runs

@@ -10,7 +10,8 @@
 //! decided calls, means what the kept calls do and has no fault in its logs; that two lanes own
 //! no common bit; that two blocks, allocated or a lane's own, share no line; that a run stays a
 //! run of its class; that what each call held, knew and found as it took its number agrees with
-//! the kept words before it; and which steps, wrong ones, are not lawful.
+//! the kept words before it; that numbers do not run out, a stop word that is set shows a lane at
+//! its stop number and occupancy bits are exact; and which steps, wrong ones, are not lawful.
 //!
 //! Still to come: the causes of `Busy`, `NoObject` and `NoSpace`.
 #![tactic(auto)]
@@ -20,11 +21,13 @@ mod crash_laws;
 mod history;
 mod laws;
 mod opening;
+mod report_laws;
 mod wrong_steps;
 
 pub use block_laws::{a_run_stays_a_run, blocks_share_no_line};
 pub use crash_laws::crash_keeps_decided_calls;
 pub use history::history_stands;
-pub use laws::{lawful_steps_keep_the_world, no_bit_is_owned_twice};
+pub use laws::{lawful_steps_keep_the_world, no_bit_is_owned_twice, runs_keep_worlds};
 pub use opening::recovered_words_open_a_world;
+pub use report_laws::worlds_bear_reports;
 pub use wrong_steps::wrong_steps_are_not_lawful;
