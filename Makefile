@@ -8,7 +8,7 @@ POOL := build/demo.pool
 build:
 	@mkdir -p build
 	@rm -f build/pmempool build/status
-	@echo 'The first build proves every crate: about an hour on four processors, and two on two. A later one proves what has changed.'
+	@echo 'The first build proves every crate, an hour or more (bench/gate.csv). A later one proves what has changed.'
 	@{ cd crates/pmempool && rt run; echo $$? > ../../build/status; } 2>&1 | tee build/log
 	@test "$$(cat build/status)" = 2 && grep -q '^rt: running out/pmempool' build/log
 	@cp crates/pmempool/out/pmempool build/pmempool
