@@ -1,7 +1,18 @@
 -- Where the parts of a lane's log stand, by the pool's shape, and how much room a log has. Words and lines go by their numbers: a word has 8
 -- bytes, a line 8 words. A second version of the layout changes these functions and nothing that takes them.
-use Rattle.std.specs.Prelude.{ℕ, ◌+◌, ◌*◌}
+use Rattle.std.specs.Prelude.{ℕ, ◌+◌, ◌*◌, ◌^◌}
 use Rattle.pm_layout.specs.declared.shape.Shape.{Shape}
+
+-- the words and the bytes of a page: the header, a zone's descriptors and each chunk have one
+abbrev pub page_words : ℕ
+page_words = 512
+
+abbrev pub page_bytes : ℕ
+page_bytes = 4096
+
+-- the greatest generation; a lane that has it writes no more
+abbrev pub greatest_generation : Shape → ℕ
+greatest_generation shape = 2 ^ 62
 
 -- the undo slots of a lane
 abbrev pub undo_slots : Shape → ℕ

@@ -1,5 +1,6 @@
 -- One lane's memory where no other lane runs, and the views that it may be seen as.
 use Rattle.std.specs.Prelude.{◌≡◌, ℕ, bit_and, bit_or, ◌+◌, ◌/◌, ◌%◌, ◌^◌, ◌<◌, ◌≤◌, ◌==◌, Bool, true, false, Contains, replicate, List, [], ◌∷◌, ◌++◌, length, slice_index, slice_index_or, slice_set, Option, Some, None, IsSomeAnd}
+use Rattle.pm_layout.specs.Areas.{page_words, page_bytes}
 use Rattle.std.specs.Option.{ForSome}
 use Rattle.std.specs.List.{list_any}
 use Rattle.pm_layout.specs.declared.shape.Shape.{Shape}
@@ -16,7 +17,7 @@ use Rattle.pm_view.specs.Steps.{Step}
 use Rattle.pm_view.specs.Steps.Step.{Load, Store, Or, And, Flush, Drain, TakeWrite, TakeRead, Raise, Give, ZoneTry, ZoneGive, Occupied, Occupy, Vacate, Draw, NumberSeen}
 use Rattle.pm_memory.specs.Changes.{changes_flushed, changes_drained, CanAdd, CanFlush, CanDrain, AreUndrained}
 
--- what one lane's memory holds; lines, zones and pages of 512 words are given by their numbers
+-- what one lane's memory holds; lines, zones and pages are given by their numbers
 pub record Solo : Type 0 where
   pub words : List ℕ
   -- undrained, the oldest first
@@ -47,11 +48,11 @@ AreKnown sh claims words = (w x : ℕ) → pictured sh claims w ≡ Some x → s
 
 -- an occupancy word is there, of a page by its place in bytes or of a zone; and its value
 abbrev pub HasWord : List ℕ → List ℕ → Occ → Type 0
-HasWord runs zones (Run place) = (place % 4096 ≡ 0) × (place / 4096 < length runs)
+HasWord runs zones (Run place) = (place % page_bytes ≡ 0) × (place / page_bytes < length runs)
 HasWord runs zones (Zone zone) = zone < length zones
 
 abbrev pub occ_word : List ℕ → List ℕ → Occ → ℕ
-occ_word runs zones (Run place) = slice_index runs (place / 4096)
+occ_word runs zones (Run place) = slice_index runs (place / page_bytes)
 occ_word runs zones (Zone zone) = slice_index zones zone
 
 -- what the lane last saw or made of an occupancy word is there still
@@ -92,7 +93,7 @@ AreZonesLocked zones locks = (zone : ℕ) → zone < length locks → slice_inde
 -- a lock word a line, an occupancy word a page and a zone, and a lock a zone
 pub record AreSized (words locks runs zones zone_locks : ℕ) : Type 0 where
   pub lines : locks ≡ words / 8
-  pub pages : runs ≡ words / 512
+  pub pages : runs ≡ words / page_words
   pub zones_are : zones ≡ 32
   pub zone_locks_are : zone_locks ≡ 32
 
@@ -181,11 +182,11 @@ opened_with words stop runs zones = record {
 
 -- and with none of their bits set
 abbrev pub opened : List ℕ → Option ℕ → Solo
-opened words stop = opened_with words stop (replicate (length words / 512) 0) (replicate 32 0)
+opened words stop = opened_with words stop (replicate (length words / page_words) 0) (replicate 32 0)
 
 -- the memory with another occupancy word
 abbrev pub with_occ : Solo → Occ → ℕ → Solo
-with_occ m (Run place) word = record m { runs = slice_set m.runs (place / 4096) word }
+with_occ m (Run place) word = record m { runs = slice_set m.runs (place / page_bytes) word }
 with_occ m (Zone zone) word = record m { zones = slice_set m.zones zone word }
 
 -- the memory with another lock word of a line, or with a zone's lock taken or free

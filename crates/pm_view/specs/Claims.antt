@@ -1,5 +1,6 @@
 -- What a lane has taken, found, learned and given up: a list, the latest first, and what follows from it of each line, block, chunk and word.
 use Rattle.std.specs.Prelude.{ℕ, zero, suc, ◌+◌, ◌-◌, ◌*◌, ◌/◌, ◌%◌, nat_lt, Bool, true, false, cond, not, ◌==◌, ◌&&◌, ◌||◌, List, [], ◌∷◌, Option, None, Some}
+use Rattle.pm_layout.specs.Areas.{page_bytes}
 use Rattle.std.specs.Int.{bit_at}
 use Rattle.pm_layout.specs.declared.shape.Shape.{Shape}
 use Rattle.pm_layout.specs.Sizes.{blocks_of}
@@ -51,7 +52,7 @@ ones (suc n) w = w % 2 + ones n (w / 2)
 
 -- the chunk of a run's occupancy word
 abbrev pub run_chunk : Shape → ℕ → ℕ
-run_chunk sh place = chunk_at sh (place / 4096)
+run_chunk sh place = chunk_at sh (place / page_bytes)
 
 -- the block that bits of an occupancy word are, where they are one's
 abbrev pub is_block_of : Shape → Occ → ℕ → Block → Bool

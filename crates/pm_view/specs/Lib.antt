@@ -11,4 +11,3 @@ pub mod Counts
 pub mod Views
 pub mod Founds
 pub mod LockWords
-pub mod Limits

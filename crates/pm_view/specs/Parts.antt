@@ -1,7 +1,7 @@
 -- What a word of the pool is to a lane.
 use Rattle.std.specs.Prelude.{ℕ, zero, suc, ◌+◌, ◌*◌, ◌/◌, ◌%◌, nat_le, nat_lt, Bool, ◌==◌, ◌&&◌, if◌then◌else◌, Option, None, Some}
 use Rattle.pm_layout.specs.declared.shape.Shape.{Shape}
-use Rattle.pm_layout.specs.Areas.{undo_slots, redo_entries, word_of_generation, word_of_seal, word_of_entry, line_of_slot}
+use Rattle.pm_layout.specs.Areas.{page_words, undo_slots, redo_entries, word_of_generation, word_of_seal, word_of_entry, line_of_slot}
 use Rattle.pm_layout.specs.Chunks.{is_chunk_page, chunk_at, is_descriptor_word, chunk_described, word_of_root}
 use Rattle.pm_view.specs.Places.{Place, InRun, InHuge, Descr, RootWord}
 
@@ -30,7 +30,7 @@ abbrev pub pool_part : Shape → ℕ → Part
 pool_part sh w =
     if w == word_of_root sh then RootPart else
     if is_descriptor_word sh w then DescriptorPart (chunk_described sh w) else
-    if is_chunk_page sh (w / 512) then ChunkPart (chunk_at sh (w / 512)) (w % 512) else OtherPart
+    if is_chunk_page sh (w / page_words) then ChunkPart (chunk_at sh (w / page_words)) (w % page_words) else OtherPart
 
 abbrev pub part_of : Shape → ℕ → ℕ → Part
 part_of sh lane w =

@@ -1,6 +1,7 @@
 -- Places and blocks. A word may have two uses: the first word of a chunk is a run's bitmap, or the first of a huge block's header; a place is
 -- a word with its use. Chunks are numbered through all zones.
 use Rattle.std.specs.Prelude.{ℕ, ◌+◌, ◌-◌, ◌*◌, ◌/◌, nat_le, nat_lt, Bool, true, false, cond, ◌==◌, ◌&&◌}
+use Rattle.pm_layout.specs.Areas.{page_words}
 use Rattle.pm_layout.specs.declared.shape.Shape.{Shape}
 use Rattle.pm_layout.specs.Chunks.{chunks_of, word_of_chunk, line_of_chunk, word_of_descriptor, word_of_root}
 
@@ -111,8 +112,8 @@ word_of sh RootWord = word_of_root sh
 
 -- the pool has the place
 abbrev pub is_place : Shape → Place → Bool
-is_place sh (InRun c w) = nat_lt c (chunks_of sh) && nat_lt w 512
-is_place sh (InHuge c w) = nat_lt c (chunks_of sh) && nat_lt w 512
+is_place sh (InRun c w) = nat_lt c (chunks_of sh) && nat_lt w page_words
+is_place sh (InHuge c w) = nat_lt c (chunks_of sh) && nat_lt w page_words
 is_place sh (Descr c) = nat_lt c (chunks_of sh)
 is_place sh RootWord = true
 

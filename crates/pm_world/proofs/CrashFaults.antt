@@ -5,7 +5,7 @@ use Rattle.std.specs.Option.{option_map_or}
 use Rattle.std.proofs.lemmas.Bool.{cases_eq, cases_lt, cases_Bool, both_ways, and_from, and_parts, or_left, or_right, cond-true, cond-false, false_from_ne_true, le-leb, lt-ltb, ltb-true, leb-true}
 use Rattle.std.proofs.lemmas.Option.{none-some, same_Some}
 use Rattle.pm_layout.specs.declared.shape.Shape.{Shape}
-use Rattle.pm_layout.specs.Areas.{word_of_generation}
+use Rattle.pm_layout.specs.Areas.{greatest_generation, word_of_generation}
 use Rattle.pm_layout.specs.Chunks.{chunks_of, word_of_chunk, word_of_descriptor}
 use Rattle.pm_record.specs.Redo.{redo_of}
 use Rattle.pm_record.specs.declared.redo.Op.TheVariants.{Set}
@@ -16,7 +16,6 @@ use Rattle.pm_image.specs.LogFaults.{good_lane, zones_word, in_chunk, in_descrip
 use Rattle.pm_image.proofs.Firsts.{none_passes}
 use Rattle.pm_image.proofs.LogRows.{NoBadLane, first_entry, first_slot}
 use Rattle.pm_image.proofs.Unsealed.{not_sealed}
-use Rattle.pm_view.specs.Limits.{greatest_generation}
 use Rattle.pm_view.specs.Places.{Place, InRun, InHuge, Descr, RootWord, word_of, is_place, place_after}
 use Rattle.pm_view.specs.Entries.{Entry}
 use Rattle.pm_view.specs.Log.{Phase, Idle, Open, Drawn, Sealing, Applying, Clearing, Retiring, Voiding, Recorded, Log}

@@ -1,10 +1,10 @@
 -- A LANE DRAWS ITS CALL'S NUMBER.
 use Rattle.std.specs.Prelude.{List, [], ◌∷◌, All, IsTrue, length, is_none}
+use Rattle.pm_layout.specs.Areas.{greatest_generation}
 use Rattle.std.specs.List.{list_any}
 use Rattle.std.proofs.Common.{◌≡◌, ◌≢◌, ℕ, zero, suc, ◌+◌, ◌*◌, ◌^◌, ◌<◌, ◌≤◌, ◌⊎◌, inl, inr, ⊎_elim, Bool, true, false, cond, nat_lt, ◌==◌, ◌&&◌, ◌||◌, refl, sym, ap, ◌∙◌, subst, arith, eq-eqb, ne_eqb, Option, None, Some}
 use Rattle.std.proofs.lemmas.Bool.{cases_eq, cases_Bool, eqb-true, lt-ltb, both_ways, and_from, and_parts, cond-true, cond-false}
 use Rattle.std.proofs.lemmas.List.Folds.{list_any_at}
-use Rattle.pm_view.specs.Limits.{greatest_generation}
 use Rattle.pm_layout.specs.Chunks.{line_of_chunk}
 use Rattle.pm_view.specs.Changes.{Undrained}
 use Rattle.pm_view.specs.Places.{Place, InRun, InHuge, Descr, RootWord, Block, Small, Big, Root, header, same_place}

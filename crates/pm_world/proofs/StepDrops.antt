@@ -217,5 +217,5 @@ module _ (o : Opening) (mem : Memory) (views views' : Views) (g : Past) (x : Wor
         alone = λ one. let a = fl.alone one in record { words = a.words; occupancy = a.occupancy };
         entries = fl.entries;
       }
-      x.of_lanes x.small x.header (subst (λ n. mem CommitCounter + n < Rattle.pm_view.specs.Limits.greatest_generation o.shape + 32) (sym (count_same views views' k (drops (views k)) t refl o.lanes)) x.counter_room)
+      x.of_lanes x.small x.header (subst (λ n. mem CommitCounter + n < Rattle.pm_layout.specs.Areas.greatest_generation o.shape + 32) (sym (count_same views views' k (drops (views k)) t refl o.lanes)) x.counter_room)
       (⊎_elim (λ (e : mem Rattle.pm_world.specs.Memory.StopWord ≡ 0). inl e) (λ (e : (j : ℕ) × (j < o.lanes) × IsAtStop (views j)). inr (e.0, e.1, stops_stay views views' k (drops (views k)) t (stop_more (views k).fixed.stop (views k).calls) e.0 e.2)) x.stop_word)

@@ -24,7 +24,7 @@ module _ (o : Opening) (mem new : Memory) (views views' : Views) (g : Past) (x :
       record { generation = λ j ne. refl; seal = λ j ne. refl; entry = λ j i h ne. refl; slot = λ j m i ne. refl; zone = λ z j ne. refl; entries = λ j ne. refl }
       t (unchanged o.shape o.lanes (origin o) (cells_of o.shape mem) (λ j. sight_of (views j)) (ghost_of g) x.bits k ink (sight_of v) (λ j. sight_of (views' j)) (ap (λ y. y.hold) sight) (λ n y. subst (λ z. Rattle.pm_world.specs.Lanes.flies_at z.phase n) (sym sight) y)
       (subst (λ y. SightFits o.shape (cells_of o.shape mem) (settled_words o g) (Flies (ghost_of g) k) (ghost_of g) k y) (sym sight) (x.bits.each_lane k)) (turned views views' k v t))
-      f x.of_lanes x.small x.header (subst (λ n. mem CommitCounter + n < Rattle.pm_view.specs.Limits.greatest_generation o.shape + 32) (sym (count_same views views' k v t draws o.lanes)) x.counter_room)
+      f x.of_lanes x.small x.header (subst (λ n. mem CommitCounter + n < Rattle.pm_layout.specs.Areas.greatest_generation o.shape + 32) (sym (count_same views views' k v t draws o.lanes)) x.counter_room)
       (⊎_elim (λ (e : mem StopWord ≡ 0). inl e) (λ (e : (j : ℕ) × (j < o.lanes) × IsAtStop (views j)). inr (e.0, e.1, still e.0 e.2)) x.stop_word))
     where
       still : (j : ℕ) → IsAtStop (views j) → IsAtStop (views' j)

@@ -160,7 +160,7 @@ module _ (w n : ℕ) (o : Opening) (mem new : Memory) (views views' : Views) (g 
   log_with es' pair' most few pairs parts = record {
     first = l.first;
     last = l.last;
-    below = λ _. subst (λ s. (views k).log.generation < Rattle.pm_view.specs.Limits.greatest_generation s) (x.each_lane k ink).shape a.below;
+    below = λ _. subst (λ s. (views k).log.generation < Rattle.pm_layout.specs.Areas.greatest_generation s) (x.each_lane k ink).shape a.below;
     stored = else_ (word_of_generation o.shape k) (λ q. let p = lane_at in omega arith) ∙ l.stored;
     bump = l.bump;
     sealed = else_ (Rattle.pm_layout.specs.Areas.word_of_seal o.shape k) (λ q. let p = lane_at in omega arith) ∙ l.sealed;

@@ -7,12 +7,11 @@ use Rattle.std.proofs.lemmas.Option.{slice_get_within}
 use Rattle.std.proofs.Math.ListN.{get_or-append}
 use Rattle.std.proofs.Math.Seq.{get_or-append_seam}
 use Rattle.pm_layout.specs.declared.shape.Shape.{Shape}
-use Rattle.pm_layout.specs.Areas.{word_of_generation, word_of_seal, word_of_entry, line_of_slot}
+use Rattle.pm_layout.specs.Areas.{greatest_generation, word_of_generation, word_of_seal, word_of_entry, line_of_slot}
 use Rattle.pm_record.specs.Undo.{undo_of}
 use Rattle.pm_view.specs.Changes.{Undrained}
 use Rattle.pm_view.specs.Claims.{class, first, pictured}
 use Rattle.pm_view.specs.Counts.{MayCount}
-use Rattle.pm_view.specs.Limits.{greatest_generation}
 use Rattle.pm_view.specs.Log.{Open, Recorded, Log, old_in, old_of, place_at, recorded, with_slot}
 use Rattle.pm_view.specs.Parts.{Part, SlotPart, part_of}
 use Rattle.pm_view.specs.Places.{Place, InRun, InHuge, Descr, RootWord, Small, Big, block_of, is_data, is_place, word_of, place_after, distance}

@@ -3,12 +3,11 @@ use Rattle.std.specs.Prelude.{List, [], ◌∷◌, length, slice_index}
 use Rattle.std.proofs.Common.{◌≡◌, ◌≢◌, ℕ, zero, suc, ◌+◌, ◌^◌, ◌<◌, ◌≤◌, ◌⊎◌, ⊎_elim, true, false, cond, ne_eqb, ◌==◌, refl, sym, ap, ◌∙◌, subst, arith}
 use Rattle.std.proofs.lemmas.Bool.{cases_eq, eqb-true, eq-eqb}
 use Rattle.pm_layout.specs.declared.shape.Shape.{Shape}
-use Rattle.pm_view.specs.Limits.{greatest_generation}
 use Rattle.pm_record.specs.Undo.{undo_of}
 use Rattle.pm_view.specs.Counts.{IsAtStop}
 use Rattle.pm_view.specs.Changes.{Undrained}
 use Rattle.pm_view.specs.Log.{Phase, Idle, Open, Drawn, Sealing, Applying, Clearing, Retiring, Voiding, Log}
-use Rattle.pm_layout.specs.Areas.{undo_slots, slot_words, redo_entries}
+use Rattle.pm_layout.specs.Areas.{greatest_generation, undo_slots, slot_words, redo_entries}
 use Rattle.std.proofs.lemmas.Option.{slice_get_within}
 use Rattle.pm_view.specs.Places.{block_of}
 use Rattle.pm_view.specs.View.{View}

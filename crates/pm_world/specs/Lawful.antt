@@ -2,8 +2,7 @@
 use Rattle.std.specs.Prelude.{◌≡◌, ◌≢◌, ◌⊎◌, ℕ, zero, suc, ◌+◌, ◌-◌, ◌*◌, ◌/◌, ◌^◌, ◌<◌, ◌≤◌, ◌==◌, ◌&&◌, ◌||◌, nat_le, Bool, true, false, not, IsTrue, All, Contains, List, [], ◌∷◌, ◌++◌, length, slice_index, take, Option, None, Some, IfSome, IsSomeAnd}
 use Rattle.std.specs.Int.{bit_at}
 use Rattle.std.specs.List.{list_any}
-use Rattle.pm_layout.specs.Areas.{undo_slots, old_words, redo_entries, word_of_generation, word_of_seal, word_of_entry, line_of_slot}
-use Rattle.pm_view.specs.Limits.{greatest_generation}
+use Rattle.pm_layout.specs.Areas.{page_words, page_bytes, greatest_generation, undo_slots, old_words, redo_entries, word_of_generation, word_of_seal, word_of_entry, line_of_slot}
 use Rattle.pm_layout.specs.Chunks.{words_of, chunks_of, word_of_chunk, word_of_descriptor, page_of_chunk}
 use Rattle.pm_layout.specs.Sizes.{blocks_of}
 use Rattle.pm_record.specs.Redo.{op_code}
@@ -41,7 +40,7 @@ block_in v p b = block_of (geometry v.fixed.shape v.claims) p b
 
 abbrev pub offset_in : View → Place → ℕ
 offset_in v (InRun c w) = w - 8 * (1 + class v.claims c * ((w / 8 - 1) / class v.claims c))
-offset_in v (InHuge c w) = 512 * (c - first v.fixed.shape v.claims c) + w
+offset_in v (InHuge c w) = page_words * (c - first v.fixed.shape v.claims c) + w
 offset_in v (Descr c) = 0
 offset_in v RootWord = 0
 
@@ -173,7 +172,7 @@ pub record MayMark (v : View) (c x : ℕ) : Type 0 where
   pub unknown : class v.claims c ≡ 0
   pub no_block : knows v (word_of_chunk v.fixed.shape c) ≡ Some 0
   pub clear : value_in v (word_of_descriptor v.fixed.shape c) ≡ Some 0
-  pub drained : All (λ (u : Undrained). u.word / 512 ≢ page_of_chunk v.fixed.shape c) v.changes
+  pub drained : All (λ (u : Undrained). u.word / page_words ≢ page_of_chunk v.fixed.shape c) v.changes
   pub unentered : v.log.entries ≡ []
 
 -- ---- STORES THAT DECIDE: of the seal, once the number is drawn and all is drained, with all entries, the last of which ends the generation; of the next
@@ -269,7 +268,7 @@ pub record MayGive (v : View) (line : ℕ) : Type 0 where
 
 -- ---- OCCUPANCY BITS: of one block of a run that the lane knows, or of chunks of a zone that lie one after another, under the zone's lock
 abbrev pub HasOcc : View → Occ → Type 0
-HasOcc v (Run place) = (c : ℕ) × (c < chunks_of v.fixed.shape) × (place ≡ 4096 * page_of_chunk v.fixed.shape c)
+HasOcc v (Run place) = (c : ℕ) × (c < chunks_of v.fixed.shape) × (place ≡ page_bytes * page_of_chunk v.fixed.shape c)
 HasOcc v (Zone zone) = zone < v.fixed.shape.zones
 
 abbrev pub IsOneBlock : Occ → ℕ → Type 0

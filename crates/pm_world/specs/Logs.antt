@@ -2,8 +2,7 @@
 use Rattle.std.specs.Prelude.{◌≡◌, ◌≢◌, ◌⊎◌, ℕ, suc, ◌+◌, ◌-◌, ◌*◌, ◌^◌, ◌<◌, ◌≤◌, Bool, true, false, cond, ◌==◌, All, Contains, List, [], ◌∷◌, ◌++◌, length, replicate, slice_get, slice_index, None, Some, IfSome}
 use Rattle.std.specs.Int.{bit_at}
 use Rattle.pm_layout.specs.declared.shape.Shape.{Shape}
-use Rattle.pm_layout.specs.Areas.{undo_slots, slot_words, old_words, redo_entries, word_of_generation, line_of_slot}
-use Rattle.pm_view.specs.Limits.{greatest_generation}
+use Rattle.pm_layout.specs.Areas.{greatest_generation, undo_slots, slot_words, old_words, redo_entries, word_of_generation, line_of_slot}
 use Rattle.pm_record.specs.Undo.{undo_of, undo_words}
 use Rattle.pm_record.specs.declared.undo.Undo.{Undo}
 use Rattle.pm_record.specs.declared.redo.Op.{Op}

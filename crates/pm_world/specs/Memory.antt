@@ -2,7 +2,7 @@
 use Rattle.std.specs.Prelude.{◌≡◌, ◌≢◌, ℕ, ◌+◌, ◌*◌, ◌/◌, ◌%◌, nat_lt, Bool, true, cond, ◌==◌, ◌&&◌, not}
 use Rattle.std.specs.Int.{bit_at}
 use Rattle.pm_layout.specs.declared.shape.Shape.{Shape}
-use Rattle.pm_layout.specs.Areas.{word_of_generation, word_of_seal, word_of_entry, line_of_slot}
+use Rattle.pm_layout.specs.Areas.{page_bytes, word_of_generation, word_of_seal, word_of_entry, line_of_slot}
 use Rattle.pm_layout.specs.Chunks.{page_of_chunk, word_of_descriptor}
 use Rattle.pm_view.specs.declared.occ.Occ.{Occ}
 use Rattle.pm_view.specs.declared.occ.Occ.TheVariants.{Run, Zone}
@@ -26,7 +26,7 @@ pub data Location : Type 0 where
 
 -- where an occupancy word is
 abbrev pub occ_at : Occ → Location
-occ_at (Run place) = RunWord (place / 4096)
+occ_at (Run place) = RunWord (place / page_bytes)
 occ_at (Zone zone) = ZoneWord zone
 
 abbrev pub Memory : Type 0

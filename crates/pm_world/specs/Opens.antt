@@ -5,13 +5,12 @@
 use Rattle.std.specs.Prelude.{◌≡◌, ℕ, ◌+◌, ◌*◌, ◌/◌, ◌^◌, ◌<◌, ◌≤◌, nat_lt, length, slice_index}
 use Rattle.std.specs.Prelude.{Bool, true, not, ◌&&◌, ◌||◌, None, Some}
 use Rattle.std.specs.List.{list_any, range_with_len}
-use Rattle.pm_layout.specs.Areas.{undo_slots, word_of_generation, word_of_seal, line_of_slot}
+use Rattle.pm_layout.specs.Areas.{greatest_generation, undo_slots, word_of_generation, word_of_seal, line_of_slot}
 use Rattle.pm_layout.specs.Chunks.{words_of, chunks_of, word_of_chunk, word_of_descriptor}
 use Rattle.pm_layout.specs.Sizes.{blocks_of}
 use Rattle.pm_image.specs.HeapFaults.{heap_fault}
 use Rattle.pm_record.specs.Undo.{undo_of}
 use Rattle.pm_record.specs.declared.undo.Undo.{Undo}
-use Rattle.pm_view.specs.Limits.{greatest_generation}
 use Rattle.pm_view.specs.Claims.{is_run, is_huge}
 use Rattle.pm_view.specs.Places.{Block, Small, Big, Root, in_span}
 use Rattle.pm_view.specs.View.{Constants, idle}

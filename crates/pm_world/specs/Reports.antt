@@ -1,7 +1,7 @@
 -- WHAT REPORTS NEED OF A WORLD.
 use Rattle.std.specs.Prelude.{◌≡◌, ◌≢◌, ℕ, ◌+◌, ◌<◌, true}
+use Rattle.pm_layout.specs.Areas.{greatest_generation}
 use Rattle.pm_view.specs.Counts.{IsAtStop}
-use Rattle.pm_view.specs.Limits.{greatest_generation}
 use Rattle.pm_view.specs.Places.{Block}
 use Rattle.pm_world.specs.Lanes.{is_occupancy, is_taken}
 use Rattle.pm_world.specs.Memory.{Memory, CommitCounter, StopWord, cells_of}

@@ -3,7 +3,7 @@ use Rattle.std.specs.Prelude.{ℕ, nat_lt, Bool, true, false, cond, not, ◌==�
 use Rattle.std.specs.Option.{option_map}
 use Rattle.std.specs.Int.{bit_at}
 use Rattle.pm_layout.specs.declared.shape.Shape.{Shape}
-use Rattle.pm_layout.specs.Areas.{line_of_slot}
+use Rattle.pm_layout.specs.Areas.{page_words, line_of_slot}
 use Rattle.pm_view.specs.Changes.{Undrained, is_dirty_bit, is_in_line}
 use Rattle.std.specs.List.{list_any}
 use Rattle.pm_view.specs.Places.{Place, InRun, InHuge, Descr, RootWord, Block, is_data, block_of, word_of}
@@ -32,8 +32,8 @@ hold_of sh t = record { locked = locked t; reads = reads t; found = found sh t; 
 
 -- a place that may be data, within its chunk, or the root's offset: a lane's picture is of these
 abbrev pub is_pictured : Place → Bool
-is_pictured (InRun c w) = is_data (InRun c w) && nat_lt w 512
-is_pictured (InHuge c w) = nat_lt w 512
+is_pictured (InRun c w) = is_data (InRun c w) && nat_lt w page_words
+is_pictured (InHuge c w) = nat_lt w page_words
 is_pictured (Descr c) = false
 is_pictured RootWord = true
 
@@ -43,8 +43,8 @@ picture sh t p b = cond (is_pictured p) (option_map (λ x. bit_at x b == 1) (pic
 
 -- the place is within its chunk and has the word's use: words of runs are such to a lane that knows the run; a descriptor that it stores itself is none of the pool's, but the run's
 abbrev pub is_use : Hold → Place → Bool
-is_use h (InRun c w) = nat_lt w 512 && not (h.class c == 0)
-is_use h (InHuge c w) = nat_lt w 512 && (h.class c == 0)
+is_use h (InRun c w) = nat_lt w page_words && not (h.class c == 0)
+is_use h (InHuge c w) = nat_lt w page_words && (h.class c == 0)
 is_use h (Descr c) = not (h.making c)
 is_use h RootWord = true
 

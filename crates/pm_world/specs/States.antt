@@ -1,5 +1,6 @@
 -- Bits of the pool at places: which of them a meaning looks at, what a call makes of them, and what a history does.
 use Rattle.std.specs.Prelude.{ℕ, zero, suc, ◌+◌, ◌-◌, ◌*◌, ◌/◌, ◌%◌, nat_le, nat_lt, Bool, true, false, cond, ◌==◌, ◌&&◌, ◌||◌, List, [], ◌∷◌, Option, None, Some}
+use Rattle.pm_layout.specs.Areas.{page_words}
 use Rattle.pm_view.specs.Places.{Place, InRun, InHuge, Descr, RootWord, Block, Small, Big, Root, Geometry, in_span, same, same_place}
 use Rattle.pm_view.specs.Entries.{Redo, given_bit, latest, first_of_two}
 
@@ -51,14 +52,14 @@ abbrev pub bright : State → ℕ → ℕ → ℕ → ℕ → Bool
 bright s cl c i l = s (InRun c 0) i && lit (s (size_at cl c i)) l
 
 abbrev pub shown : State → ℕ → ℕ → ℕ → Bool
-shown s cl c w = (w == 0) || ((nat_le 8 w && nat_lt w 512) && bright s cl c ((w / 8 - 1) / cl) ((w / 8 - 1) % cl))
+shown s cl c w = (w == 0) || ((nat_le 8 w && nat_lt w page_words) && bright s cl c ((w / 8 - 1) / cl) ((w / 8 - 1) % cl))
 
 abbrev pub bright_huge : State → ℕ → ℕ → Bool
 bright_huge s f l = s (Descr f) 1 && lit (s (InHuge f 1)) l
 
 abbrev pub live : State → Geometry → (ℕ → Bool) → Place → Bool
 live s G runs (InRun c w) = runs c && shown s (G.class c) c w
-live s G runs (InHuge c w) = nat_lt w 512 && bright_huge s (G.first c) (64 * (c - G.first c) + w / 8)
+live s G runs (InHuge c w) = nat_lt w page_words && bright_huge s (G.first c) (64 * (c - G.first c) + w / 8)
 live s G runs (Descr c) = true
 live s G runs RootWord = true
 

@@ -1,9 +1,9 @@
 -- THE WORLD: the words that lanes share, with each lane's view, and what must be so of them at every moment.
 use Rattle.std.specs.Prelude.{◌≡◌, ◌⊎◌, ℕ, zero, suc, ◌+◌, ◌%◌, ◌^◌, ◌<◌, ◌≤◌, nat_lt, Bool, true, false, cond, ◌==◌, ◌&&◌, ◌||◌, not, All, List, [], ◌∷◌, length, slice_index, Option, None, Some, is_none}
+use Rattle.pm_layout.specs.Areas.{page_words, page_bytes, greatest_generation}
 use Rattle.std.specs.Option.{ForSome}
 use Rattle.std.specs.List.{list_any}
 use Rattle.pm_layout.specs.declared.shape.Shape.{Shape}
-use Rattle.pm_view.specs.Limits.{greatest_generation}
 use Rattle.pm_layout.specs.Chunks.{words_of, word_of_descriptor, word_of_root}
 use Rattle.pm_view.specs.declared.occ.Occ.{Occ}
 use Rattle.pm_view.specs.declared.occ.Occ.TheVariants.{Run, Zone}
@@ -74,7 +74,7 @@ NumberFits phase number = Unit {0}
 
 -- an occupancy word of a run is named by the place at which a page begins
 abbrev pub is_at_page : Occ → Bool
-is_at_page (Run place) = place % 4096 == 0
+is_at_page (Run place) = place % page_bytes == 0
 is_at_page (Zone zone) = true
 
 -- where one lane runs, each word and each occupancy word that it saw or made is so still
@@ -124,7 +124,7 @@ may_draw_count views (suc k) = may_draw_count views k + cond (may_draw (views k)
 
 -- a word of the header page that is not the root's
 abbrev pub is_header : Shape → ℕ → Bool
-is_header sh w = nat_lt w 512 && not (w == word_of_root sh)
+is_header sh w = nat_lt w page_words && not (w == word_of_root sh)
 
 pub record World (o : Opening) (mem : Memory) (views : Views) (g : Past) : Type 0 where
   pub some_lanes : 1 ≤ o.lanes

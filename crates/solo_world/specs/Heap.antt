@@ -66,8 +66,8 @@ abbrev pub IsFree : Opening → (ℕ → ℕ) → Occ → ℕ → Type 0
 IsFree o heap (Run place) bit = is_taken heap o.lanes (Run place) bit ≡ false
 IsFree o heap (Zone zone) bit = is_taken (slice_index o.words) o.lanes (Zone zone) bit ≡ false
 
--- What the lane reserved is of the pool, and free, and the lane has its descriptor as it is now; it freed nothing so far, since no call frees. `heap` gives
--- the words that tell of blocks.
+-- What the lane reserved is of the pool, and free, and the lane has its descriptor as it is now; it freed nothing so far, since this world
+-- begins anew after each call that frees. `heap` gives the words that tell of blocks.
 pub record BlocksFit (o : Opening) (heap : ℕ → ℕ) (v : View) : Type 0 where
   pub of_pool : All (λ (t : Taken). IsOcc o.lanes o.zones t.at) v.reserved
   pub small : All (λ (t : Taken). t.bits < 2 ^ 64) v.reserved

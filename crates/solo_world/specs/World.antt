@@ -64,7 +64,7 @@ pub record World (o : Opening) (mem : Memory) (views : Views) (log : List Entry)
   pub counter : mem CommitCounter ≡ length log
   pub counter_room : mem CommitCounter + may_draw_count views o.lanes < generation_limit + 32
   pub own_entries : (k : ℕ) → k < o.lanes → entries_by k log ≡ (views k).entries
-  -- each chunk that was free has no block so far, since no call makes or frees one
+  -- each chunk that was free has no block so far: this world begins anew after each call that makes or frees one
   pub new_runs : AreNewRuns o (λ w. mem (PoolWord w))
   pub heap : Heap o (heap_words o mem) mem views
   pub stop_word : (mem StopWord ≡ 0) ⊎ ((k : ℕ) × (k < o.lanes) × IsAtStop (views k))
