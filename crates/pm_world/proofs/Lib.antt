@@ -82,3 +82,5 @@ pub mod Histories
 pub mod BlockLines
 pub mod WrongSteps
 pub mod RunsKept
+pub mod ClaimCounts
+pub mod ZonesFilled

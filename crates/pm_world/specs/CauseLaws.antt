@@ -1,7 +1,8 @@
--- THE LAWS OF CAUSES: what a refused try, a look and an occupancy word show at their moment; and that
--- from the opening on, by every lawful step of every lane, each answer that a view keeps has its cause.
-use Rattle.std.specs.Prelude.{◌≡◌, ◌≢◌, ◌⊎◌, ℕ, ◌+◌, ◌*◌, ◌<◌, Bool, true, false, List, None}
-use Rattle.pm_image.specs.HeapFaults.{heap_fault}
+-- THE LAWS OF CAUSES: what a refused try, a look and an occupancy word show at their moment; and
+-- that
+-- from the opening on, by every lawful step of every lane, each answer that a view keeps has its
+-- cause.
+use Rattle.std.specs.Prelude.{◌≡◌, ◌≢◌, ℕ, ◌+◌, ◌*◌, ◌<◌, true, false, List}
 use Rattle.pm_layout.specs.declared.shape.Shape.{Shape}
 use Rattle.pm_view.specs.declared.occ.Occ.{Occ}
 use Rattle.pm_view.specs.declared.occ.Occ.TheVariants.{Run, Zone}
@@ -9,7 +10,7 @@ use Rattle.pm_view.specs.Claims.{holds, run_chunk}
 use Rattle.pm_view.specs.Places.{Block, Small, Big}
 use Rattle.pm_view.specs.Steps.{Step}
 use Rattle.pm_view.specs.Steps.Step.{Occupied, Occupy}
-use Rattle.pm_view.specs.View.{View, Constants}
+use Rattle.pm_view.specs.View.{Constants}
 use Rattle.pm_view.specs.Views.{after}
 use Rattle.pm_world.specs.Lanes.{is_taken}
 use Rattle.pm_world.specs.Memory.{Memory, bit, cells_of}
@@ -27,7 +28,8 @@ use Rattle.pm_world.specs.Causes.{is_refused, Causes}
 
 -- a refused try of a lock shows that another lane holds it
 abbrev pub RefusalShowsLock : Type 0
-RefusalShowsLock = (o : Opening) (old new : Memory) (views : Views) (g : Past) (k : ℕ) (s : Step) (l : ℕ)
+RefusalShowsLock = (o : Opening) (old new : Memory) (views : Views) (g : Past) (k : ℕ) (s : Step)
+    (l : ℕ)
     → World o old views g → k < o.lanes → IsLawful (views k) s → Moves k s old new
     → is_refused l s ≡ true
     → (j : ℕ) × (j ≢ k) × (j < o.lanes) × (holds (views j).claims l ≡ true)
@@ -39,14 +41,16 @@ occupied_by sh (Zone zone) i = Big (64 * zone + i)
 
 -- each bit of an occupancy word that a lane loads is set exactly where what it is of is taken
 abbrev pub LoadShowsTaken : Type 0
-LoadShowsTaken = (o : Opening) (old new : Memory) (views : Views) (g : Past) (k found : ℕ) (at : Occ) (i : ℕ)
+LoadShowsTaken = (o : Opening) (old new : Memory) (views : Views) (g : Past) (k found : ℕ)
+    (at : Occ) (i : ℕ)
     → World o old views g → k < o.lanes → IsLawful (views k) (Occupied at found)
     → Moves k (Occupied at found) old new → i < 64
     → bit found i ≡ is_taken (settled_words o g) (ghost_of g) (occupied_by o.shape at i)
 
 -- bits that could not be got: one of them is taken
 abbrev pub RefusalShowsTaken : Type 0
-RefusalShowsTaken = (o : Opening) (old new : Memory) (views : Views) (g : Past) (k bits : ℕ) (at : Occ)
+RefusalShowsTaken = (o : Opening) (old new : Memory) (views : Views) (g : Past) (k bits : ℕ)
+    (at : Occ)
     → World o old views g → k < o.lanes → IsLawful (views k) (Occupy at bits false)
     → Moves k (Occupy at bits false) old new
     → (i : ℕ) × (i < 64) × (bit bits i ≡ true)

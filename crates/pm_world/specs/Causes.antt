@@ -1,5 +1,5 @@
--- WHY A LANE IS ANSWERED Busy, NoObject OR NoSpace: for each of these that a view keeps, what other
--- lanes did, by the commit numbers of the history.
+-- WHY A LANE IS ANSWERED Busy, NoObject OR NoSpace: for each of these that a view keeps, what
+-- other lanes did, by the commit numbers of the history.
 use Rattle.std.specs.Prelude.{◌≡◌, ◌≢◌, ◌⊎◌, ℕ, zero, suc, ◌+◌, ◌*◌, ◌<◌, ◌≤◌, All, List, [], ◌∷◌}
 use Rattle.std.specs.Prelude.{Bool, true, false, cond, not, ◌==◌, ◌&&◌, None}
 use Rattle.std.specs.Int.{bit_at}
@@ -7,13 +7,13 @@ use Rattle.std.specs.List.{list_any}
 use Rattle.pm_layout.specs.declared.shape.Shape.{Shape}
 use Rattle.pm_view.specs.declared.occ.Occ.{Occ}
 use Rattle.pm_view.specs.declared.occ.Occ.TheVariants.{Run, Zone}
-use Rattle.pm_view.specs.Places.{Block, Small, Big, Root}
+use Rattle.pm_view.specs.Places.{Descr, Block, Small, Big, Root}
 use Rattle.pm_view.specs.Claims.{Claim, Took, SawDescriptor, SawBitmap, Reserved}
-use Rattle.pm_view.specs.Claims.{class, holds, header_in, is_run, ones}
+use Rattle.pm_view.specs.Claims.{class, holds, header_in, is_run, is_huge, ones}
 use Rattle.pm_view.specs.Steps.{Step}
 use Rattle.pm_view.specs.Steps.Step.{TakeWrite, TakeRead, Raise}
 use Rattle.pm_view.specs.View.{View, Seen}
-use Rattle.pm_world.specs.States.{there, replay}
+use Rattle.pm_world.specs.States.{State, val, there, replay}
 use Rattle.pm_world.specs.Memory.{Memory, ZoneWord, bit}
 use Rattle.pm_world.specs.Opens.{takes}
 use Rattle.pm_world.specs.World.{Opening, Views, Past, origin, ghost_of}
@@ -24,8 +24,8 @@ use Rattle.pm_world.specs.World.{Opening, Views, Past, origin, ghost_of}
 abbrev pub drawn_by : Past → ℕ → ℕ
 drawn_by g n = (g.drew n).fixed.lane
 
--- call n of the lane, with its view: an entry, as the call took its number; or, for the next number,
--- the call that the lane makes and that has no number yet, or makes next
+-- call n of the lane, with its view: an entry, as the call took its number; or, for the next
+-- number, the call that the lane makes and that has no number yet, or makes next
 abbrev pub IsCall : Views → Past → ℕ → ℕ → View → Type 0
 IsCall views g lane n v =
     ((n < g.length) × (drawn_by g n ≡ lane) × (v ≡ g.drew n)) ⊎ ((n ≡ g.length) × (v ≡ views lane))
@@ -66,8 +66,8 @@ abbrev pub HadLock : Past → ℕ → ℕ → View → ℕ → Type 0
 HadLock g lane n v l =
     CountsNew (times_locked l) g lane n v ⊎ ((n < g.length) × (holds v.claims l ≡ true))
 
--- THE CAUSE OF Busy at a line's lock, in call c of a lane: a call of another lane, at the same time,
--- that had this lock
+-- THE CAUSE OF Busy at a line's lock, in call c of a lane: a call of another lane, at the same
+-- time, that had this lock
 pub record BusyCause (o : Opening) (views : Views) (g : Past) (lane c l : ℕ) : Type 0 where
   pub other : ℕ
   pub call : ℕ
@@ -87,8 +87,9 @@ pub record BusyHasCause (o : Opening) (views : Views) (g : Past) : Type 0 where
 
 -- ---- NoObject
 
--- A LOOK THAT MISSES A BLOCK: its bit in the bitmap of a run whose class the lane knows is clear, or
--- that in its chunk's descriptor, and the lane holds its lock; or the chunk of a run's block is no run
+-- A LOOK THAT MISSES A BLOCK: under the block's lock its bit in the bitmap of a run, whose class
+-- the lane knows, is clear; or under its lock its chunk's descriptor is no huge block's; or the
+-- chunk of a run's block is no run
 abbrev pub misses_in_bitmap : Shape → List Claim → ℕ → ℕ → Block → Bool
 misses_in_bitmap sh t c x (Small d i) =
     (d == c) && (not (bit_at x i == 1)
@@ -98,7 +99,7 @@ misses_in_bitmap sh t c x B = false
 abbrev pub misses_in_descriptor : Shape → List Claim → ℕ → ℕ → Block → Bool
 misses_in_descriptor sh t c x (Small d i) = (d == c) && not (is_run x)
 misses_in_descriptor sh t c x (Big f) =
-    (f == c) && (not (bit_at x 1 == 1) && holds t (header_in sh t (Big f)))
+    (f == c) && (not (is_huge x) && holds t (header_in sh t (Big f)))
 misses_in_descriptor sh t c x Root = false
 
 -- how often a lane's looks missed the block
@@ -110,14 +111,25 @@ times_missed sh B (SawBitmap c x ∷ t) =
     cond (misses_in_bitmap sh t c x B) 1 0 + times_missed sh B t
 times_missed sh B (e ∷ t) = times_missed sh B t
 
--- THE CAUSE OF NoObject for a block, in call c of a lane: after so many entries, all those of the lane
--- before c among them and none from c on, the block is not allocated, whichever calls are kept
+-- an object stands in the block: its bit is set, and the descriptor of a huge one is such
+abbrev pub stands : State → Block → Bool
+stands s (Small c i) = there s (Small c i)
+stands s (Big f) = there s (Big f) && (val (s (Descr f)) 0 8 == 2)
+stands s Root = there s Root
+
+-- no object stands in the block after so many entries, whichever of the undecided calls are kept
+abbrev pub IsGone : Opening → Past → ℕ → Block → Type 0
+IsGone o g entries B =
+    (keep : ℕ → Bool) → ((m : ℕ) → m < g.length → g.decided m ≡ true → keep m ≡ true)
+    → stands (replay keep (origin o) (ghost_of g).log entries) B ≡ false
+
+-- THE CAUSE OF NoObject for a block, in call c of a lane: after so many entries, all those of the
+-- lane before c among them and none from c on, no object stands there
 pub record NoObjectCause (o : Opening) (g : Past) (lane c : ℕ) (B : Block) : Type 0 where
   pub entries : ℕ
   pub most : entries ≤ c
   pub least : (p : ℕ) → p < c → drawn_by g p ≡ lane → p < entries
-  pub gone : (keep : ℕ → Bool) → ((m : ℕ) → m < g.length → g.decided m ≡ true → keep m ≡ true)
-      → there (replay keep (origin o) (ghost_of g).log entries) B ≡ false
+  pub gone : IsGone o g entries B
 
 abbrev pub NoObjectHasCause : Opening → Views → Past → Type 0
 NoObjectHasCause o views g = (k n : ℕ) (v : View) → k < o.lanes → IsCall views g k n v
@@ -145,8 +157,8 @@ abbrev pub all_got : ℕ → Views → ℕ → ℕ
 all_got zone views zero = 0
 all_got zone views (suc k) = all_got zone views k + chunks_got zone (views k).claims
 
--- A ZONE IS FILLED BY THE LANES: its chunks that are set in this word and were not at the opening are
--- at most those that the lanes got
+-- A ZONE IS FILLED BY THE LANES: its chunks that are set in this word and were not at the opening
+-- are at most those that the lanes got
 abbrev pub FilledByLanes : Opening → Views → ℕ → ℕ → Type 0
 FilledByLanes o views zone x = filled o zone x 64 ≤ all_got zone views o.lanes
 
@@ -168,8 +180,8 @@ pub record HeldSince (g : Past) (lane l n : ℕ) : Type 0 where
   pub last : (p : ℕ) → n < p → p < g.length → drawn_by g p ≢ lane
   pub held : holds (g.drew n).claims l ≡ true
 
--- a lock that a lane holds it took since its last entry, or held as it took that entry's number; and
--- what is counted among a lane's claims only grows
+-- a lock that a lane holds it took since its last entry, or held as it took that entry's number;
+-- and what is counted among a lane's claims only grows
 pub record LanesCount (o : Opening) (views : Views) (g : Past) : Type 0 where
   pub held : (k l : ℕ) → k < o.lanes → holds (views k).claims l ≡ true
       → CountsNew (times_locked l) g k g.length (views k) ⊎ ((n : ℕ) × HeldSince g k l n)
