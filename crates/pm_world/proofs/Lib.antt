@@ -84,3 +84,6 @@ pub mod WrongSteps
 pub mod RunsKept
 pub mod ClaimCounts
 pub mod ZonesFilled
+pub mod LockHolders
+pub mod OverlappingCalls
+pub mod OccupancyShown

@@ -11,9 +11,8 @@
 //! no common bit; that two blocks, allocated or a lane's own, share no line; that a run stays a
 //! run of its class; that what each call held, knew and found as it took its number agrees with
 //! the kept words before it; that numbers do not run out, a stop word that is set shows a lane at
-//! its stop number and occupancy bits are exact; and which steps, wrong ones, are not lawful.
-//!
-//! Still to come: the causes of `Busy`, `NoObject` and `NoSpace`.
+//! its stop number and occupancy bits are exact; that each `Busy`, `NoObject` and `NoSpace` that a
+//! lane's view keeps has its cause in the history; and which steps, wrong ones, are not lawful.
 #![tactic(auto)]
 
 mod block_laws;
@@ -29,5 +28,5 @@ pub use crash_laws::crash_keeps_decided_calls;
 pub use history::history_stands;
 pub use laws::{lawful_steps_keep_the_world, no_bit_is_owned_twice, runs_keep_worlds};
 pub use opening::recovered_words_open_a_world;
-pub use report_laws::worlds_bear_reports;
+pub use report_laws::{steps_show_causes, worlds_bear_reports};
 pub use wrong_steps::wrong_steps_are_not_lawful;

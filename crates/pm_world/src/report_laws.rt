@@ -1,4 +1,5 @@
 ghost use Rattle.pm_world.specs.Reports.{NumbersLast, StopIsShown, OccupancyIsExact};
+ghost use Rattle.pm_world.specs.CauseLaws.{RefusalShowsLock, LoadShowsTaken, RefusalShowsTaken};
 
 /// A law: of every world, numbers do not run out, a stop word that is set shows a lane at its stop
 /// number, and an occupancy bit is set exactly where its block is taken. No code runs.
@@ -6,4 +7,12 @@ pub fn worlds_bear_reports()
     ensures numbers { NumbersLast }
     ensures stop { StopIsShown }
     ensures occupancy { OccupancyIsExact }
+{}
+
+/// A law: in every world, a refused try of a line's lock shows that another lane holds it, and a
+/// lane finds an occupancy bit set exactly where its block is taken. No code runs.
+pub fn steps_show_causes()
+    ensures lock { RefusalShowsLock }
+    ensures occupancy { LoadShowsTaken }
+    ensures bits { RefusalShowsTaken }
 {}
