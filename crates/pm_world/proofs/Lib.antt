@@ -86,4 +86,6 @@ pub mod ClaimCounts
 pub mod ZonesFilled
 pub mod LockHolders
 pub mod OverlappingCalls
+pub mod Missed
+pub mod CausesKept
 pub mod OccupancyShown

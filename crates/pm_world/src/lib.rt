@@ -28,5 +28,5 @@ pub use crash_laws::crash_keeps_decided_calls;
 pub use history::history_stands;
 pub use laws::{lawful_steps_keep_the_world, no_bit_is_owned_twice, runs_keep_worlds};
 pub use opening::recovered_words_open_a_world;
-pub use report_laws::{steps_show_causes, worlds_bear_reports};
+pub use report_laws::{answers_have_causes, steps_show_causes, worlds_bear_reports};
 pub use wrong_steps::wrong_steps_are_not_lawful;
