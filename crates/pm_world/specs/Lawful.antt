@@ -8,6 +8,8 @@ use Rattle.pm_layout.specs.Sizes.{blocks_of}
 use Rattle.pm_record.specs.Redo.{op_code}
 use Rattle.pm_record.specs.declared.redo.Op.{Op}
 use Rattle.pm_record.specs.declared.redo.Op.TheVariants as op
+use Rattle.pm_objects.specs.declared.calls.Operation.{Operation}
+use Rattle.pm_objects.specs.declared.calls.Operation.TheVariants.{Reserve, Publish, Cancel}
 use Rattle.pm_objects.specs.declared.history.Value.{Value}
 use Rattle.pm_objects.specs.declared.history.Value.TheVariants.{Offset}
 use Rattle.pm_view.specs.declared.occ.Occ.{Occ}
@@ -159,7 +161,6 @@ pub record MayFill (v : View) (w : ℕ) : Type 0 where
   pub plain : is_data place ≡ true
   pub own : is_mine v (block_in v place 64) ≡ true
   pub inside : is_inside v place ≡ true
-  pub unrecorded : is_recorded v.log.records place ≡ false
   pub unentered : v.log.entries ≡ []
 
 -- ---- A CHUNK IS MADE A RUN of a class: it is one chunk of the lane's own, its bitmap is 0 and nothing of it is undrained, and no entry is stored
@@ -296,27 +297,35 @@ GivesWhole v (Zone zone) bits = (i : ℕ) → bit_at bits i ≡ 1 → i < 64
 abbrev pub is_in_blocks : View → Occ → ℕ → ℕ → Bool
 is_in_blocks v at bits w = passes (is_among v.fixed.shape at bits) (block_at v.fixed.shape v.claims w)
 
--- a reply of the open call names the block, which is no pending reservation's: it goes back once the call has its number
-abbrev pub offset_told : Option Value → Option ℕ
-offset_told (Some (Offset off)) = Some off
-offset_told reply = None
-
-abbrev pub is_told_in : Option ℕ → List Told → Bool
-is_told_in None told = false
-is_told_in (Some off) told = list_any (λ (t : Told). is_offset off (offset_told t.reply)) told
-  where
-    is_offset : ℕ → Option ℕ → Bool
-    is_offset off None = false
-    is_offset off (Some other) = off == other
+-- the operation's reply names one of these blocks
+abbrev pub names_by : View → Occ → ℕ → Option Value → Bool
+names_by v at bits (Some (Offset off)) = is_in_blocks v at bits (off / 8)
+names_by v at bits reply = false
 
 abbrev pub names : View → Occ → ℕ → Told → Bool
-names v at bits t = offset_in_blocks (offset_told t.reply) && not (is_told_in (offset_told t.reply) v.actions)
-  where
-    offset_in_blocks : Option ℕ → Bool
-    offset_in_blocks None = false
-    offset_in_blocks (Some off) = is_in_blocks v at bits (off / 8)
+names v at bits t = names_by v at bits t.reply
 
--- A LANE GIVES BACK blocks of its own: nothing undrained is in them, nor any entry; and of a call that has entries none goes back before its log is retired
+-- what was reserved before these operations is cancelled by them, and was not published before
+abbrev pub cancels : Operation → Option Value → Bool → Bool
+cancels Cancel None later = true
+cancels Publish None later = false
+cancels operation reply later = later
+
+abbrev pub is_cancelled : List Told → Bool
+is_cancelled [] = false
+is_cancelled (t ∷ later) = cancels t.operation t.reply (is_cancelled later)
+
+abbrev pub is_reserve : Operation → Bool
+is_reserve (Reserve size kind) = true
+is_reserve operation = false
+
+-- no reply of these operations names a block of these, but that of a reservation that later ones of them cancel
+abbrev pub IsUnnamed : View → Occ → ℕ → List Told → Type 0
+IsUnnamed v at bits [] = Unit {0}
+IsUnnamed v at bits (t ∷ later) = ((names v at bits t && not (is_reserve t.operation && is_cancelled later)) ≡ false) × IsUnnamed v at bits later
+
+-- A LANE GIVES BACK blocks of its own: nothing undrained is in them, nor any entry; and of a call that has entries none goes back before its log is retired.
+-- Before the call has its number none goes back that a reply of the call names, but for a cancelled reservation, nor one that the call published
 pub record MayVacate (v : View) (at : Occ) (bits : ℕ) : Type 0 where
   pub there : HasOcc v at
   pub small : bits < 2 ^ 64
@@ -324,7 +333,8 @@ pub record MayVacate (v : View) (at : Occ) (bits : ℕ) : Type 0 where
   pub drained : All (λ (u : Undrained). is_in_blocks v at bits u.word ≡ false) v.changes
   pub unentered : v.log.entries ≡ []
   pub early : is_early v.log.phase ≡ true
-  pub unnamed : v.log.phase ≡ Open → All (λ (t : Told). names v at bits t ≡ false) v.call
+  pub unnamed : v.log.phase ≡ Open → IsUnnamed v at bits v.call
+  pub unpublished : v.log.phase ≡ Open → All (λ (t : Told). names v at bits t ≡ false) v.published
 
 -- ---- A NUMBER IS DRAWN once a call, which saw a number below the limit, with no record and no entry in the making and all drained; or, of a call that has
 -- none, all but words of blocks of its own. The new blocks are marked, and their lines that their objects have are stored
