@@ -299,7 +299,7 @@ module _ (o : Opening) (mem new : Memory) (views views' : Views) (g : Past) (x :
     where
       go : (ph : Phase) → (views k).log.phase ≡ ph → GiveFits (views k) line ph → ((views k).log.phase ≡ Idle) ⊎ (((B : Block) → found (views k).fixed.shape (views k).claims B ≡ true → header_in (views k).fixed.shape (views k).claims B ≢ line) × All (λ (e : Entry). e.place ≢ Some RootWord) (views k).log.entries)
       go Idle q f = inl q
-      go Open q f = inr (f.1, f.2)
+      go Open q f = inr f
       go (Drawn n) q f = absurd f
       go (Sealing n) q f = absurd f
       go (Applying es) q f = absurd f

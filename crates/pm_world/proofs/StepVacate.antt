@@ -17,7 +17,7 @@ use Rattle.pm_view.specs.Log.{Phase, Idle, Open, Drawn, Sealing, Applying, Clear
 use Rattle.pm_view.specs.Claims.{Released, class, first, geometry, block_in, passes, is_among, run_chunk}
 use Rattle.pm_view.specs.Steps.Step.{Vacate}
 use Rattle.pm_view.specs.Views.{after}
-use Rattle.pm_world.specs.States.{State, given, diff, there, put1, Cells}
+use Rattle.pm_world.specs.States.{State, given, diff, put1, Cells}
 use Rattle.pm_world.specs.Sights.{Sight, is_made, is_recorded, sight_of}
 use Rattle.pm_world.specs.Lanes.{atom, open_soils, soils, Flies, SightFits, is_occupancy, Bits}
 use Rattle.pm_world.specs.Lawful.{IsLawful, is_in_blocks}
