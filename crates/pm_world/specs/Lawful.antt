@@ -26,7 +26,7 @@ use Rattle.pm_view.specs.Steps.{Step}
 use Rattle.pm_view.specs.Steps.Step.{Load, Store, Or, And, Flush, Drain, TakeWrite, TakeRead, Raise, Give, ZoneTry, ZoneGive, Occupied, Occupy, Vacate, Draw, NumberSeen, StopSeen, SetStop, Tell}
 use Rattle.pm_view.specs.View.{View, Told}
 use Rattle.pm_view.specs.Views.{part_in, value_in}
-use Rattle.pm_world.specs.States.{root_line}
+use Rattle.pm_world.specs.States.{given, root_line}
 use Rattle.pm_world.specs.Sights.{is_recorded, is_logged, picture}
 use Rattle.pm_world.specs.Lanes.{all_held}
 use Rattle.pm_world.specs.Logs.{spelled, EntryOf, AreWhole, AreRestored}
@@ -318,14 +318,17 @@ abbrev pub IsUnnamed : View → Occ → ℕ → List Told → Type 0
 IsUnnamed v at bits [] = Unit {0}
 IsUnnamed v at bits (t ∷ later) = ((names v at bits t && not (is_reserve t.operation && is_cancelled later)) ≡ false) × IsUnnamed v at bits later
 
--- A LANE GIVES BACK blocks of its own: nothing undrained is in them, nor any entry; and of a call that has entries none goes back before its log is retired.
--- Before the call has its number none goes back that a reply of the call names, but for a cancelled reservation, nor one that the call published
+-- the entry changes no bit of these blocks
+abbrev pub IsApartFrom : View → Occ → ℕ → Entry → Type 0
+IsApartFrom v at bits e = (p : Place) (b : ℕ) → e.place ≡ Some p → given (given_bit e.op e.value b) ≡ true → is_among v.fixed.shape at bits (block_in v p b) ≡ false
+
+-- A LANE GIVES BACK blocks of its own: nothing undrained is in them, no entry changes a bit of them, and its call is not in flight or to be applied. Before the call has its number none goes back that a reply of the call names, but for a cancelled reservation, nor one that the call published
 pub record MayVacate (v : View) (at : Occ) (bits : ℕ) : Type 0 where
   pub there : HasOcc v at
   pub small : bits < 2 ^ 64
   pub whole : GivesWhole v at bits
   pub drained : All (λ (u : Undrained). is_in_blocks v at bits u.word ≡ false) v.changes
-  pub unentered : v.log.entries ≡ []
+  pub unentered : All (IsApartFrom v at bits) v.log.entries
   pub early : is_early v.log.phase ≡ true
   pub unnamed : v.log.phase ≡ Open → IsUnnamed v at bits v.call
   pub unpublished : v.log.phase ≡ Open → All (λ (t : Told). names v at bits t ≡ false) v.published

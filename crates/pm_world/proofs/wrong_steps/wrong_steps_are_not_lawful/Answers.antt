@@ -16,6 +16,9 @@ returns-clause-hasty_give _ = wrong.no_hasty_give
 pub returns-clause-hasty_release : goal.returns-clause-hasty_release
 returns-clause-hasty_release _ = wrong.no_hasty_release
 
+pub returns-clause-entered_release : goal.returns-clause-entered_release
+returns-clause-entered_release _ = wrong.no_entered_release
+
 pub returns-clause-foreign_release : goal.returns-clause-foreign_release
 returns-clause-foreign_release _ = wrong.no_foreign_release
 
