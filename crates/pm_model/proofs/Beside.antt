@@ -26,7 +26,8 @@ use Rattle.pm_model.specs.Outside.{AreNamedThere, IsDoneOutside, IsReplyOutside,
 use Rattle.pm_model.specs.Parts.{Parts, blocks_made, blocks_outside, is_under_locks, no_parts, parts_outside, reads_root_word, writes_root_word}
 use Rattle.pm_model.proofs.Lists.{Each, NoneApplies, SameTests, all_from, all_of_each, each_append, each_both, each_flat, each_left, each_map, each_of_all, each_right, each_unmap, each_weaker, first_none, none_applies, none_pass, same_any, same_append, same_behind, same_first, same_flat, same_tests}
 use Rattle.pm_model.proofs.Edits.{FitsLines, HasLines, all_edited_keeps, all_edited_lines, all_edited_mixed, apart_by, freed_in_lines, list_keeps_lines, members_keep_lines, mixed, mixed_same, put_keeps_lines}
-use Rattle.pm_model.proofs.Over.{Within, WithinB, WithinT, all_free_there, each_free, free_there, listed_as, new_lines, size_as}
+use Rattle.pm_model.proofs.Fitting.{Within, WithinB, WithinT, all_free_there, each_free, free_there, listed_as, size_as}
+use Rattle.pm_model.proofs.Over.{new_lines}
 
 bytes_as : Option Item → List ℕ
 bytes_as o = option_map_or (λ (i : Item). i.bytes) o []

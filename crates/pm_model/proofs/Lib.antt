@@ -2,6 +2,8 @@ pub mod Lists
 pub mod Changing
 pub mod Edits
 pub mod Locking
+pub mod Fitting
+pub mod OverTests
 pub mod Over
 pub mod Beside
 pub mod Frames
