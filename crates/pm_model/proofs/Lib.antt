@@ -5,6 +5,8 @@ pub mod Locking
 pub mod Fitting
 pub mod OverTests
 pub mod Over
+pub mod BesideTests
+pub mod BesideEdits
 pub mod Beside
 pub mod Frames
 pub mod Ends
