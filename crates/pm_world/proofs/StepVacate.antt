@@ -17,7 +17,7 @@ use Rattle.pm_view.specs.Log.{Phase, Idle, Open, Drawn, Sealing, Applying, Clear
 use Rattle.pm_view.specs.Claims.{Released, class, first, geometry, block_in, passes, is_among, run_chunk}
 use Rattle.pm_view.specs.Steps.Step.{Vacate}
 use Rattle.pm_view.specs.Views.{after}
-use Rattle.pm_world.specs.States.{State, given, diff, there, put1, Cells}
+use Rattle.pm_world.specs.States.{State, given, diff, put1, Cells}
 use Rattle.pm_world.specs.Sights.{Sight, is_made, is_recorded, sight_of}
 use Rattle.pm_world.specs.Lanes.{atom, open_soils, soils, Flies, SightFits, is_occupancy, Bits}
 use Rattle.pm_world.specs.Lawful.{IsLawful, is_in_blocks}
@@ -29,7 +29,7 @@ use Rattle.pm_world.specs.Laws.{Turn, Keeps}
 use Rattle.pm_world.proofs.Cells.{cells_run, cells_zone}
 use Rattle.pm_world.proofs.Frame.{Around, mine_own, own_has}
 use Rattle.pm_world.proofs.Replays.{put1_here, put1_else}
-use Rattle.pm_world.proofs.Worlds.{turned}
+use Rattle.pm_world.proofs.Worlds.{turned, own_unrecorded}
 use Rattle.pm_world.proofs.Vacates.{kept_owned, GivesBack, vacates}
 use Rattle.pm_world.proofs.OccWorlds.{early_undecided, occ_world}
 use Rattle.pm_world.proofs.WordPlaces.{chunk_part, run_chunk_is, page_apart}
@@ -87,8 +87,7 @@ module _ (o : Opening) (mem new : Memory) (views views' : Views) (g : Past) (x :
 
     -- nothing is recorded there
     unrecorded : (p : Place) (b : ℕ) → out (block_of g.geo p b) ≡ true → is_recorded (views k).log.records p ≡ false
-    unrecorded p b t = false_from_ne_true (is_recorded (views k).log.records p) (λ r. let y = (fl.recorded (early_undecided (views k).log.phase law.allowed.early).0 p r).1 b in
-        both_ways (there S (block_of g.geo p b)) (fk.hold.mine (block_of g.geo p b) (block_mine p b t)).2 (fk.hold.found (block_of g.geo p b) (fk.hold.here (block_of g.geo p b) y.0).1).2)
+    unrecorded p b t = own_unrecorded o mem views g x k ink (early_undecided (views k).log.phase law.allowed.early).0 p b (block_mine p b t)
 
     no_turn : (B : Block) → turn (latest (redos (views k).log.entries)) B ≡ None
     no_turn B = ap (λ es. turn (latest (redos es)) B) law.allowed.unentered ∙ go B

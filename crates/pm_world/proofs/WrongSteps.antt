@@ -1,7 +1,7 @@
 -- Steps that are not lawful, by how far the lane's call has come.
-use Rattle.std.specs.Prelude.{List, [], All, Any, unwrap_or}
+use Rattle.std.specs.Prelude.{List, [], ◌∷◌, ◌++◌, All, Any, not, ◌&&◌, unwrap_or}
 use Rattle.std.proofs.Common.{◌≡◌, ◌≢◌, ℕ, ◌+◌, ◌*◌, ◌⊎◌, ⊎_elim, Bool, true, false, refl, sym, ap, ◌∙◌, subst, arith, Some}
-use Rattle.std.proofs.lemmas.Bool.{both_ways}
+use Rattle.std.proofs.lemmas.Bool.{both_ways, and_from}
 use Rattle.pm_record.specs.declared.redo.Op.{Op}
 use Rattle.pm_record.specs.declared.redo.Op.TheVariants as op
 use Rattle.pm_view.specs.declared.occ.Occ.{Occ}
@@ -14,8 +14,8 @@ use Rattle.pm_view.specs.View.{View, Told}
 use Rattle.pm_view.specs.Views.{part_in}
 use Rattle.pm_world.specs.Sights.{is_logged}
 use Rattle.pm_world.specs.Memory.{Location, Memory, PoolWord, LockWord, RunWord, ZoneWord, ZoneLock, CommitCounter, StopWord, IsSame, IsSameBut}
-use Rattle.pm_world.specs.Lawful.{place_in, block_in, is_mine, names, MayWrite, MayFill, Clears, StoreFits, ChangeFits, GiveFits}
-use Rattle.pm_world.specs.WrongSteps.{IsUnwritable, is_user_part, NoUnloggedChange, NoHastySeal, NoHastyClear, NoHastyGive, NoHastyRelease, NoForeignRelease, NoForeignChunkRelease, NoToldRelease, StoresAreInPool, OccupancyStays}
+use Rattle.pm_world.specs.Lawful.{place_in, block_in, is_mine, names, is_reserve, is_cancelled, IsUnnamed, MayWrite, MayFill, Clears, StoreFits, ChangeFits, GiveFits}
+use Rattle.pm_world.specs.WrongSteps.{IsUnwritable, is_user_part, NoUnloggedChange, NoHastySeal, NoHastyClear, NoHastyGive, NoHastyRelease, NoForeignRelease, NoForeignChunkRelease, NoToldRelease, NoPublishedRelease, StoresAreInPool, OccupancyStays}
 use Rattle.pm_world.proofs.Cells.{sort, other_sort}
 
 -- ---- a user's word
@@ -173,7 +173,17 @@ none_named v at bits call a f =
     (subst (λ t. names v at bits t ≡ false) a.3 (f a.0 a.1 a.2)) a.4
 
 pub no_told_release : NoToldRelease
-no_told_release v at bits e a law = none_named v at bits v.call a (law.allowed.unnamed e)
+no_told_release v at bits earlier later t e q n c law =
+    go earlier (subst (IsUnnamed v at bits) q (law.allowed.unnamed e))
+  where
+    go : (call : List Told) → IsUnnamed v at bits (call ++ t ∷ later) → ⊥
+    go [] f = both_ways (names v at bits t && not (is_reserve t.operation && is_cancelled later))
+        f.0 (and_from (names v at bits t) _ n (ap not c))
+    go (s ∷ call) f = go call f.1
+
+pub no_published_release : NoPublishedRelease
+no_published_release v at bits e a law =
+    none_named v at bits v.published a (law.allowed.unpublished e)
 
 -- ---- occupancy words
 pub stores_are_in_pool : StoresAreInPool

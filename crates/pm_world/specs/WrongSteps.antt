@@ -1,5 +1,5 @@
 -- STEPS THAT A LANE MAY NOT MAKE, whatever it knows and whatever other lanes hold.
-use Rattle.std.specs.Prelude.{◌≡◌, ◌≢◌, ◌⊎◌, ℕ, ◌+◌, ◌*◌, ◌<◌, ◌≤◌, Bool, true, false, Any, List, [], Some}
+use Rattle.std.specs.Prelude.{◌≡◌, ◌≢◌, ◌⊎◌, ℕ, ◌+◌, ◌*◌, ◌<◌, ◌≤◌, Bool, true, false, Any, List, [], ◌∷◌, ◌++◌, ◌&&◌, Some}
 use Rattle.std.specs.Int.{bit_at}
 use Rattle.pm_layout.specs.Chunks.{words_of}
 use Rattle.pm_view.specs.declared.occ.Occ.{Occ}
@@ -16,7 +16,7 @@ use Rattle.pm_view.specs.Views.{part_in}
 use Rattle.pm_world.specs.Sights.{is_logged}
 use Rattle.pm_world.specs.Memory.{Memory, RunWord, ZoneWord}
 use Rattle.pm_world.specs.Moves.{Moves}
-use Rattle.pm_world.specs.Lawful.{IsLawful, place_in, block_in, is_mine, names}
+use Rattle.pm_world.specs.Lawful.{IsLawful, place_in, block_in, is_mine, names, is_reserve, is_cancelled}
 
 -- the step is not lawful to a lane with this view
 abbrev pub IsUnlawful : View → Step → Type 0
@@ -93,12 +93,20 @@ NoForeignChunkRelease = (v : View) (zone bits i : ℕ)
     → is_mine v (Big f) ≡ false)
     → IsUnlawful v (Vacate (Zone zone) bits)
 
--- Before a call has its number, and while its log may grow, no block is released that a reply of
--- the call names, unless the reply is a reservation's that is pending
+-- Before a call has its number no block is released that a reply of the call names, unless the
+-- reply is a reservation's that later operations of the call cancel: one that is pending is not
 abbrev pub NoToldRelease : Type 0
-NoToldRelease = (v : View) (at : Occ) (bits : ℕ)
+NoToldRelease = (v : View) (at : Occ) (bits : ℕ) (earlier later : List Told) (t : Told)
     → v.log.phase ≡ Open
-    → Any (λ (t : Told). names v at bits t ≡ true) v.call
+    → v.call ≡ earlier ++ t ∷ later → names v at bits t ≡ true
+    → (is_reserve t.operation && is_cancelled later) ≡ false
+    → IsUnlawful v (Vacate at bits)
+
+-- Nor is one that was reserved, in whichever call, and that the call published
+abbrev pub NoPublishedRelease : Type 0
+NoPublishedRelease = (v : View) (at : Occ) (bits : ℕ)
+    → v.log.phase ≡ Open
+    → Any (λ (t : Told). names v at bits t ≡ true) v.published
     → IsUnlawful v (Vacate at bits)
 
 -- ---- OCCUPANCY WORDS

@@ -25,6 +25,9 @@ returns-clause-foreign_chunk_release _ = wrong.no_foreign_chunk_release
 pub returns-clause-told_release : goal.returns-clause-told_release
 returns-clause-told_release _ = wrong.no_told_release
 
+pub returns-clause-published_release : goal.returns-clause-published_release
+returns-clause-published_release _ = wrong.no_published_release
+
 pub returns-clause-stores_in_pool : goal.returns-clause-stores_in_pool
 returns-clause-stores_in_pool _ = wrong.stores_are_in_pool
 
