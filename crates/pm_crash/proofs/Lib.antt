@@ -1,0 +1,11 @@
+pub mod Includes
+pub mod Standing
+pub mod Classes
+pub mod HeldAlike
+pub mod EmptyRuns
+pub mod Spelling
+pub mod OpeningBits
+pub mod KeptBits
+pub mod Precede
+pub mod Onward
+pub mod Replaying
