@@ -1,7 +1,7 @@
 -- What a descriptor says of its chunk, read backwards; and that a good one is told by its low byte.
 use Rattle.std.proofs.Common.{◌≡◌, ◌≢◌, ⊎_elim, ℕ, ◌/◌, ◌%◌, ◌^◌, ◌<◌, ◌≤◌, ◌&&◌, Bool, true, false, cond, eqb, ltb, leb, Option, Some, None, refl, sym, ◌∙◌, ap, subst, arith}
 use Rattle.std.specs.Int.{bit_at}
-use Rattle.std.proofs.lemmas.Bool.{and_parts, cases_Bool, cases_eq, cases_lt, eqb-true, leb-false}
+use Rattle.std.proofs.lemmas.Bool.{and_parts, cases_Bool, cases_eq, cases_lt, eqb-true, leb-false, ltb-true}
 use Rattle.std.proofs.lemmas.Nat.Bits.{bit_at_above}
 use Rattle.pm_layout.specs.Sizes.{blocks_of}
 use Rattle.pm_layout.specs.declared.class.Class.{Class}
@@ -96,3 +96,10 @@ run_has_lines lines k inside = ⊎_elim
     (λ (none : lines ≡ 0). let no_blocks : k < blocks_of 0 = subst (λ (n : ℕ). k < blocks_of n) none inside in absurd (omega arith))
     (λ (some : lines ≢ 0). grind arith)
     (cases_eq lines 0)
+
+-- and blocks
+pub class_has_blocks : (d lines : ℕ) → class_in d ≡ Some (Lines lines) → 0 < blocks_of lines
+unfolding is_run_class
+class_has_blocks d lines is =
+    let tested = lines_tested (is_run_class d) (is_whole_class d) d lines (sym (class_by_tests d) ∙ is) in
+    subst (λ (n : ℕ). 0 < blocks_of n) tested.1 (ltb-true 0 (blocks_of (d / 256)) (and_parts (eqb (d % 256) 1) (ltb 0 (blocks_of (d / 256))) tested.0).1)

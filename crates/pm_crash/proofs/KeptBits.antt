@@ -174,9 +174,12 @@ module _ (o : Opening) (mem : Memory) (views : Views) (g : Past) (x : World o me
       × ((i : ℕ) → i ≢ j → own (sight i).hold B ≡ false))
       ⊎ ((j : ℕ) → own (sight j).hold B ≡ false)
   owner_of B = ⊎_elim
-      (λ (y : (j : ℕ) × (own (sight j).hold B ≡ true)). inl (y.0, y.1,
-      λ i ne. disjoint o.shape (cells_of o.shape mem) S (Flies G y.0) (Flies G i) G x.bits.geo x.bits.alone
-      y.0 i (sight y.0) (sight i) (fit y.0) (fit i) (λ e. ne (sym e)) B y.1))
+      (λ (y : (j : ℕ) × (own (sight j).hold B ≡ true)). inl (
+        y.0,
+        y.1,
+        λ i ne. disjoint o.shape (cells_of o.shape mem) S (Flies G y.0) (Flies G i) G x.bits.geo x.bits.alone
+            y.0 i (sight y.0) (sight i) (fit y.0) (fit i) (λ e. ne (sym e)) B y.1,
+      ))
       (λ (y : (j : ℕ) → j < o.lanes → own (sight j).hold B ≡ false). inr (λ j. ⊎_elim
       (λ (l : j < o.lanes). y j l) (λ (l : o.lanes ≤ j). (x.bits.beyond j l B).0) (cases_lt j o.lanes)))
       (some_lane (λ j. own (sight j).hold B) o.lanes)
@@ -237,11 +240,10 @@ module _ (o : Opening) (mem : Memory) (views : Views) (g : Past) (x : World o me
       (λ (y : (j : ℕ) × (own (sight j).hold (Big (g.geo.first f)) ≡ true)
       × ((i : ℕ) → i ≢ j → own (sight i).hold (Big (g.geo.first f)) ≡ false)).
       let ph = (sight y.0).phase in
-      let now = λ b. kept_over y.0 (Descr f) b (λ i ne. y.2 i ne) in
       ⊎_elim
-      (λ (is : is_flight_kept keep ph ≡ true). by_turn f y.0 is (λ b. now b
+      (λ (is : is_flight_kept keep ph ≡ true). by_turn f y.0 is (λ b. kept_over y.0 (Descr f) b (λ i ne. y.2 i ne)
       ∙ cond-true (is_flight_kept keep ph) (over (diff (sight y.0).call (Descr f) b) (S (Descr f) b)) (S (Descr f) b) is))
-      (λ (is : is_flight_kept keep ph ≡ false). inl (λ b. now b
+      (λ (is : is_flight_kept keep ph ≡ false). inl (λ b. kept_over y.0 (Descr f) b (λ i ne. y.2 i ne)
       ∙ cond-false (is_flight_kept keep ph) (over (diff (sight y.0).call (Descr f) b) (S (Descr f) b)) (S (Descr f) b) is))
       (cases_Bool (is_flight_kept keep ph)))
       (λ (y : (j : ℕ) → own (sight j).hold (Big (g.geo.first f)) ≡ false).

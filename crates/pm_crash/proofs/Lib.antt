@@ -9,3 +9,5 @@ pub mod KeptBits
 pub mod Precede
 pub mod Onward
 pub mod Replaying
+pub mod RunClasses
+pub mod ImageDescriptors

@@ -403,7 +403,8 @@ begins o mem views g id x none same ids = record {
   earlier = λ m n low l. absurd (omega arith);
   small = λ w. subst (λ n. n < 2 ^ 64) (same w) (x.small w);
   opening = opening;
-  blocks = λ keep n c i l t. settled_valid c i (subst (λ z. there (kept_bits o g keep z) (Small c i) ≡ true) (omega arith) t);
+  blocks = λ keep n c i l t. let e : n ≡ 0 = omega arith in
+      settled_valid c i (subst (λ z. there (kept_bits o g keep z) (Small c i) ≡ true) e t);
   own = λ n c i l. absurd (omega arith);
   precede = λ keep d n l. absurd (omega arith);
 }
@@ -423,9 +424,9 @@ begins o mem views g id x none same ids = record {
         let r = is_run_of g c i (settled_valid c i t) in
         let some = (x.bits.geo.classes c r).0 in
         let descr : (cells_of o.shape mem).descr c ≡ g.geo.class c = x.bits.descr c
-            (λ k. false_from_ne_true ((sight_of (views k)).hold.making c) (λ m. both_ways (g.runs c)
-            (maker_no_run o.shape (cells_of o.shape mem) (settled_words o g) (Flies (ghost_of g) k) (ghost_of g) x.bits.geo k (sight_of (views k)) (x.bits.each_lane k) c m) r))
-            ∙ cond-true (g.runs c) (g.geo.class c) 0 r in
+        (λ k. false_from_ne_true ((sight_of (views k)).hold.making c) (λ m. both_ways (g.runs c)
+        (maker_no_run o.shape (cells_of o.shape mem) (settled_words o g) (Flies (ghost_of g) k) (ghost_of g) x.bits.geo k (sight_of (views k)) (x.bits.each_lane k) c m) r))
+        ∙ cond-true (g.runs c) (g.geo.class c) 0 r in
         let p = told_so (is_place o.shape (Descr c)) (run_told (mem (PoolWord w))) (g.geo.class c) descr some in
         let q = told_so (is_run (mem (PoolWord w))) (mem (PoolWord w) / 256) (g.geo.class c) p.1 some in
         let low = eqb-true (mem (PoolWord w) % 256) 1 q.0 in

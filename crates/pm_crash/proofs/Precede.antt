@@ -70,8 +70,7 @@ small_has sh g c i line v a = let cl = g.geo.class c in let l = line - line_of_c
     let y = and_parts (g.runs c) (nat_lt i (blocks_of cl)) v in
     let most = run_fits cl i (ltb-true i (blocks_of cl) y.1) in let from = a.from in
     let to : line < line_of_chunk sh c + 1 + (cl * i + cl) =
-    subst (λ n. line < line_of_chunk sh c + 1 + n) (next_times cl i) a.to in
-    (
+    subst (λ n. line < line_of_chunk sh c + 1 + n) (next_times cl i) a.to in (
       c,
       record { from = omega arith; to = omega arith },
       sym (cond-true (g.runs c) (Small c ((l - 1) / cl)) (Big (g.geo.first c)) y.0
@@ -220,6 +219,7 @@ module _ (o : Opening) (mem : Memory) (views : Views) (g : Past) (x : World o me
 
   lines_apart : (B C : Block) (line : ℕ) → OwnHas o.shape h (geometry_of v) B line
       → AllocatedHas o.shape K (record { first = λ c. c; class = g.geo.class }) C line → ⊥
+  unfolding is_chunk_block
   lines_apart Root C line a c = both_ways true ((fit k).hold.mine Root a.mine).2 refl
   lines_apart (Small d i) (Small e j) line a c = two_apart (Small d i) (Small e j) line
       (own_of (Small d i) line refl a) (allocated_of (Small e j) line refl c) a.mine c.allocated

@@ -48,16 +48,16 @@ own_pending keep drew k (suc n) h =
     let e : Numbered = record { number = suc n; call = v.call } in
     let before = own_pending keep drew k n (λ m l. h m (omega arith)) in
     let ours : (v.fixed.lane == k) ≡ true
-        → kept_pending keep drew (suc n) k ≡ pending_of (numbered_by k drew (suc n)) = λ t.
+    → kept_pending keep drew (suc n) k ≡ pending_of (numbered_by k drew (suc n)) = λ t.
     let q = eqb-true v.fixed.lane k t in
     let here = and_from (keep n) (k == v.fixed.lane) (h n (omega arith) q)
-        (eq-eqb k v.fixed.lane (sym q)) in
+    (eq-eqb k v.fixed.lane (sym q)) in
     cond-true (keep n && (k == v.fixed.lane)) (pending_after v.call p) p here
     ∙ (ap (pending_after v.call) before ∙ sym (ap pending_of (cond-true (v.fixed.lane == k) (e ∷ rest) rest t))) in
     let others : (v.fixed.lane == k) ≡ false
-        → kept_pending keep drew (suc n) k ≡ pending_of (numbered_by k drew (suc n)) = λ t.
+    → kept_pending keep drew (suc n) k ≡ pending_of (numbered_by k drew (suc n)) = λ t.
     let ne = ne_eqb k v.fixed.lane
-        (λ q. both_ways (v.fixed.lane == k) t (eq-eqb v.fixed.lane k (sym q))) in
+    (λ q. both_ways (v.fixed.lane == k) t (eq-eqb v.fixed.lane k (sym q))) in
     cond-false (keep n && (k == v.fixed.lane)) (pending_after v.call p) p (and_right (keep n) (k == v.fixed.lane) ne)
     ∙ (before ∙ sym (ap pending_of (cond-false (v.fixed.lane == k) (e ∷ rest) rest t))) in
     ⊎_elim ours others (cases_Bool (v.fixed.lane == k))
@@ -68,7 +68,7 @@ call_is_step o views g header fp keep d n l fact pool h =
     let v = g.drew n in
     let own : kept_pending keep g.drew n v.fixed.lane ≡ pending_of v.entries =
     own_pending keep g.drew v.fixed.lane n
-        (λ m low same. d m (omega arith) (fp.earlier m n low l same))
+    (λ m low same. d m (omega arith) (fp.earlier m n low l same))
     ∙ sym (ap pending_of (fp.entries n l)) in
     fact g.geo.class (kept_bits o g keep n) header pool (kept_pending keep g.drew n)
     (fp.precede keep d n l)

@@ -3,6 +3,7 @@ pub mod Spelled
 pub mod Footprints
 pub mod Calls
 pub mod Replayed
+pub mod Described
 pub mod Images
 pub mod Freshness
 pub mod Laws

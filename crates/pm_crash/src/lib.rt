@@ -11,12 +11,10 @@
 //! `pm_model` for calls, `pm_image` for the meaning of words; docs/MODEL.md, "The crash theorem".
 #![tactic(auto)]
 
+mod described;
 mod footprints;
-mod freshness;
 mod histories;
-mod images;
 
+pub use described::descriptors_have_classes;
 pub use footprints::footprints_stand;
-pub use freshness::histories_are_fresh;
 pub use histories::{a_call_is_a_step, a_history_holds_its_replay};
-pub use images::images_mean_replays;
