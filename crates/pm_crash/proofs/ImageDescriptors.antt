@@ -1,41 +1,32 @@
 -- What recovery makes of a descriptor: as in memory, or what tells of no run.
-use Rattle.std.proofs.Common.{◌≡◌, ◌≢◌, ℕ, zero, suc, ◌+◌, ◌*◌, ◌/◌, ◌%◌, ◌<◌, ◌≤◌, ◌⊎◌, inl, inr, ⊎_elim, nat_le, nat_lt, Bool, true, false, cond, not, ◌&&◌, eqb, leb, ltb, ◌==◌, List, [], ◌∷◌, ◌++◌, length, map, slice_index, refl, sym, ap, ◌∙◌, subst, arith, eq-eqb, ne_eqb, Option, None, Some}
+use Rattle.std.proofs.Common.{◌≡◌, ◌≢◌, ℕ, zero, suc, ◌+◌, ◌*◌, ◌<◌, ◌≤◌, ◌⊎◌, inl, inr, ⊎_elim, Bool, true, false, not, ◌&&◌, eqb, ◌==◌, List, [], ◌∷◌, ◌++◌, length, slice_index, refl, sym, ap, ◌∙◌, subst, arith, eq-eqb, Option, None}
 use Rattle.std.specs.Int.{bit_at}
 use Rattle.std.specs.List.{find, flat_map, range_with_len}
-use Rattle.std.proofs.lemmas.Bool.{cases_eq, cases_lt, cases_Bool, both_ways, and_from, and_parts, cond-true, cond-false, false_from_ne_true, lt-ltb, ltb-true, leb-true, not-true}
+use Rattle.std.proofs.lemmas.Bool.{cases_eq, cases_Bool, both_ways, and_from, lt-ltb}
 use Rattle.std.proofs.lemmas.List.Elements.{filter-append}
 use Rattle.std.proofs.lemmas.List.Folds.{list_any_at}
 use Rattle.std.proofs.lemmas.Nat.Bits.{bit_at_ones}
-use Rattle.pm_layout.specs.declared.shape.Shape.{Shape}
-use Rattle.pm_layout.specs.Areas.{word_of_generation, word_of_seal, word_of_entry, line_of_slot, undo_slots, redo_entries}
-use Rattle.pm_layout.specs.Chunks.{chunks_of, word_of_chunk, word_of_descriptor, word_of_root, is_in_zone, is_chunk_page, is_descriptor_word, chunk_described, page_of_zone, page_in_zone}
+use Rattle.pm_layout.specs.Chunks.{chunks_of, word_of_descriptor, chunk_described}
 use Rattle.pm_record.specs.declared.redo.Redo.{Redo}
 use Rattle.pm_image.specs.Logs.{covers, old_word, records, entries, recovered}
 use Rattle.pm_view.specs.Changes.{Undrained}
-use Rattle.pm_view.specs.Parts.{OtherPart, is_entry_word, is_slot_word, part_of}
-use Rattle.pm_view.specs.Places.{Place, InRun, InHuge, Descr, RootWord, Block, Small, Big, twin, word_of, is_place}
+use Rattle.pm_view.specs.Places.{Descr, Big, is_place}
 use Rattle.pm_view.specs.Claims.{is_run}
-use Rattle.pm_view.specs.Entries.{Entry, latest, redos}
+use Rattle.pm_view.specs.Entries.{latest, redos}
 use Rattle.pm_view.specs.Log.{Phase, Idle, Open, Drawn, Sealing, Applying, Clearing, Retiring, Voiding}
 use Rattle.pm_world.specs.States.{given}
 use Rattle.pm_world.specs.Sights.{sight_of}
 use Rattle.pm_world.specs.Lanes.{own, owns, is_decided, is_in_making, SightFits, Flies}
 use Rattle.pm_world.specs.Logs.{IsOld, AreaChange}
-use Rattle.pm_world.specs.Memory.{Memory, PoolWord, bit, run_told, bits_of, descriptor_told, cells_of}
-use Rattle.pm_world.specs.World.{Opening, Views, Past, World, origin, settled_words, ghost_of, is_header}
-use Rattle.pm_world.specs.Crash.{Survives, NoneTorn, DescribesRun, MeansKept}
-use Rattle.pm_world.specs.Laws.{CrashLaw}
-use Rattle.pm_world.proofs.Frame.{some_first, no_run, maker_no_run, making_own, not_making, soiled_owned}
-use Rattle.pm_world.proofs.Crashes.{InPool, unspoken}
-use Rattle.pm_world.proofs.Replays.{over_none}
-use Rattle.pm_world.proofs.RecoveredBits.{entry_bit, entry_bit-none, record_bit, of_word, SetsWord, IsSet, set_cases, sets_parts, parts_none, mapped_none, recovered_plain, recovered_set}
-use Rattle.pm_world.proofs.SurvivingWords.{whole_left, Taken, no_other}
-use Rattle.pm_world.proofs.ImageLogs.{redo_at}
-use Rattle.pm_world.proofs.LanesInImages.{Silent, Sealed, Current, LaneCase, lane_case}
-use Rattle.pm_world.proofs.EntriesAtPlaces.{AllStand, Stands, entry_bits, of_place}
-use Rattle.pm_world.proofs.RecordsAtPlaces.{speaks_of, log_is}
-use Rattle.pm_world.proofs.ImageSays.{spoken, spoken_is, stands, three_cases, bare_bit, silent_bit, sealed_redoes, sealed_stand}
-use Rattle.pm_world.proofs.CrashLaw.{no_part, place_inside, descriptor_part, descriptor_change, soils as soils_here, pool, apart, away, sets, bare_descriptor, image_says, words_are}
+use Rattle.pm_world.specs.Memory.{Memory, PoolWord, bit}
+use Rattle.pm_world.specs.World.{Opening, Views, Past, World}
+use Rattle.pm_world.specs.Crash.{Survives, NoneTorn}
+use Rattle.pm_world.proofs.RecoveredBits.{entry_bit, entry_bit-none, record_bit, of_word, SetsWord, IsSet, set_cases, sets_parts, mapped_none, recovered_plain, recovered_set}
+use Rattle.pm_world.proofs.SurvivingWords.{whole_left, Taken}
+use Rattle.pm_world.proofs.LanesInImages.{Sealed, LaneCase, lane_case}
+use Rattle.pm_world.proofs.EntriesAtPlaces.{entry_bits}
+use Rattle.pm_world.proofs.ImageSays.{sealed_stand}
+use Rattle.pm_world.proofs.CrashLaw.{place_inside, descriptor_part, descriptor_change, soils as soils_here, sets, bare_descriptor}
 
 -- a descriptor's bit is undrained only once its call is decided, by an entry
 is_applying : Phase → Bool

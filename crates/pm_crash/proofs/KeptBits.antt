@@ -1,16 +1,16 @@
 -- THE BITS OF KEPT CALLS at one moment of a world: beside the settled ones, those that calls in
 -- flight make of what their lanes own. The geometry of the world fits them too.
-use Rattle.std.proofs.Common.{◌≡◌, ◌≢◌, ◌⊎◌, inl, inr, ⊎_elim, ℕ, zero, suc, ◌<◌, ◌≤◌, ◌==◌, Bool, true, false, cond, Option, None, Some, refl, sym, ap, ◌∙◌, subst, arith, eq-eqb}
-use Rattle.std.proofs.lemmas.Bool.{both_ways, cases_Bool, cases_eq, cases_lt, cond-false, cond-true, eqb-true, false_from_ne_true, or_left, or_right}
+use Rattle.std.proofs.Common.{◌≡◌, ◌≢◌, ◌⊎◌, inl, inr, ⊎_elim, ℕ, ◌<◌, ◌≤◌, ◌==◌, Bool, true, false, cond, Option, None, Some, refl, sym, ap, ◌∙◌, subst, arith}
+use Rattle.std.proofs.lemmas.Bool.{both_ways, cases_Bool, cases_eq, cases_lt, cond-false, cond-true, eqb-true, false_from_ne_true}
 use Rattle.pm_view.specs.Entries.{latest, turn, first_of_two}
 use Rattle.pm_view.specs.Log.{Phase, Idle, Open, Drawn, Sealing, Applying, Clearing, Retiring, Voiding}
 use Rattle.pm_view.specs.Places.{Place, InRun, InHuge, Descr, RootWord, Block, Small, Big, Root, in_span}
-use Rattle.pm_world.specs.States.{State, Diff, diff, given, over, replay, spans, there}
+use Rattle.pm_world.specs.States.{State, Diff, diff, given, over, spans, there}
 use Rattle.pm_world.specs.Sights.{Sight, sight_of}
-use Rattle.pm_world.specs.Lanes.{DescrFits, FlightFits, Flies, Ghost, SightFits, TurnFits, TurnFlight, flies_at, has, own, owns, valid}
+use Rattle.pm_world.specs.Lanes.{DescrFits, FlightFits, Flies, Ghost, SightFits, TurnFits, TurnFlight, flies_at, own, owns, valid}
 use Rattle.pm_world.specs.Memory.{Memory, cells_of}
 use Rattle.pm_world.specs.World.{Opening, Views, Past, World, ghost_of, origin, settled_words}
-use Rattle.pm_world.proofs.Frame.{disjoint, here_own, mine_own, own_has, owns_apart}
+use Rattle.pm_world.proofs.Frame.{disjoint, mine_own, own_has}
 use Rattle.pm_world.proofs.Finds.{some_lane}
 use Rattle.pm_world.proofs.Replays.{over_none, replay_last, replay_same}
 use Rattle.pm_crash.specs.Footprints.{KeepsDecided, kept_bits}

@@ -11,3 +11,8 @@ pub mod Onward
 pub mod Replaying
 pub mod RunClasses
 pub mod ImageDescriptors
+pub mod Fresh
+pub mod SmallWords
+pub mod KeptImage
+pub mod ImageMeans
+pub mod TornSlots

@@ -1,26 +1,26 @@
 -- FOOTPRINTS STAND: as a world opens, by a draw for its own call, and by every other step, since the
 -- calls stay, what is decided grows, and runs stay of their class.
-use Rattle.std.proofs.Common.{◌≡◌, ◌≢◌, ◌⊎◌, inl, inr, ⊎_elim, ℕ, zero, suc, ◌+◌, ◌*◌, ◌/◌, ◌%◌, ◌^◌, ◌<◌, ◌≤◌, nat_lt, ◌==◌, ◌&&◌, ◌||◌, Bool, true, false, cond, List, [], ◌∷◌, Option, None, Some, refl, sym, ap, ◌∙◌, subst, arith, eq-eqb}
+use Rattle.std.proofs.Common.{◌≡◌, ◌≢◌, inl, ⊎_elim, ℕ, zero, suc, ◌+◌, ◌*◌, ◌/◌, ◌%◌, ◌^◌, ◌<◌, ◌≤◌, nat_lt, ◌==◌, Bool, true, false, cond, List, [], ◌∷◌, Option, None, Some, refl, sym, ap, ◌∙◌, subst, arith}
 use Rattle.std.specs.Prelude.{slice_index}
-use Rattle.std.proofs.lemmas.Bool.{and_from, and_parts, both_ways, cases_Bool, cases_eq, cond-false, cond-true, eqb-true, false_from_ne_true, or_cases}
+use Rattle.std.proofs.lemmas.Bool.{and_from, and_parts, both_ways, cases_Bool, cases_eq, cond-true, eqb-true, false_from_ne_true, or_cases}
 use Rattle.pm_layout.specs.Chunks.{word_of_descriptor}
 use Rattle.pm_layout.specs.Sizes.{blocks_of}
 use Rattle.pm_view.specs.Changes.{Undrained, drained}
 use Rattle.pm_view.specs.Claims.{is_run}
-use Rattle.pm_view.specs.Entries.{first_of_two, latest, redos, turn}
+use Rattle.pm_view.specs.Entries.{first_of_two, latest, redos}
 use Rattle.pm_view.specs.Parts.{Part, GenerationPart, SealPart, EntryPart, SlotPart, RootPart, DescriptorPart, ChunkPart, OtherPart}
 use Rattle.pm_view.specs.Log.{Phase, Idle, Open, Drawn, Sealing, Applying, Clearing, Retiring, Voiding, phase_drawn}
 use Rattle.pm_view.specs.Places.{Place, InRun, Descr, Block, Small, Big, Root, header, is_place}
 use Rattle.pm_view.specs.Steps.{Step}
 use Rattle.pm_view.specs.Steps.Step.{Load, Store, Or, And, Flush, Drain, TakeWrite, TakeRead, Raise, Give, ZoneTry, ZoneGive, Occupied, Occupy, Vacate, Draw, NumberSeen, StopSeen, SetStop, Tell}
-use Rattle.pm_view.specs.View.{View, Constants, Numbered}
+use Rattle.pm_view.specs.View.{View, Constants}
 use Rattle.pm_view.specs.Views.{after, part_in}
-use Rattle.pm_world.specs.States.{State, diff, given, over, put1, replay, there}
+use Rattle.pm_world.specs.States.{State, diff, over, replay, there}
 use Rattle.pm_world.specs.Sights.{call_in, sight_of}
 use Rattle.pm_world.specs.Lanes.{Flies, SightFits, TurnFits, valid, flies_at}
 use Rattle.pm_world.specs.Laws.{Turn}
 use Rattle.pm_world.specs.Lawful.{IsLawful}
-use Rattle.pm_world.specs.Memory.{Memory, PoolWord, cells_of, descriptor_told, run_told}
+use Rattle.pm_world.specs.Memory.{Memory, PoolWord, cells_of, run_told}
 use Rattle.pm_world.specs.BlockLines.{AllocatedHas, IsInSmall}
 use Rattle.pm_world.specs.Course.{is_idle, past_after, past_decided, past_drained, past_drawn, past_made, past_stored}
 use Rattle.pm_world.specs.Runs.{IsRun, Leads, Moment}

@@ -1,32 +1,31 @@
 -- THE BITS THAT A WORLD BEGAN FROM hold what its opening's words hold: they spell these words, but for runs without blocks.
-use Rattle.std.proofs.Common.{◌≡◌, ◌⊎◌, ⊎_elim, inl, inr, ℕ, ◌+◌, ◌-◌, ◌*◌, ◌/◌, ◌%◌, ◌^◌, ◌<◌, ◌≤◌, nat_lt, ◌==◌, ◌&&◌, ◌||◌, Bool, true, false, not, cond, List, [], ◌∷◌, Option, Some, None, refl, sym, ◌∙◌, ap, subst, arith, eq-eqb, ne_eqb}
+use Rattle.std.proofs.Common.{◌≡◌, ⊎_elim, inl, inr, ℕ, ◌+◌, ◌-◌, ◌*◌, ◌/◌, ◌%◌, ◌^◌, ◌<◌, nat_lt, ◌==◌, ◌&&◌, Bool, true, false, not, cond, List, [], ◌∷◌, Option, Some, None, refl, sym, ◌∙◌, ap, arith, eq-eqb, ne_eqb}
 use Rattle.std.specs.Prelude.{slice_index}
 use Rattle.std.specs.Int.{bit_at}
 use Rattle.std.specs.List.{Contains, list_all, range_with_len}
-use Rattle.std.proofs.lemmas.Bool.{and_from, and_left, and_parts, and_right, both_ways, cases_Bool, cond-false, cond-true, eqb-true, false_from_ne_true, lt-ltb, or_right, true_from_ne_false}
+use Rattle.std.proofs.lemmas.Bool.{and_from, and_left, and_parts, and_right, both_ways, cases_Bool, cond-false, cond-true, eqb-true, false_from_ne_true, lt-ltb, or_right}
 use Rattle.pm_layout.specs.Chunks.{chunks_of, word_of_chunk, word_of_descriptor}
-use Rattle.pm_layout.specs.Sizes.{blocks_of}
 use Rattle.pm_layout.specs.declared.class.Class.{Class}
 use Rattle.pm_layout.specs.declared.class.Class.TheVariants.{Lines, Chunks}
 use Rattle.pm_header.specs.declared.header.Header.{Header}
 use Rattle.pm_objects.specs.declared.pool.PoolView.{PoolView}
 use Rattle.pm_image.specs.declared.block.Block.{Block}
 use Rattle.pm_image.specs.Blocks.{blocks, chunk_word, class_in, descriptor_word}
-use Rattle.pm_image.specs.HeapFaults.{bad_chunk, heap_fault, zeros_behind}
+use Rattle.pm_image.specs.HeapFaults.{heap_fault, zeros_behind}
 use Rattle.pm_image.specs.Reads.{AgreeOn, ReadsBlock}
 use Rattle.pm_image.proofs.FaultFree.{block_good, chunk_good, described}
 use Rattle.pm_image.proofs.HeapWords.{both, chunks_fit, object_fits}
 use Rattle.pm_image.proofs.Members.{member_cases, no_member, range_member}
 use Rattle.pm_image.proofs.Rooms.{run_fits}
-use Rattle.pm_view.specs.Places.{Place, InRun, InHuge, Descr, RootWord, Small, is_place}
+use Rattle.pm_view.specs.Places.{InRun, InHuge, Descr, RootWord, Small, is_place}
 use Rattle.pm_view.specs.Claims.{is_run}
-use Rattle.pm_world.specs.States.{State, there}
+use Rattle.pm_world.specs.States.{there}
 use Rattle.pm_world.specs.Memory.{bit, bits_of, huge_told}
 use Rattle.pm_world.specs.World.{Opening, origin, was_run}
 use Rattle.pm_crash.specs.Held.{HoldsPool}
 use Rattle.pm_crash.specs.Spelled.{Holds, descriptor_by, has_blocks, number, use_in, words_by}
 use Rattle.pm_crash.proofs.Classes.{chunks_of_class, lines_of_class}
-use Rattle.pm_crash.proofs.EmptyRuns.{HasNothing, HasZerosBehind, IsAlike, nothing_free, nothing_in_run, same_heap}
+use Rattle.pm_crash.proofs.EmptyRuns.{HasZerosBehind, IsAlike, nothing_free, nothing_in_run, same_heap}
 use Rattle.pm_crash.proofs.HeldAlike.{held_alike}
 use Rattle.pm_crash.proofs.Spelling.{chunk_is, chunk_spelled, descriptor_is, descriptor_spelled, no_block, number_is, number_zero, root_spelled, some_block}
 use Rattle.pm_crash.proofs.Standing.{block_stands, IsChunkBlock, IsRunBlock}

@@ -1,22 +1,22 @@
 -- AS A LANE TAKES ITS NUMBER, whichever calls are kept, the bits so far may precede its call: what it
 -- owns or sees is settled, and no allocated block has a line of its own ones.
-use Rattle.std.proofs.Common.{◌≡◌, ◌≢◌, ◌⊎◌, inl, inr, ⊎_elim, ℕ, suc, ◌+◌, ◌-◌, ◌*◌, ◌/◌, ◌<◌, ◌≤◌, nat_le, nat_lt, ◌==◌, ◌&&◌, ◌||◌, not, Bool, true, false, cond, List, [], ◌∷◌, Option, None, Some, refl, sym, ap, ◌∙◌, subst, arith, eq-eqb, ne_eqb}
+use Rattle.std.proofs.Common.{◌≡◌, ◌≢◌, ⊎_elim, ℕ, suc, ◌+◌, ◌-◌, ◌*◌, ◌/◌, ◌<◌, ◌≤◌, nat_le, nat_lt, ◌&&◌, ◌||◌, not, Bool, true, false, cond, List, [], ◌∷◌, Option, None, Some, refl, sym, ap, ◌∙◌, subst, arith}
 use Rattle.std.proofs.lemmas.Bool.{and_from, and_parts, both_ways, cases_Bool, cond-false, cond-true, eqb-true, false_from_ne_true, leb-true, le-leb, lt-ltb, ltb-true, or_cases, or_left, or_right}
 use Rattle.std.proofs.Math.Nat.{mul_comm}
 use Rattle.std.specs.Option.{option_map}
 use lib.Arith.{digits_div}
 use Rattle.pm_layout.specs.declared.shape.Shape.{Shape}
-use Rattle.pm_layout.specs.Chunks.{line_of_chunk, word_of_root}
+use Rattle.pm_layout.specs.Chunks.{line_of_chunk}
 use Rattle.pm_layout.specs.Sizes.{blocks_of}
 use Rattle.pm_image.proofs.Rooms.{run_fits}
 use Rattle.pm_view.specs.Changes.{Undrained}
-use Rattle.pm_view.specs.Claims.{class, first, found, geometry, mine, span}
+use Rattle.pm_view.specs.Claims.{class, first, span}
 use Rattle.pm_view.specs.Entries.{first_of_two}
-use Rattle.pm_view.specs.Log.{Phase, Open, Recorded, old_in, old_of}
+use Rattle.pm_view.specs.Log.{Open, Recorded, old_in, old_of}
 use Rattle.pm_view.specs.Places.{Place, InRun, InHuge, Descr, RootWord, Block, Small, Big, Root, Geometry, block_of, in_span, is_data}
 use Rattle.pm_view.specs.View.{View}
-use Rattle.pm_world.specs.States.{State, Diff, diff, given, live, over, read, shown, bright_huge, spans, there, val}
-use Rattle.pm_world.specs.Sights.{Hold, is_logged, is_logged_from, is_recorded, is_slot_drained, picture, sight_of}
+use Rattle.pm_world.specs.States.{State, diff, given, live, over, read, shown, bright_huge, there, val}
+use Rattle.pm_world.specs.Sights.{Hold, is_logged_from, is_recorded, is_slot_drained, picture, sight_of}
 use Rattle.pm_world.specs.Lanes.{Flies, Ghost, SightFits, has, own, owns, sees, valid, views}
 use Rattle.pm_world.specs.Memory.{Memory, bit, cells_of}
 use Rattle.pm_world.specs.BlockLines.{AllocatedHas, IsInChunk, IsInSmall, OwnHas}
@@ -306,7 +306,7 @@ module _ (o : Opening) (mem : Memory) (views : Views) (g : Past) (x : World o me
       (Rattle.std.proofs.lemmas.Bool.cases_eq j k)) l)
       (cases_Bool (owns g.geo S h p b))
 
-  same_some : {A : Type 0} → (a b : A) → Some a ≡ Some b → a ≡ b
+  pub same_some : {A : Type 0} → (a b : A) → Some a ≡ Some b → a ≡ b
   same_some {A = A} a b e = ap (λ (z : Option A). Rattle.std.specs.Prelude.unwrap_or z a) e
 
   known_so : (p : Place) (b : ℕ) (y : Bool) → Sees p b → is_of_object v K p ≡ true

@@ -5,15 +5,14 @@ use Rattle.std.proofs.lemmas.Bool.{and_from, and_right, both_ways, cases_Bool, c
 use Rattle.pm_header.specs.declared.header.Header.{Header}
 use Rattle.pm_layout.specs.declared.shape.Shape.{Shape}
 use Rattle.pm_objects.specs.declared.pool.PoolView.{PoolView}
-use Rattle.pm_model.specs.CallStep.{CallRun, CallStep, State, with_pending}
+use Rattle.pm_model.specs.CallStep.{CallRun, CallStep, State}
 use Rattle.pm_model.specs.History.{opened}
 use Rattle.pm_model.specs.Names.{Replays}
-use Rattle.pm_model.specs.Pending.{Pending}
 use Rattle.pm_view.specs.View.{View, Numbered}
 use Rattle.pm_world.specs.States.{after_diff, diff, over}
 use Rattle.pm_world.specs.Sights.{call_in}
 use Rattle.pm_world.specs.World.{Opening, Views, Past, numbered_by}
-use Rattle.pm_crash.specs.Calls.{Fact, IsRunOf, StepsFrom, pending_after, pending_of, pending_then, state_of}
+use Rattle.pm_crash.specs.Calls.{IsRunOf, StepsFrom, pending_after, pending_of, pending_then, state_of}
 use Rattle.pm_crash.specs.Footprints.{Footprints, KeepsDecided, kept_bits}
 use Rattle.pm_crash.specs.Images.{OpensPool}
 use Rattle.pm_crash.specs.Laws.{CallIsStep, EverySetMayBeKept, HistoryHolds}

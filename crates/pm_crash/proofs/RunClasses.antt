@@ -1,39 +1,36 @@
 -- DESCRIPTORS OF RUNS tell of classes: a lane stores one for a class, and no entry is of a run.
-use Rattle.std.proofs.Common.{◌≡◌, ◌≢◌, ◌⊎◌, ⊎_elim, ℕ, suc, ◌+◌, ◌*◌, ◌/◌, ◌%◌, ◌<◌, ◌≤◌, Bool, true, false, List, [], ◌∷◌, ◌++◌, Option, None, Some, refl, sym, ap, ◌∙◌, subst, arith, eq-eqb}
+use Rattle.std.proofs.Common.{◌≡◌, ◌≢◌, ⊎_elim, ℕ, ◌*◌, ◌/◌, ◌%◌, ◌<◌, Bool, true, false, List, [], ◌∷◌, ◌++◌, Option, None, Some, refl, sym, ap, ◌∙◌, subst, arith}
 use Rattle.std.specs.Prelude.{slice_index}
 use Rattle.std.proofs.lemmas.Bool.{both_ways, cases_eq, eqb-true, lt-ltb}
 use Rattle.pm_layout.specs.Chunks.{chunks_of, chunk_described, word_of_descriptor}
-use Rattle.pm_layout.specs.Areas.{word_of_generation}
 use Rattle.pm_layout.specs.Sizes.{blocks_of}
 use Rattle.pm_layout.specs.declared.shape.Shape.{Shape}
 use Rattle.pm_record.specs.declared.redo.Op.{Op}
 use Rattle.pm_record.specs.declared.redo.Op.TheVariants as op
 use Rattle.pm_image.specs.Blocks.{descriptor_word}
-use Rattle.pm_image.specs.HeapFaults.{heap_fault}
-use Rattle.pm_image.proofs.FaultFree.{chunk_good, described}
+use Rattle.pm_image.proofs.FaultFree.{chunk_good}
 use Rattle.pm_image.proofs.Members.{range_member}
 use Rattle.pm_view.specs.Claims.{is_run}
 use Rattle.pm_view.specs.Entries.{Entry}
 use Rattle.pm_view.specs.Log.{Phase, Idle, Open, Drawn, Sealing, Applying, Clearing, Retiring, Voiding}
-use Rattle.pm_view.specs.Parts.{Part, DescriptorPart, part_of}
-use Rattle.pm_view.specs.Places.{Place, Descr, is_place, word_of}
+use Rattle.pm_view.specs.Parts.{DescriptorPart, part_of}
+use Rattle.pm_view.specs.Places.{Place, Descr, word_of}
 use Rattle.pm_view.specs.Steps.{Step}
 use Rattle.pm_view.specs.Steps.Step.{Load, Store, Or, And, Flush, Drain, TakeWrite, TakeRead, Raise, Give, ZoneTry, ZoneGive, Occupied, Occupy, Vacate, Draw, NumberSeen, StopSeen, SetStop, Tell}
 use Rattle.pm_view.specs.View.{View}
 use Rattle.pm_view.specs.Views.{part_in}
 use Rattle.pm_view.specs.declared.occ.Occ.{Occ}
 use Rattle.pm_view.specs.declared.occ.Occ.TheVariants.{Run, Zone}
-use Rattle.pm_world.specs.Lawful.{ChangeFits, IsLawful, IsNext, StoreFits}
+use Rattle.pm_world.specs.Lawful.{ChangeFits, IsNext, StoreFits}
 use Rattle.pm_world.specs.Logs.{PhaseFits}
 use Rattle.pm_world.specs.Memory.{Memory, PoolWord, LockWord, ZoneLock, CommitCounter, StopWord, Location, IsSameBut, occ_at}
-use Rattle.pm_world.specs.Moves.{Moves}
 use Rattle.pm_world.specs.Runs.{IsRun, Leads, Moment}
 use Rattle.pm_world.specs.World.{Opening, Views, Past, World}
 use Rattle.pm_world.proofs.Cells.{other_number, other_sort}
 use Rattle.pm_world.proofs.CrashLaw.{descriptor_part}
 use Rattle.pm_world.proofs.EntriesAtPlaces.{AllStand, Stands, log_stands, of_place}
 use Rattle.pm_world.proofs.EveryStep.{every_step}
-use Rattle.pm_crash.specs.Described.{ClassesBegin, HasClasses, KeepsClasses, MemoryHasClasses, RunsKeepClasses}
+use Rattle.pm_crash.specs.Described.{ClassesBegin, KeepsClasses, MemoryHasClasses, RunsKeepClasses}
 use Rattle.pm_crash.proofs.Classes.{class_has_blocks, run_by_byte}
 use Rattle.pm_crash.proofs.Spelling.{descriptor_is}
 

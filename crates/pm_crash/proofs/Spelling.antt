@@ -1,12 +1,12 @@
 -- What the words are that bits at places spell, at the root's word, at descriptors and in chunks.
-use Rattle.std.proofs.Common.{◌≡◌, ◌≢◌, ◌⊎◌, ⊎_elim, inl, inr, ℕ, zero, suc, ◌+◌, ◌-◌, ◌*◌, ◌/◌, ◌%◌, ◌^◌, ◌<◌, ◌≤◌, nat_le, nat_lt, ◌==◌, ◌&&◌, Bool, true, false, not, cond, List, [], ◌∷◌, refl, sym, ◌∙◌, ap, subst, arith, eq-eqb, ne_eqb}
+use Rattle.std.proofs.Common.{◌≡◌, ◌≢◌, ⊎_elim, ℕ, zero, suc, ◌+◌, ◌*◌, ◌/◌, ◌%◌, ◌^◌, ◌<◌, ◌≤◌, nat_le, nat_lt, ◌==◌, ◌&&◌, Bool, true, false, cond, refl, sym, ◌∙◌, ap, arith, eq-eqb, ne_eqb}
 use Rattle.std.specs.List.{list_any, range_with_len}
 use Rattle.std.proofs.lemmas.Bool.{and_from, and_parts, both_ways, cases_Bool, cond-false, cond-true, false_from_ne_true, le-leb, lt-ltb, or_cases, or_left, or_right}
 use Rattle.pm_layout.specs.declared.shape.Shape.{Shape}
 use Rattle.pm_layout.specs.Chunks.{chunk_at, chunk_described, chunks_of, is_chunk_page, is_descriptor_word, is_in_zone, page_in_zone, page_of_chunk, page_of_zone, word_of_chunk, word_of_descriptor, word_of_root}
 use Rattle.pm_image.specs.Blocks.{chunk_word, descriptor_word}
-use Rattle.pm_view.specs.Places.{Place, InRun, InHuge, Descr, RootWord}
-use Rattle.pm_view.specs.Parts.{Part, RootPart, DescriptorPart, ChunkPart, OtherPart, pool_part}
+use Rattle.pm_view.specs.Places.{InRun, RootWord}
+use Rattle.pm_view.specs.Parts.{DescriptorPart, ChunkPart, pool_part}
 use Rattle.pm_world.specs.States.{State, Word, val}
 use Rattle.pm_world.specs.Memory.{bit}
 use Rattle.pm_world.proofs.Values.{val_word}

@@ -1,6 +1,6 @@
 -- THE LAWS: how the calls of a world, its crash images and the plain model fit together, for any
 -- number of lanes and any choice of survivors.
-use Rattle.std.specs.Prelude.{◌≡◌, ℕ, suc, ◌<◌, ◌≤◌, ◌||◌, Bool, true, List, slice_index}
+use Rattle.std.specs.Prelude.{◌≡◌, ℕ, ◌<◌, ◌≤◌, ◌||◌, Bool, true, List, slice_index}
 use Rattle.pm_header.specs.declared.header.Header.{Header}
 use Rattle.pm_objects.specs.declared.pool.PoolView.{PoolView}
 use Rattle.pm_view.specs.Log.{is_early}
@@ -14,6 +14,7 @@ use Rattle.pm_world.specs.Memory.{Memory, PoolWord}
 use Rattle.pm_world.specs.Runs.{IsRun, IsWorld, LaneStep, Moment}
 use Rattle.pm_world.specs.World.{Opening, Views, Past, World}
 use Rattle.pm_crash.specs.Calls.{Fact, StepsFrom}
+use Rattle.pm_crash.specs.Described.{MemoryHasClasses}
 use Rattle.pm_crash.specs.Footprints.{Footprints, KeepsDecided, kept_bits}
 use Rattle.pm_crash.specs.Images.{MeansReplay, OpensPool}
 use Rattle.pm_crash.specs.Replayed.{HasFacts, HoldsReplay, kept_calls, kept_pending}
@@ -68,7 +69,8 @@ EverySetMayBeKept = (o : Opening) (views : Views) (g : Past) (header : Header) (
 abbrev pub ImagesMeanReplays : Type 0
 ImagesMeanReplays = (o : Opening) (mem : Memory) (views : Views) (g : Past) (header : Header)
     (pool : PoolView) (image : List ℕ)
-    → World o mem views g → Footprints o header.id views g → HasFacts g → OpensPool o header pool
+    → World o mem views g → Footprints o header.id views g → MemoryHasClasses o mem
+    → HasFacts g → OpensPool o header pool
     → Survives o mem views image → NoneTorn o views image
     → MeansReplay image o.shape.lanes o.shape.zones pool
     (kept_calls (is_kept o views g image) g.drew g.length)

@@ -7,3 +7,4 @@ pub mod Described
 pub mod Images
 pub mod Freshness
 pub mod Laws
+pub mod Torn

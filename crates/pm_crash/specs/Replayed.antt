@@ -1,5 +1,5 @@
 -- WHAT A HISTORY MEANS: the calls that are kept, one whole call after another.
-use Rattle.std.specs.Prelude.{◌≡◌, ℕ, zero, suc, ◌<◌, ◌==◌, ◌&&◌, Bool, cond, List, [], ◌∷◌, ◌++◌}
+use Rattle.std.specs.Prelude.{ℕ, zero, suc, ◌<◌, ◌==◌, ◌&&◌, Bool, cond, List, [], ◌∷◌, ◌++◌}
 use Rattle.std.specs.List.{AllZip}
 use Rattle.pm_header.specs.declared.header.Header.{Header}
 use Rattle.pm_objects.specs.declared.pool.PoolView.{PoolView}

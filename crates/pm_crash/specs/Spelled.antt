@@ -1,12 +1,12 @@
 -- THE WORDS THAT BITS AT PLACES SPELL, as far as a meaning reads them. A chunk in which a block of a
 -- run is allocated is a run; its class, the lines of a block, stands in no bit of a state and is
 -- given beside it. A run without blocks holds nothing, so it is spelled as a free chunk.
-use Rattle.std.specs.Prelude.{ℕ, ◌+◌, ◌*◌, ◌%◌, Bool, true, false, cond}
+use Rattle.std.specs.Prelude.{ℕ, ◌+◌, ◌*◌, Bool, cond}
 use Rattle.std.specs.List.{list_any, range_with_len}
 use Rattle.pm_layout.specs.declared.shape.Shape.{Shape}
 use Rattle.pm_header.specs.declared.header.Header.{Header}
 use Rattle.pm_objects.specs.declared.pool.PoolView.{PoolView}
-use Rattle.pm_view.specs.Places.{Place, InRun, InHuge, Descr, RootWord, Geometry}
+use Rattle.pm_view.specs.Places.{Place, InRun, InHuge, Descr, RootWord}
 use Rattle.pm_view.specs.Parts.{Part, RootPart, DescriptorPart, ChunkPart, pool_part}
 use Rattle.pm_world.specs.States.{State, Word, val}
 use Rattle.pm_crash.specs.Held.{HoldsPool}

@@ -13,8 +13,14 @@
 
 mod described;
 mod footprints;
+mod freshness;
 mod histories;
+mod images;
+mod torn;
 
 pub use described::descriptors_have_classes;
 pub use footprints::footprints_stand;
+pub use freshness::histories_are_fresh;
 pub use histories::{a_call_is_a_step, a_history_holds_its_replay};
+pub use images::images_mean_replays;
+pub use torn::no_record_is_torn;
