@@ -334,26 +334,25 @@ goes_on (Tell operation reply) o old mem views new g k x c ink law m t =
 
 -- ---- THE OPENING
 pub begin : CausesBegin
-begin o mem fixed generation g op occ x = let e = x.bits.counter in let z = op.counter in
-    let none_ : g.length ≡ 0 = omega arith in record {
-      busy = record {
-        drawn = λ n l a r. absurd (omega arith);
-        open_ = λ k l ink n r.
-            absurd (both_ways false refl r);
-      };
-      no_object = λ k n v ink is B c. ⊎_elim
-          (λ (q : (n < g.length) × (drawn_by g n ≡ k) × (v ≡ g.drew n)). absurd (let a = q.0 in
-          omega arith))
-          (λ (q : (n ≡ g.length) × (v ≡ idle_views fixed generation k)).
-          absurd (let a : 0 < 0 = subst
-          (λ (w : View). 0 < times_missed o.shape B w.claims) q.1 c.some in omega arith)) is;
-      no_space = zones_begin o mem occ fixed generation;
-      counts = record {
-        held = λ k l ink h. absurd (both_ways false refl h);
-        locked = λ k p l a h. absurd (omega arith);
-        missed = λ k p B a h. absurd (omega arith);
-      };
-    }
+begin o mem fixed generation g occ none_ = record {
+  busy = record {
+    drawn = λ n l a r. absurd (omega arith);
+    open_ = λ k l ink n r.
+        absurd (both_ways false refl r);
+  };
+  no_object = λ k n v ink is B c. ⊎_elim
+      (λ (q : (n < g.length) × (drawn_by g n ≡ k) × (v ≡ g.drew n)). absurd (let a = q.0 in
+      omega arith))
+      (λ (q : (n ≡ g.length) × (v ≡ idle_views fixed generation k)).
+      absurd (let a : 0 < 0 = subst
+      (λ (w : View). 0 < times_missed o.shape B w.claims) q.1 c.some in omega arith)) is;
+  no_space = zones_begin o mem occ fixed generation;
+  counts = record {
+    held = λ k l ink h. absurd (both_ways false refl h);
+    locked = λ k p l a h. absurd (omega arith);
+    missed = λ k p B a h. absurd (omega arith);
+  };
+}
 
 -- ---- RUNS
 pub runs : RunsKeepCauses

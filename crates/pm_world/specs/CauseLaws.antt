@@ -13,13 +13,12 @@ use Rattle.pm_view.specs.Steps.Step.{Occupied, Occupy}
 use Rattle.pm_view.specs.View.{Constants}
 use Rattle.pm_view.specs.Views.{after}
 use Rattle.pm_world.specs.Lanes.{is_taken}
-use Rattle.pm_world.specs.Memory.{Memory, bit, cells_of}
+use Rattle.pm_world.specs.Memory.{Memory, bit}
 use Rattle.pm_world.specs.Moves.{Moves}
 use Rattle.pm_world.specs.Lawful.{IsLawful}
 use Rattle.pm_world.specs.Course.{past_after}
 use Rattle.pm_world.specs.Laws.{Turn}
-use Rattle.pm_world.specs.Opens.{IsOpening, idle_views, takes}
-use Rattle.pm_world.specs.Lanes.{is_occupancy}
+use Rattle.pm_world.specs.Opens.{IsTaken, idle_views}
 use Rattle.pm_world.specs.Runs.{LaneStep, Moment, IsRun, IsWorld}
 use Rattle.pm_world.specs.World.{Opening, Views, Past, World, ghost_of, settled_words}
 use Rattle.pm_world.specs.Causes.{is_refused, Causes}
@@ -61,10 +60,7 @@ RefusalShowsTaken = (o : Opening) (old new : Memory) (views : Views) (g : Past) 
 -- a world that opens has its causes: no lane was answered anything
 abbrev pub CausesBegin : Type 0
 CausesBegin = (o : Opening) (mem : Memory) (fixed : ℕ → Constants) (generation : ℕ → ℕ) (g : Past)
-    → IsOpening o mem fixed generation
-    → ((a : Block) → is_occupancy o.shape a ≡ true → (cells_of o.shape mem).occ a ≡ takes o a)
-    → World o mem (idle_views fixed generation) g
-    → Causes o mem (idle_views fixed generation) g
+    → IsTaken o mem → g.length ≡ 0 → Causes o mem (idle_views fixed generation) g
 
 -- EVERY LAWFUL STEP OF EVERY LANE KEEPS THEM
 abbrev pub KeepsCauses : Step → Type 0

@@ -5,7 +5,7 @@
 //! It speaks of places and bits, and of the calls by what they make final; what they mean is
 //! said above. Docs/MODEL.md, "The world of any number of lanes".
 //!
-//! It is proved that recovered words, of which nothing of the heap is wrong, open a world; of all
+//! It is proved that what recovery leaves of an image that means a pool opens a world; of all
 //! twenty kinds of step that they keep the world; of each world that every crash image keeps the
 //! decided calls, means what the kept calls do and has no fault in its logs; that two lanes own
 //! no common bit; that two blocks, allocated or a lane's own, share no line; that a run stays a
@@ -27,6 +27,6 @@ pub use block_laws::{a_run_stays_a_run, blocks_share_no_line};
 pub use crash_laws::crash_keeps_decided_calls;
 pub use history::history_stands;
 pub use laws::{lawful_steps_keep_the_world, no_bit_is_owned_twice, runs_keep_worlds};
-pub use opening::recovered_words_open_a_world;
+pub use opening::{recovered_words_open_a_world, recovery_opens_a_world};
 pub use report_laws::{answers_have_causes, steps_show_causes, worlds_bear_reports};
 pub use wrong_steps::wrong_steps_are_not_lawful;
