@@ -6,17 +6,21 @@ use Rattle.std.proofs.Common.{◌≤◌, nat_le, nat_lt}
 use Rattle.std.proofs.Common.{true, ◌==◌, sym, ap, ◌∙◌, subst, arith, eq-eqb}
 use Rattle.std.proofs.lemmas.Bool.{cases_eq, eqb-true, and_parts, and_from, lt-ltb, ltb-true}
 use Rattle.std.proofs.lemmas.Nat.Bits.{bit_at_and, bit_at-lt, bit_at-suc, bit_at_lowest}
+use Rattle.std.proofs.Common.{inl, inr, ◌||◌, not, false, refl}
+use Rattle.std.proofs.lemmas.Bool.{cases_lt, both_ways, or_cases, not-true}
 use Rattle.pm_layout.specs.declared.shape.Shape.{Shape}
 use Rattle.pm_layout.specs.Chunks.{chunks_of, page_of_chunk}
 use Rattle.pm_view.specs.declared.occ.Occ.{Occ}
 use Rattle.pm_view.specs.declared.occ.Occ.TheVariants.{Run, Zone}
-use Rattle.pm_view.specs.Places.{Small, Big}
-use Rattle.pm_view.specs.Claims.{run_chunk}
-use Rattle.pm_world.specs.Lanes.{is_taken}
+use Rattle.pm_view.specs.Places.{Block, Small, Big, Root}
+use Rattle.pm_view.specs.Claims.{mine, run_chunk}
+use Rattle.pm_world.specs.States.{there}
+use Rattle.pm_world.specs.Lanes.{valid, is_taken}
 use Rattle.pm_world.specs.Memory.{Memory, RunWord, ZoneWord, occ_at, bit}
-use Rattle.pm_world.specs.Lawful.{HasOcc, IsOneBlock}
+use Rattle.pm_world.specs.Lawful.{HasOcc, IsOneBlock, is_mine}
 use Rattle.pm_world.specs.World.{Opening, Views, Past, World, ghost_of, settled_words}
 use Rattle.pm_world.specs.CauseLaws.{occupied_by, LoadShowsTaken, RefusalShowsTaken}
+use Rattle.pm_world.specs.CauseLaws.{IsSomeones, TakenIsSomeones}
 use Rattle.pm_world.proofs.RowBits.{row_bit}
 use Rattle.pm_world.proofs.WordPlaces.{run_chunk_is, pow_bit}
 
@@ -45,6 +49,37 @@ module _ (o : Opening) (mem : Memory) (views : Views) (g : Past) (x : World o me
       let r : i ≡ c % 64 = omega arith in
       ap (λ n. bit (mem (ZoneWord n)) i) z ∙ (ap (λ n. bit (mem (ZoneWord (c / 64))) n) r
       ∙ x.bits.occ (Big c) (lt-ltb c (chunks_of o.shape) (omega arith)))
+
+-- whose a block is that is not allocated
+holder_is : (n : ℕ) → not (n == 0) ≡ true → (j : ℕ) × (n ≡ suc j)
+holder_is zero e = absurd (both_ways false refl e)
+holder_is (suc j) e = (j, refl)
+
+module _ (o : Opening) (mem : Memory) (views : Views) (g : Past) (x : World o mem views g) where
+  someones : (B : Block) → (there (settled_words o g) B || not (g.holder B == 0)) ≡ true
+      → IsSomeones o views g B
+  someones B e = ⊎_elim (λ (t : there (settled_words o g) B ≡ true). inl t)
+      (λ (h : not (g.holder B == 0) ≡ true). let y = holder_is (g.holder B) h in let j = y.0 in
+      let m : is_mine (views j) B ≡ true = (x.bits.each_lane j).hold.holds B y.1 in
+      inr (
+        j,
+        ⊎_elim (λ (l : j < o.lanes). l)
+            (λ (l : o.lanes ≤ j). absurd (both_ways false refl
+            (subst (λ t. mine (views j).fixed.shape t B ≡ true) (x.idle_beyond j l).2 m)))
+            (cases_lt j o.lanes),
+        m,
+      )) (or_cases (there (settled_words o g) B) (not (g.holder B == 0)) e)
+
+pub taken_is_someones : TakenIsSomeones
+taken_is_someones o mem views g x (Small c i) e = let v = valid (ghost_of g) (Small c i) in
+    let rest = there (settled_words o g) (Small c i) || not (g.holder (Small c i) == 0) in
+    ⊎_elim (λ (n : not v ≡ true). inl (not-true v n))
+    (λ (t : rest ≡ true). inr (someones o mem views g x (Small c i) t)) (or_cases (not v) rest e)
+taken_is_someones o mem views g x (Big c) e = let B = Big (g.geo.first c) in
+    let rest = there (settled_words o g) B || not (g.holder B == 0) in
+    ⊎_elim (λ (r : g.runs c ≡ true). inl r)
+    (λ (t : rest ≡ true). inr (someones o mem views g x B t)) (or_cases (g.runs c) rest e)
+taken_is_someones o mem views g x Root e = tt
 
 -- a number that is not 0 has a bit
 some_bit : (n w : ℕ) → w ≤ n → (w ≡ 0 → ⊥) → (b : ℕ) × (bit w b ≡ true)

@@ -2,20 +2,21 @@
 -- that
 -- from the opening on, by every lawful step of every lane, each answer that a view keeps has its
 -- cause.
-use Rattle.std.specs.Prelude.{◌≡◌, ◌≢◌, ℕ, ◌+◌, ◌*◌, ◌<◌, true, false, List}
+use Rattle.std.specs.Prelude.{◌≡◌, ◌≢◌, ◌⊎◌, ℕ, ◌+◌, ◌*◌, ◌<◌, true, false, List}
 use Rattle.pm_layout.specs.declared.shape.Shape.{Shape}
 use Rattle.pm_view.specs.declared.occ.Occ.{Occ}
 use Rattle.pm_view.specs.declared.occ.Occ.TheVariants.{Run, Zone}
 use Rattle.pm_view.specs.Claims.{holds, run_chunk}
-use Rattle.pm_view.specs.Places.{Block, Small, Big}
+use Rattle.pm_view.specs.Places.{Block, Small, Big, Root}
 use Rattle.pm_view.specs.Steps.{Step}
 use Rattle.pm_view.specs.Steps.Step.{Occupied, Occupy}
 use Rattle.pm_view.specs.View.{Constants}
 use Rattle.pm_view.specs.Views.{after}
-use Rattle.pm_world.specs.Lanes.{is_taken}
+use Rattle.pm_world.specs.States.{there}
+use Rattle.pm_world.specs.Lanes.{valid, is_taken}
 use Rattle.pm_world.specs.Memory.{Memory, bit}
 use Rattle.pm_world.specs.Moves.{Moves}
-use Rattle.pm_world.specs.Lawful.{IsLawful}
+use Rattle.pm_world.specs.Lawful.{IsLawful, is_mine}
 use Rattle.pm_world.specs.Course.{past_after}
 use Rattle.pm_world.specs.Laws.{Turn}
 use Rattle.pm_world.specs.Opens.{IsTaken, idle_views}
@@ -45,6 +46,22 @@ LoadShowsTaken = (o : Opening) (old new : Memory) (views : Views) (g : Past) (k 
     → World o old views g → k < o.lanes → IsLawful (views k) (Occupied at found)
     → Moves k (Occupied at found) old new → i < 64
     → bit found i ≡ is_taken (settled_words o g) (ghost_of g) (occupied_by o.shape at i)
+
+-- so a bit that is set is of a block that is allocated in the settled words, or some lane's own
+abbrev pub IsSomeones : Opening → Views → Past → Block → Type 0
+IsSomeones o views g B = (there (settled_words o g) B ≡ true)
+    ⊎ ((j : ℕ) × (j < o.lanes) × (is_mine (views j) B ≡ true))
+
+-- or it is of no block of a run; and of a zone, it may be of a run
+abbrev pub IsTakenBy : Opening → Views → Past → Block → Type 0
+IsTakenBy o views g (Small c i) =
+    (valid (ghost_of g) (Small c i) ≡ false) ⊎ IsSomeones o views g (Small c i)
+IsTakenBy o views g (Big c) = (g.runs c ≡ true) ⊎ IsSomeones o views g (Big (g.geo.first c))
+IsTakenBy o views g Root = Unit {0}
+
+abbrev pub TakenIsSomeones : Type 0
+TakenIsSomeones = (o : Opening) (mem : Memory) (views : Views) (g : Past) → World o mem views g
+    → (a : Block) → is_taken (settled_words o g) (ghost_of g) a ≡ true → IsTakenBy o views g a
 
 -- bits that could not be got: one of them is taken
 abbrev pub RefusalShowsTaken : Type 0

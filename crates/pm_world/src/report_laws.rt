@@ -1,6 +1,7 @@
 ghost use Rattle.pm_view.specs.Steps.{Step};
 ghost use Rattle.pm_world.specs.Reports.{NumbersLast, StopIsShown, OccupancyIsExact};
-ghost use Rattle.pm_world.specs.CauseLaws.{RefusalShowsLock, LoadShowsTaken, RefusalShowsTaken};
+ghost use Rattle.pm_world.specs.CauseLaws.{RefusalShowsLock, LoadShowsTaken, TakenIsSomeones};
+ghost use Rattle.pm_world.specs.CauseLaws.{RefusalShowsTaken};
 ghost use Rattle.pm_world.specs.CauseLaws.{CausesBegin, KeepsCauses, RunsKeepCauses};
 
 /// A law: of every world, numbers do not run out, a stop word that is set shows a lane at its stop
@@ -12,10 +13,12 @@ pub fn worlds_bear_reports()
 {}
 
 /// A law: in every world, a refused try of a line's lock shows that another lane holds it, and a
-/// lane finds an occupancy bit set exactly where its block is taken. No code runs.
+/// lane finds an occupancy bit set exactly where its block is taken: allocated, or some lane's own.
+/// No code runs.
 pub fn steps_show_causes()
     ensures lock { RefusalShowsLock }
     ensures occupancy { LoadShowsTaken }
+    ensures taken { TakenIsSomeones }
     ensures bits { RefusalShowsTaken }
 {}
 
