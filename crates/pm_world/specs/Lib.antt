@@ -16,3 +16,5 @@ pub mod BlockLines
 pub mod WrongSteps
 pub mod Reports
 pub mod Runs
+pub mod Lent
+pub mod Solo

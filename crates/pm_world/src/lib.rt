@@ -16,18 +16,25 @@
 //! Still to come: the causes of `Busy`, `NoObject` and `NoSpace`.
 #![tactic(auto)]
 
+mod adds;
 mod block_laws;
 mod crash_laws;
 mod history;
+mod lawful_mem;
 mod laws;
+mod lent;
 mod opening;
 mod report_laws;
+mod solo;
 mod wrong_steps;
 
+pub use adds::Adds;
 pub use block_laws::{a_run_stays_a_run, blocks_share_no_line};
 pub use crash_laws::crash_keeps_decided_calls;
 pub use history::history_stands;
+pub use lawful_mem::LawfulMem;
 pub use laws::{lawful_steps_keep_the_world, no_bit_is_owned_twice, runs_keep_worlds};
+pub use lent::{LentOperation, LentValue};
 pub use opening::recovered_words_open_a_world;
 pub use report_laws::worlds_bear_reports;
 pub use wrong_steps::wrong_steps_are_not_lawful;
