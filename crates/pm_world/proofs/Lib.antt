@@ -82,3 +82,6 @@ pub mod Histories
 pub mod BlockLines
 pub mod WrongSteps
 pub mod RunsKept
+pub mod SoloMoves
+pub mod SoloWorlds
+pub mod OwnedWords

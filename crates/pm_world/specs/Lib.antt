@@ -18,3 +18,6 @@ pub mod Reports
 pub mod Runs
 pub mod Lent
 pub mod Solo
+pub mod SoloWorld
+pub mod OwnedBits
+pub mod LaneFields
