@@ -77,6 +77,7 @@ pub mod OpenChunks
 pub mod OpenGeometry
 pub mod OpenTaken
 pub mod OpenFaults
+pub mod Reopens
 pub mod EveryStep
 pub mod Histories
 pub mod BlockLines

@@ -1,8 +1,7 @@
 -- Runs of lawful steps lead from worlds to worlds.
 use Rattle.std.specs.Prelude.{List, [], ◌∷◌}
-use Rattle.std.proofs.Common.{◌≡◌, sym, subst}
+use Rattle.std.proofs.Common.{sym, subst}
 use Rattle.pm_world.specs.Runs.{LaneStep, Moment, Leads, IsRun, IsWorld}
-use Rattle.pm_world.specs.Course.{past_after}
 use Rattle.pm_world.specs.World.{Opening, Past, World}
 use Rattle.pm_world.proofs.EveryStep.{every_step}
 

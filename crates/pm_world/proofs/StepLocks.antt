@@ -161,7 +161,7 @@ module _ (o : Opening) (mem : Memory) (views : Views) (g : Past) (x : World o me
 
   -- a lock is refused
   refused : (new : Memory) (views' : Views) (s : Step) → IsSame mem new → Turn views views' k (record (views k) { seen = s ∷ (views k).seen }) → may_draw (record (views k) { seen = s ∷ (views k).seen }) ≡ may_draw (views k) → World o new views' g
-  refused new views' s same t draws = plain_step o mem new views views' g x k ink same (record (views k) { seen = s ∷ (views k).seen }) t refl draws (λ e. e) (lane_told o mem g k (views k) (s ∷ (views k).seen) (views k).call (views k).actions (x.each_lane k ink))
+  refused new views' s same t draws = plain_step o mem new views views' g x k ink same (record (views k) { seen = s ∷ (views k).seen }) t refl draws (λ e. e) (lane_told o mem g k (views k) (s ∷ (views k).seen) (views k).call (views k).actions (views k).published (x.each_lane k ink))
 
   -- ---- WHERE ONE LANE RUNS the word of a lock tells of it alone
   others_none : o.lanes ≡ 1 → (j : ℕ) → j ≢ k → (views j).claims ≡ []
@@ -299,7 +299,7 @@ module _ (o : Opening) (mem new : Memory) (views views' : Views) (g : Past) (x :
     where
       go : (ph : Phase) → (views k).log.phase ≡ ph → GiveFits (views k) line ph → ((views k).log.phase ≡ Idle) ⊎ (((B : Block) → found (views k).fixed.shape (views k).claims B ≡ true → header_in (views k).fixed.shape (views k).claims B ≢ line) × All (λ (e : Entry). e.place ≢ Some RootWord) (views k).log.entries)
       go Idle q f = inl q
-      go Open q f = inr (f.1, f.2)
+      go Open q f = inr f
       go (Drawn n) q f = absurd f
       go (Sealing n) q f = absurd f
       go (Applying es) q f = absurd f

@@ -88,7 +88,7 @@ seen_open : (o : Opening) (mem new : Memory) (views views' : Views) (g : Past) (
 seen_open o mem new views views' g x k ink same n counted t = let v : View = record (views k) { seen = NumberSeen n ∷ (views k).seen } in let f = x.each_lane k ink in
     seen_world o mem new views views' g x k ink same n counted v t
     (subst (λ s. (may_draw v ≡ true → nat_lt n (greatest_generation s) ≡ true) ⊎ (may_draw v ≡ may_draw (views k))) f.shape (draws_so (is_none (views k).number) (nat_lt n (greatest_generation (views k).fixed.shape)) (list_any (Rattle.pm_world.specs.World.is_low (views k).fixed.shape) (views k).seen)))
-    (λ e. e) (lane_told o mem g k (views k) (NumberSeen n ∷ (views k).seen) (views k).call (views k).actions f)
+    (λ e. e) (lane_told o mem g k (views k) (NumberSeen n ∷ (views k).seen) (views k).call (views k).actions (views k).published f)
     (unchanged o.shape o.lanes (origin o) (cells_of o.shape mem) (λ j. sight_of (views j)) (ghost_of g) x.bits k ink (sight_of v) (λ j. sight_of (views' j)) refl (λ m y. y) (x.bits.each_lane k) (turned views views' k v t))
 
 -- ---- WHERE NONE IS
@@ -97,7 +97,7 @@ module _ (o : Opening) (mem new : Memory) (views views' : Views) (g : Past) (x :
   opened = record (views k).log { phase = Open }
 
   abbrev begun_view : View
-  begun_view = record (views k) { log = record (views k).log { phase = Open }; seen = NumberSeen n ∷ []; call = []; number = None }
+  begun_view = record (views k) { log = record (views k).log { phase = Open }; seen = NumberSeen n ∷ []; call = []; number = None; published = [] }
 
   idle_log : ((views k).log.records ≡ []) × ((views k).log.entries ≡ []) × ((views k).log.slot ≡ []) × ((views k).log.pair ≡ [])
   idle_log = subst (PhaseFits o.shape k (sight_of (views k)).picture (views k).log (views k).changes) idle_ (x.each_lane k ink).log.phase
@@ -180,7 +180,7 @@ number_seen n o mem new views views' g k x ink law moves t = let f = x.each_lane
 )
   where
     by_phase : (ph : Phase) → (views k).log.phase ≡ ph → Rattle.pm_view.specs.Log.is_early ph ≡ true → Turn views views' k (Rattle.pm_view.specs.Views.with_seen (NumberSeen n) (Rattle.pm_view.specs.Views.begun ph (views k))) → World o new views' g
-    by_phase Idle q e t = begins o mem new views views' g x k ink moves.0 n moves.1 q (subst (λ (l : Log). Turn views views' k (record (views k) { log = l; seen = NumberSeen n ∷ []; call = []; number = None })) (new_log_is o mem new views views' g x k ink moves.0 n moves.1 q) t)
+    by_phase Idle q e t = begins o mem new views views' g x k ink moves.0 n moves.1 q (subst (λ (l : Log). Turn views views' k (record (views k) { log = l; seen = NumberSeen n ∷ []; call = []; number = None; published = [] })) (new_log_is o mem new views views' g x k ink moves.0 n moves.1 q) t)
     by_phase Open q e t = seen_open o mem new views views' g x k ink moves.0 n moves.1 t
     by_phase (Drawn m) q e t = absurd (both_ways false refl e)
     by_phase (Sealing m) q e t = absurd (both_ways false refl e)

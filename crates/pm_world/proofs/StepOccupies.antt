@@ -67,7 +67,7 @@ occupied at found o mem new views views' g k x ink law moves t = let f = x.each_
 -- bits of which some are taken stay as they are
 pub occupy_lost : (at : Occ) (bits : ℕ) → Keeps (Occupy at bits false)
 occupy_lost at bits o mem new views views' g k x ink law moves t = let f = x.each_lane k ink in let v = after (views k) (Occupy at bits false) in (
-  plain_step o mem new views views' g x k ink moves.0 v t refl refl (λ e. e) (lane_told o mem g k (views k) (Occupy at bits false ∷ (views k).seen) (views k).call (views k).actions f),
+  plain_step o mem new views views' g x k ink moves.0 v t refl refl (λ e. e) (lane_told o mem g k (views k) (Occupy at bits false ∷ (views k).seen) (views k).call (views k).actions (views k).published f),
   λ one. if_some (occupancy_of (views k).occupancy at) (λ y. (false ≡ true) ↔ (bit_and y bits ≡ 0))
       (λ y e. let w = ((f.alone (sym f.lanes ∙ eqb-true (views k).fixed.lanes 1 one)).occupancy at y e).0 in (λ q. absurd (both_ways false refl q), λ q. absurd (moves.1 (ap (λ z. bit_and z bits) w ∙ q)))),
 )

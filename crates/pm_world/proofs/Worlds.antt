@@ -1,7 +1,7 @@
 -- THE WORLD GOES ON: what a step of lane k owes of words, views and ghosts beside the bits.
 use Rattle.std.specs.Prelude.{List, [], ◌∷◌, length, slice_index}
 use Rattle.std.proofs.Common.{◌≡◌, ◌≢◌, ℕ, zero, suc, ◌+◌, ◌^◌, ◌<◌, ◌≤◌, ◌⊎◌, ⊎_elim, true, false, cond, ne_eqb, ◌==◌, refl, sym, ap, ◌∙◌, subst, arith}
-use Rattle.std.proofs.lemmas.Bool.{cases_eq, eqb-true, eq-eqb}
+use Rattle.std.proofs.lemmas.Bool.{cases_eq, eqb-true, eq-eqb, both_ways, false_from_ne_true}
 use Rattle.pm_layout.specs.declared.shape.Shape.{Shape}
 use Rattle.pm_record.specs.Undo.{undo_of}
 use Rattle.pm_view.specs.Counts.{IsAtStop}
@@ -9,11 +9,11 @@ use Rattle.pm_view.specs.Changes.{Undrained}
 use Rattle.pm_view.specs.Log.{Phase, Idle, Open, Drawn, Sealing, Applying, Clearing, Retiring, Voiding, Log}
 use Rattle.pm_layout.specs.Areas.{greatest_generation, undo_slots, slot_words, redo_entries}
 use Rattle.std.proofs.lemmas.Option.{slice_get_within}
-use Rattle.pm_view.specs.Places.{block_of}
+use Rattle.pm_view.specs.Places.{Place, block_of}
 use Rattle.pm_view.specs.View.{View}
-use Rattle.pm_world.specs.States.{State, Diff}
-use Rattle.pm_world.specs.Sights.{sight_of}
-use Rattle.pm_world.specs.Lanes.{has, owns, Flies, SightFits, Bits}
+use Rattle.pm_world.specs.States.{State, Diff, there}
+use Rattle.pm_world.specs.Sights.{is_recorded, sight_of}
+use Rattle.pm_world.specs.Lanes.{has, owns, is_decided, Flies, SightFits, Bits}
 use Rattle.pm_world.specs.Logs.{used_slots, PhaseFits, LogFits}
 use Rattle.pm_world.specs.Memory.{Memory, PoolWord, ZoneLock, CommitCounter, StopWord, cells_of}
 use Rattle.pm_world.specs.World.{Opening, Views, Past, origin, ghost_of, settled_words, numbered_by, AreaFits, LaneFits, may_draw_count, is_header, World}
@@ -166,3 +166,9 @@ stops_stay views views' k v t stops j e = ⊎_elim (λ (q : j ≡ k). subst (λ 
 -- no bit is owned by two lanes
 pub rights_apart : Rattle.pm_world.specs.Laws.RightsApart
 rights_apart o mem views g x j k ne = owns_apart o.shape (cells_of o.shape mem) (settled_words o g) (Flies (ghost_of g) j) (Flies (ghost_of g) k) (ghost_of g) x.bits.geo x.bits.alone j k (sight_of (views j)) (sight_of (views k)) (x.bits.each_lane j) (x.bits.each_lane k) ne
+
+-- NO WORD OF A BLOCK OF ITS OWN IS RECORDED by a lane whose call is not decided: a record is of what the lane found, and that is allocated
+pub own_unrecorded : (o : Opening) (mem : Memory) (views : Views) (g : Past) → World o mem views g → (k : ℕ) → k < o.lanes → is_decided (views k).log.phase ≡ false → (p : Place) (b : ℕ) → (sight_of (views k)).hold.mine (block_of g.geo p b) ≡ true
+    → is_recorded (views k).log.records p ≡ false
+own_unrecorded o mem views g x k ink u p b m = let hold = (x.bits.each_lane k).hold in let B = block_of g.geo p b in false_from_ne_true (is_recorded (views k).log.records p) (λ r.
+    both_ways (there (settled_words o g) B) (hold.mine B m).2 (hold.found B (hold.here B ((((x.each_lane k ink).recorded u p r).1 b).0)).1).2)

@@ -1,19 +1,20 @@
 -- What a power failure may leave of a world's words, which calls it loses, and what recovery then gives.
 use Rattle.std.specs.Prelude.{◌≡◌, ◌⊎◌, ℕ, zero, suc, ◌+◌, ◌<◌, ◌≤◌, ◌==◌, ◌&&◌, ◌||◌, not, cond, Bool, true, false, All, Contains, List, [], ◌∷◌, length, slice_index, Some}
 use Rattle.pm_record.specs.declared.undo.Undo.{Undo}
+use Rattle.pm_layout.specs.Areas.{old_words}
 use Rattle.pm_layout.specs.Chunks.{chunks_of, word_of_chunk}
 use Rattle.pm_image.specs.Logs.{undo_slot, generation_word, recovered, seal_word}
 use Rattle.pm_image.specs.Steps.{valid_record}
 use Rattle.pm_view.specs.declared.change.Change.{Change}
 use Rattle.pm_view.specs.Changes.{Undrained, IsUndrained, IsFormed}
 use Rattle.pm_view.specs.Log.{Phase, Sealing, Retiring, Recorded}
-use Rattle.pm_view.specs.Places.{Place, is_place}
+use Rattle.pm_view.specs.Places.{Place, is_place, place_after}
 use Rattle.pm_view.specs.View.{View}
 use Rattle.pm_memory.specs.Survivors.{all_taken_back}
 use Rattle.pm_world.specs.States.{State, live, replay}
 use Rattle.pm_world.specs.Sights.{is_slot_drained}
 use Rattle.pm_world.specs.Logs.{IsRecordAt, spelled, used_slots}
-use Rattle.pm_world.specs.Lawful.{CanRecord}
+use Rattle.pm_world.specs.Lawful.{IsRecordable}
 use Rattle.pm_world.specs.Memory.{Memory, PoolWord, bit, bits_of, descriptor_told}
 use Rattle.pm_world.specs.World.{Opening, Views, Past, origin, ghost_of, is_header}
 
@@ -42,10 +43,16 @@ pub record Survives (o : Opening) (mem : Memory) (views : Views) (image : List �
 abbrev pub IsBeingWritten : View → ℕ → Type 0
 IsBeingWritten v j = (is_slot_drained v.fixed.shape v.fixed.lane v.changes j ≡ false) ⊎ ((length v.log.records ≤ j) × (j < used_slots v.log))
 
--- the slot holds, whole, the log's record of this slot, or, where the log has none there yet, one that could be written there now
+-- a record that the lane may be storing: of one to four present values of words that it may change and that have no record
+pub record IsNextRecord (v : View) (r : Recorded) : Type 0 where
+  pub some : 1 ≤ length r.old
+  pub most : length r.old ≤ old_words v.fixed.shape
+  pub each : (i : ℕ) → i < length r.old → IsRecordable v (place_after r.place i) (slice_index r.old i)
+
+-- the slot holds, whole, the log's record of this slot, or, where the log has none there yet, one that the lane may be storing
 pub record IsWhole (v : View) (image : List ℕ) (j : ℕ) : Type 0 where
   pub held : Recorded
-  pub lawful : IsRecordAt v.log j held ⊎ ((length v.log.records ≤ j) × CanRecord v held)
+  pub lawful : IsRecordAt v.log j held ⊎ ((length v.log.records ≤ j) × IsNextRecord v held)
   pub spells : undo_slot image v.fixed.lane j ≡ spelled v.fixed.shape v.log.generation held
 
 -- NO TORN RECORD: where a slot that is being written is valid in the image, it is whole

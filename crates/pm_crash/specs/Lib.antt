@@ -1,0 +1,10 @@
+pub mod Held
+pub mod Spelled
+pub mod Footprints
+pub mod Calls
+pub mod Replayed
+pub mod Described
+pub mod Images
+pub mod Freshness
+pub mod Laws
+pub mod Torn
