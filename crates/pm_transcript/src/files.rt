@@ -1,6 +1,7 @@
 //! Files in memory, which a transcript damages and compares.
 use crate::fault::Fault;
 use crate::header_sums::make_sums;
+use crate::pieces::{overwrite, piece};
 use pm_shelf::{FailingShelf, Shelf};
 use std::alloc::{AllocError, Global};
 use std::collections::BTreeMap;
@@ -55,10 +56,7 @@ impl Files {
     /// Makes the file's bytes from this place on these.
     pub fn put(&mut self, name: &str, at: usize, bytes: &[u8]) -> Result<(), Fault> {
         let file = self.files.get_mut(name).ok_or(Fault::Missing)?;
-        let rest = file.as_mut_slice().get_mut(at..).ok_or(Fault::End)?;
-        let part = rest.get_mut(..bytes.len()).ok_or(Fault::End)?;
-        part.copy_from_slice(bytes);
-        Ok(())
+        overwrite(file.as_mut_slice(), at, bytes).ok_or(Fault::End)
     }
 
     /// Keeps only the file's first bytes, so many.
@@ -79,8 +77,7 @@ impl Files {
 
     /// Bytes of the file, so many from this place on.
     pub fn part(&self, name: &str, at: usize, count: usize) -> Result<&[u8], Fault> {
-        let rest = self.get(name)?.get(at..).ok_or(Fault::End)?;
-        rest.get(..count).ok_or(Fault::End)
+        piece(self.get(name)?, at, count).ok_or(Fault::End)
     }
 
     /// The names of all files, in rising order, with a blank before each but the first.
@@ -95,34 +92,34 @@ impl Files {
         Ok(text)
     }
 
-    /// A shelf with those files whose names a command has among its words: it reads and writes no
-    /// other name. Of its calls the one after so many others fails, if there is a number.
+    /// A shelf with those files that a command may name: it reads and writes no other name. Of its
+    /// calls the one after so many others fails, if there is a number.
     pub fn shelf(
         &self,
-        words: &[String],
+        names: &[String],
         failing: Option<u64>,
     ) -> Result<FailingShelf, AllocError> {
         let mut plan = Vec::new(self.alloc);
         if let Some(call) = failing {
-            let written = words
+            let written = names
                 .iter()
-                .filter(|word| self.files.contains_key(word.as_str()));
+                .filter(|name| self.files.contains_key(name.as_str()));
             plan.push((written.count() as u64).saturating_add(call))?;
         }
         let mut shelf = FailingShelf::new(self.alloc, plan);
-        for word in words {
-            if let Some(bytes) = self.files.get(word.as_str()) {
-                // a word that stands there twice is written once
-                let _ = shelf.write(word.as_str(), bytes.as_slice());
+        for name in names {
+            if let Some(bytes) = self.files.get(name.as_str()) {
+                // a name that stands there twice is written once
+                let _ = shelf.write(name.as_str(), bytes.as_slice());
             }
         }
         Ok(shelf)
     }
 
     /// Takes over what a command has added to its shelf.
-    pub fn take_new(&mut self, words: &[String], shelf: &FailingShelf) -> Result<(), Fault> {
-        for word in words {
-            let name = word.as_str();
+    pub fn take_new(&mut self, names: &[String], shelf: &FailingShelf) -> Result<(), Fault> {
+        for name in names {
+            let name = name.as_str();
             if self.files.contains_key(name) {
                 continue;
             }

@@ -1,0 +1,3 @@
+pub mod HeaderSums
+pub mod Lines
+pub mod Pieces
