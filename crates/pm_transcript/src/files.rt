@@ -1,4 +1,7 @@
 //! Files in memory, which a transcript damages and compares.
+ghost use Rattle.std.specs.Prelude.{◌≡◌, ℕ, List, IfOk, None, OnOk, Some};
+ghost use Rattle.pm_transcript.specs.Pieces.{piece};
+
 use crate::fault::Fault;
 use crate::header_sums::make_sums;
 use crate::pieces::{overwrite, piece};
@@ -14,8 +17,12 @@ pub struct Files {
 }
 
 impl Files {
+    ghost use Rattle.pm_transcript.specs.Files.{HasSet, held_by};
+
     /// No file is there.
-    pub fn new(alloc: Global) -> Self {
+    pub fn new(alloc: Global) -> Self
+        ensures { (name : List ℕ) → held_by result name ≡ None }
+    {
         Files {
             alloc,
             files: BTreeMap::new(alloc),
@@ -23,7 +30,9 @@ impl Files {
     }
 
     /// The bytes of a file.
-    pub fn get(&self, name: &str) -> Result<&[u8], Fault> {
+    pub fn get(&self, name: &str) -> Result<&[u8], Fault>
+        ensures { IfOk result (λ bytes. held_by self.now name.now ≡ Some bytes.now) }
+    {
         match self.files.get(name) {
             Some(bytes) => Ok(bytes.as_slice()),
             None => Err(Fault::Missing),
@@ -31,7 +40,9 @@ impl Files {
     }
 
     /// Makes these the file's bytes, whether it is there or not.
-    pub fn set(&mut self, name: &str, bytes: Vec<u8>) -> Result<(), Fault> {
+    pub fn set(&mut self, name: &str, bytes: Vec<u8>) -> Result<(), Fault>
+        ensures { OnOk result (HasSet self.old self.new name.now (Some bytes.items)) }
+    {
         let name = String::from_str(self.alloc, name)?;
         match self.files.insert(name, bytes) {
             Ok(_) => Ok(()),
@@ -40,17 +51,21 @@ impl Files {
     }
 
     /// Makes the second file as the first.
-    pub fn copy(&mut self, from: &str, to: &str) -> Result<(), Fault> {
+    pub fn copy(&mut self, from: &str, to: &str) -> Result<(), Fault>
+        ensures { OnOk result (HasSet self.old self.new to.now (held_by self.old from.now)) }
+    {
         let bytes = self.get(from)?.to_vec(self.alloc)?;
         self.set(to, bytes)
     }
 
     /// Removes a file.
-    pub fn remove(&mut self, name: &str) -> Result<(), Fault> {
-        match self.files.remove(name) {
-            Some(_) => Ok(()),
-            None => Err(Fault::Missing),
+    pub fn remove(&mut self, name: &str) -> Result<(), Fault>
+        ensures { OnOk result (HasSet self.old self.new name.now None) }
+    {
+        if self.files.remove(name).is_none() {
+            return Err(Fault::Missing);
         }
+        Ok(())
     }
 
     /// Makes the file's bytes from this place on these.
@@ -76,7 +91,10 @@ impl Files {
     }
 
     /// Bytes of the file, so many from this place on.
-    pub fn part(&self, name: &str, at: usize, count: usize) -> Result<&[u8], Fault> {
+    pub fn part(&self, name: &str, at: usize, count: usize) -> Result<&[u8], Fault>
+        ensures { IfOk result (λ bytes. (file : List ℕ) × (held_by self.now name.now ≡ Some file)
+            × (bytes.now ≡ piece file at count)) }
+    {
         piece(self.get(name)?, at, count).ok_or(Fault::End)
     }
 

@@ -1,4 +1,7 @@
 //! A transcript line by line: what each line does, and what is printed of it.
+ghost use Rattle.std.specs.Prelude.{◌≡◌, IfOk};
+ghost use Rattle.pm_transcript.specs.Lines.{with_feed};
+
 use crate::directive::{Directive, directive_of, is_directive};
 use crate::fault::Fault;
 use crate::files::Files;
@@ -83,7 +86,9 @@ impl Session {
     }
 
     /// The line with its line feed.
-    fn copied(&self, line: &str) -> Result<Vec<u8>, AllocError> {
+    fn copied(&self, line: &str) -> Result<Vec<u8>, AllocError>
+        ensures { IfOk result (λ text. text.items ≡ with_feed line.now) }
+    {
         let mut text = Vec::new(self.alloc);
         push_line(line, &mut text)?;
         Ok(text)
