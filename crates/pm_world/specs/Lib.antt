@@ -21,3 +21,5 @@ pub mod Solo
 pub mod SoloWorld
 pub mod OwnedBits
 pub mod LaneFields
+pub mod Causes
+pub mod CauseLaws
