@@ -83,6 +83,9 @@ pub mod Histories
 pub mod BlockLines
 pub mod WrongSteps
 pub mod RunsKept
+pub mod SoloMoves
+pub mod SoloWorlds
+pub mod OwnedWords
 pub mod ClaimCounts
 pub mod ZonesFilled
 pub mod LockHolders
