@@ -84,3 +84,13 @@ pub mod Histories
 pub mod BlockLines
 pub mod WrongSteps
 pub mod RunsKept
+pub mod SoloMoves
+pub mod SoloWorlds
+pub mod OwnedWords
+pub mod ClaimCounts
+pub mod ZonesFilled
+pub mod LockHolders
+pub mod OverlappingCalls
+pub mod Missed
+pub mod CausesKept
+pub mod OccupancyShown

@@ -6,10 +6,11 @@ use Rattle.pm_layout.specs.Chunks.{chunks_of, word_of_chunk}
 use Rattle.pm_image.specs.Logs.{undo_slot, generation_word, recovered, seal_word}
 use Rattle.pm_image.specs.Steps.{valid_record}
 use Rattle.pm_view.specs.declared.change.Change.{Change}
-use Rattle.pm_view.specs.Changes.{Undrained, IsUndrained, IsFormed, taken_back}
+use Rattle.pm_view.specs.Changes.{Undrained, IsUndrained, IsFormed}
 use Rattle.pm_view.specs.Log.{Phase, Sealing, Retiring, Recorded}
 use Rattle.pm_view.specs.Places.{Place, is_place, place_after}
 use Rattle.pm_view.specs.View.{View}
+use Rattle.pm_memory.specs.Survivors.{all_taken_back}
 use Rattle.pm_world.specs.States.{State, live, replay}
 use Rattle.pm_world.specs.Sights.{is_slot_drained}
 use Rattle.pm_world.specs.Logs.{IsRecordAt, spelled, used_slots}
@@ -26,11 +27,6 @@ pub record IsUndrainedOf (views : Views) (lanes w : ℕ) (c : Change) : Type 0 w
   pub seen : Undrained
   pub there : Contains (views lane).changes seen
   pub is : IsUndrained c seen
-
--- the word with these changes taken back, the latest first
-abbrev pub all_taken_back : List Change → ℕ → ℕ
-all_taken_back [] x = x
-all_taken_back (c ∷ changes) x = taken_back c (all_taken_back changes x)
 
 -- x is left of a word: of its undrained changes some were taken back, in any order
 pub record IsLeft (mem : Memory) (views : Views) (lanes w x : ℕ) : Type 0 where

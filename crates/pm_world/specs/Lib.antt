@@ -15,3 +15,10 @@ pub mod BlockLines
 pub mod WrongSteps
 pub mod Reports
 pub mod Runs
+pub mod Lent
+pub mod Solo
+pub mod SoloWorld
+pub mod OwnedBits
+pub mod LaneFields
+pub mod Causes
+pub mod CauseLaws
