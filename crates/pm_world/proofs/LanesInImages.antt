@@ -288,10 +288,6 @@ module _ (o : Opening) (mem : Memory) (views : Views) (g : Past) (x : World o me
   at_work : (ph : Phase) → (views k).log.phase ≡ ph → (ph ≡ Idle → ⊥) → k < o.lanes
   at_work ph e n = ⊎_elim (λ (l : k < o.lanes). l) (λ (out : o.lanes ≤ k). absurd (n (sym e ∙ (x.idle_beyond k out).1))) (cases_lt k o.lanes)
 
-  not_idle : Phase → Bool
-  not_idle Idle = false
-  not_idle ph = true
-
   sealed_now : HasSealed (views k).log.phase → HasSettled (views k).log.phase → seal_word image k ≡ length (views k).log.entries → Sealed
   sealed_now s d full = record { bare = bare_next d (generation_read s full); all_sealed = entries_read s full; whole = whole s full; full = full; read = pair_read s full }
 

@@ -1,3 +1,4 @@
+pub mod Basics
 pub mod Geometry
 pub mod Frame
 pub mod Replays

@@ -21,31 +21,15 @@ use Rattle.pm_world.specs.Logs.{slot_list, PhaseFits}
 use Rattle.pm_world.specs.Memory.{Location, PoolWord, ZoneLock, CommitCounter, StopWord, Memory, Becomes, occ_at, cells_of}
 use Rattle.pm_world.specs.World.{Opening, Views, Past, origin, ghost_of, settled_words, is_at_page, may_draw, may_draw_count, World}
 use Rattle.pm_world.specs.Laws.{Turn}
+use Rattle.pm_world.proofs.Basics.{early_undecided, early_cases}
 use Rattle.pm_world.proofs.Cells.{sort, occ_sort}
 use Rattle.pm_world.proofs.Counting.{count_same}
 use Rattle.pm_world.proofs.Frame.{Around, here_own}
 use Rattle.pm_world.proofs.Worlds.{world_after, stops_stay}
 
-pub early_undecided : (ph : Phase) → is_early ph ≡ true → (is_decided ph ≡ false) × (in_flight ph ≡ false)
-early_undecided Idle e = (refl, refl)
-early_undecided Open e = (refl, refl)
-early_undecided (Drawn n) e = absurd (both_ways false refl e)
-early_undecided (Sealing n) e = absurd (both_ways false refl e)
-early_undecided (Applying todo) e = absurd (both_ways false refl e)
-early_undecided Clearing e = absurd (both_ways false refl e)
-early_undecided (Retiring n) e = absurd (both_ways false refl e)
-early_undecided Voiding e = absurd (both_ways false refl e)
-
 -- before its number is drawn the log says nothing of what the lane has a picture of
-early_phase : (sh : Shape) (lane : ℕ) (d d' : Diff) (l : Log) (changes : List Undrained) (ph : Phase) → is_early ph ≡ true → PhaseFits sh lane d l changes ph → PhaseFits sh lane d' l changes ph
-early_phase sh lane d d' l changes Idle e f = f
-early_phase sh lane d d' l changes Open e f = f
-early_phase sh lane d d' l changes (Drawn n) e f = f
-early_phase sh lane d d' l changes (Sealing n) e f = f
-early_phase sh lane d d' l changes (Applying todo) e f = f
-early_phase sh lane d d' l changes Clearing e f = f
-early_phase sh lane d d' l changes (Retiring n) e f = f
-early_phase sh lane d d' l changes Voiding e f = absurd (both_ways false refl e)
+pub early_phase : (sh : Shape) (lane : ℕ) (d d' : Diff) (l : Log) (changes : List Undrained) (ph : Phase) → is_early ph ≡ true → PhaseFits sh lane d l changes ph → PhaseFits sh lane d' l changes ph
+early_phase sh lane d d' l changes = early_cases (λ ph. PhaseFits sh lane d l changes ph → PhaseFits sh lane d' l changes ph) (λ f. f) (λ f. f)
 
 -- data of a block that is found under its write lock is the lane's to change
 pub data_owned : (h : Hold) (G : Geometry) (S : State) (p : Place) (c : ℕ) → is_data p ≡ true → h.here (block_of G p c) ≡ true → owns G S h p c ≡ true

@@ -1,4 +1,5 @@
 -- A world opens, where the geometry of its huge blocks and runs fits its words.
+use Rattle.pm_world.proofs.Basics.{and_false}
 use Rattle.std.specs.Prelude.{[], slice_index}
 use Rattle.std.proofs.Common.{◌≡◌, ℕ, zero, suc, ◌+◌, ◌*◌, ◌/◌, ◌^◌, ◌<◌, ◌≤◌, inl, ⊎_elim, nat_lt, Bool, true, false, cond, not, ◌==◌, ◌&&◌, ◌||◌, refl, sym, ap, ◌∙◌, subst, arith, ne_eqb, Option, None}
 use Rattle.std.proofs.lemmas.Bool.{both_ways, and_parts, or_right}
@@ -17,7 +18,6 @@ use Rattle.pm_world.specs.Logs.{slot_list}
 use Rattle.pm_world.specs.Memory.{Memory, PoolWord, LockWord, bit, run_told, bits_of, cells_of}
 use Rattle.pm_world.specs.Opens.{IsOpening, idle_views, descriptor}
 use Rattle.pm_world.specs.World.{Opening, Views, Past, origin, ghost_of, was_run, AreaFits, may_draw_count, World}
-use Rattle.pm_world.proofs.StepDrain.{and_false}
 
 -- the ghosts of a world that opens: no call, the runs that descriptors tell, each of its class, and nothing held; the first chunks of huge blocks are given
 abbrev pub opened : Opening → Views → (ℕ → ℕ) → Past

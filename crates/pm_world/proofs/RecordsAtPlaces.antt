@@ -25,6 +25,7 @@ use Rattle.pm_world.specs.Lawful.{MayChangeAt}
 use Rattle.pm_world.specs.Memory.{Memory, bit, cells_of}
 use Rattle.pm_world.specs.World.{Opening, Views, Past, RecordedFits, World, settled_words, ghost_of}
 use Rattle.pm_world.specs.Crash.{Survives, NoneTorn, IsNextRecord}
+use Rattle.pm_world.proofs.Basics.{some_cond}
 use Rattle.pm_world.proofs.BlocksKnown.{first_so}
 use Rattle.pm_world.proofs.Frame.{is_single, here_own, own_has, maker_owns, maker_no_run}
 use Rattle.pm_world.proofs.Crashes.{Restores}
@@ -159,10 +160,6 @@ data_pictured sh (InHuge c w) e i = (and_parts (nat_lt c (chunks_of sh)) (nat_lt
 data_pictured sh (Descr c) e i = absurd (both_ways false refl e)
 data_pictured sh RootWord e i = refl
 
-pub known_pictured : (t : Bool) (y : Option ℕ) (x : ℕ) → cond t y None ≡ Some x → y ≡ Some x
-known_pictured true y x e = e
-known_pictured false y x e = absurd (none-some x e)
-
 pub twin_single : (p : Place) → is_single (twin p) ≡ is_single p
 twin_single (InRun c w) = refl
 twin_single (InHuge c w) = refl
@@ -249,7 +246,7 @@ module _ (o : Opening) (mem : Memory) (views : Views) (g : Past) (x : World o me
       making : (q : Recorded) → length (views k).log.records ≡ j → IsNextRecord (views k) q → (word_of o.shape q.place ≤ w) × (w < word_of o.shape q.place + length q.old) → old_word u (8 * w) ≡ slice_index q.old (w - word_of o.shape q.place) → (s : Speaks w u) × Kind j s.place
       making q last can r old_is = let n : ℕ = w - word_of o.shape q.place in let low = r.0 in let high = r.1 in let inside : n < length q.old = omega arith in let each = can.each n inside in let p = place_after q.place n in
           let ch = after_chunk q.place n each.plain in let own_ : (b : ℕ) → owns g.geo (settled_words o g) (sight_of (views k)).hold p b ≡ true = λ b. changes_own p b each.plain each.own in
-          let pic : pictured (views k).fixed.shape (views k).claims (word_of (views k).fixed.shape p) ≡ Some (slice_index q.old n) = known_pictured (runs_one (views k) || is_held (views k).fixed.shape (views k).claims (word_of (views k).fixed.shape p))
+          let pic : pictured (views k).fixed.shape (views k).claims (word_of (views k).fixed.shape p) ≡ Some (slice_index q.old n) = some_cond (runs_one (views k) || is_held (views k).fixed.shape (views k).claims (word_of (views k).fixed.shape p))
           (pictured (views k).fixed.shape (views k).claims (word_of (views k).fixed.shape p)) (slice_index q.old n) each.present in
           let seen : (b : ℕ) → (sight_of (views k)).picture p b ≡ Some (bit (slice_index q.old n) b) = λ b. cond-true (is_pictured p) _ _ (data_pictured (views k).fixed.shape p each.plain each.place) ∙ ap (option_map (λ z. bit_at z b == 1)) pic in
           let lg = unrecorded (views k).fixed.shape (views k).fixed.lane (views k).changes (views k).log.records p each.new in (

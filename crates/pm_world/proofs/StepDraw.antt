@@ -24,6 +24,7 @@ use Rattle.pm_world.specs.World.{Opening, Views, Past, origin, ghost_of, settled
 use Rattle.pm_world.specs.Lawful.{HoldsRoot, KeepsRoot, NewBlock, FilledChange, HasDrained, MayDraw}
 use Rattle.pm_world.specs.Course.{is_idle, past_drawn}
 use Rattle.pm_world.specs.Laws.{Turn, Keeps}
+use Rattle.pm_world.proofs.Basics.{and_false, val_alike}
 use Rattle.pm_world.proofs.Births.{born}
 use Rattle.pm_world.proofs.Cells.{cells_counted}
 use Rattle.pm_world.proofs.Counting.{count_less}
@@ -39,15 +40,6 @@ drawn_cases : (rs : List Recorded) (es : List Entry) → ((rs ≡ []) × (es ≡
 drawn_cases [] [] = inl (refl, refl)
 drawn_cases [] (e ∷ es) = inr (λ n. refl)
 drawn_cases (r ∷ rs) es = inr (λ n. refl)
-
-and_false : (t : Bool) → (t && false) ≡ false
-and_false true = refl
-and_false false = refl
-
--- ---- entries of the root word
-val_alike : (w y : ℕ → Bool) (i n : ℕ) → ((b : ℕ) → b < i + n → w b ≡ y b) → val w i n ≡ val y i n
-val_alike w y i zero h = refl
-val_alike w y i (suc n) h = ap (λ t. cond t 1 0 + 2 * val w (suc i) n) (h i (omega arith)) ∙ ap (λ t. cond (y i) 1 0 + 2 * t) (val_alike w y (suc i) n (λ b l. h b (omega arith)))
 
 abbrev RootEntries : View → (ℕ → Option Bool) → Type 0
 RootEntries v d = ((b : ℕ) → d b ≡ None) ⊎ ((x : ℕ) × (x < 2 ^ 64) × HoldsRoot v x × ((b : ℕ) → b < 64 → d b ≡ Some (bit x b)))

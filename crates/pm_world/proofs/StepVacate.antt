@@ -13,7 +13,7 @@ use Rattle.pm_view.specs.Changes.{Undrained, is_dirty_bit}
 use Rattle.pm_view.specs.Places.{Place, InRun, InHuge, Descr, RootWord, Block, Small, Big, Root, part, block_of, in_span, is_data, same_place}
 use Rattle.pm_view.specs.Entries.{Entry, given_bit, delta, first_of_two, latest, with_redo, redos, turn}
 use Rattle.pm_view.specs.Parts.{chunk_place, place_in}
-use Rattle.pm_view.specs.Log.{Phase, Idle, Open, Drawn, Sealing, Applying, Clearing, Retiring, Voiding, is_early}
+use Rattle.pm_view.specs.Log.{Phase, is_early}
 use Rattle.pm_view.specs.Claims.{Released, class, first, geometry, block_in, passes, is_among, run_chunk}
 use Rattle.pm_view.specs.Steps.Step.{Vacate}
 use Rattle.pm_view.specs.Views.{after}
@@ -26,14 +26,14 @@ use Rattle.pm_world.specs.Course.{past_after}
 use Rattle.pm_world.specs.Memory.{Memory, RunWord, ZoneWord, occ_at, bit, occupancy_bit, cells_of}
 use Rattle.pm_world.specs.World.{Opening, Views, Past, origin, ghost_of, settled_words, LaneFits, World}
 use Rattle.pm_world.specs.Laws.{Turn, Keeps}
-use Rattle.pm_world.proofs.Births.{none_of}
+use Rattle.pm_world.proofs.Basics.{none_of, early_undecided, early_cases}
 use Rattle.pm_world.proofs.Cells.{cells_run, cells_zone}
 use Rattle.pm_world.proofs.Frame.{Around, mine_own, own_has}
 use Rattle.pm_world.proofs.PlacesAt.{same_place_true}
 use Rattle.pm_world.proofs.Replays.{put1_here, put1_else}
 use Rattle.pm_world.proofs.Worlds.{turned, own_unrecorded}
 use Rattle.pm_world.proofs.Vacates.{kept_owned, GivesBack, vacates}
-use Rattle.pm_world.proofs.OccWorlds.{early_undecided, occ_world}
+use Rattle.pm_world.proofs.OccWorlds.{occ_world}
 use Rattle.pm_world.proofs.WordPlaces.{chunk_part, run_chunk_is, page_apart}
 use Rattle.pm_world.proofs.StepOccupies.{part_of_data, at_page, occ_known}
 
@@ -49,14 +49,7 @@ none_entered (e ∷ es) p b a = go e.place refl (none_entered es p b (λ i d l. 
         (λ (t : same_place q p ≡ false). cond-false (same_place q p) (given_bit e.op e.value b) None t) (cases_Bool (same_place q p))
 
 early_soils : (ph : Phase) (p : Place) (m l : Bool) (en : Option Bool) → is_early ph ≡ true → soils ph p m l en ≡ true → open_soils p m l ≡ true
-early_soils Idle p m l en e t = t
-early_soils Open p m l en e t = t
-early_soils (Drawn n) p m l en e t = absurd (both_ways false refl e)
-early_soils (Sealing n) p m l en e t = absurd (both_ways false refl e)
-early_soils (Applying todo) p m l en e t = absurd (both_ways false refl e)
-early_soils Clearing p m l en e t = absurd (both_ways false refl e)
-early_soils (Retiring n) p m l en e t = absurd (both_ways false refl e)
-early_soils Voiding p m l en e t = absurd (both_ways false refl e)
+early_soils ph p m l en e t = early_cases (λ h. soils h p m l en ≡ true → open_soils p m l ≡ true) (λ y. y) (λ y. y) ph e t
 
 -- bits are cleared
 cleared_bit : (a b j : ℕ) → b < 2 ^ 64 → j < 64 → bit (bit_and a (bit_not w64 b)) j ≡ (not (bit b j) && bit a j)

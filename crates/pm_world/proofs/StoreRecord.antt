@@ -24,8 +24,9 @@ use Rattle.pm_world.specs.Logs.{IsRecordAt, spelled, slot_list, used_slots, Area
 use Rattle.pm_world.specs.Laws.{Turn}
 use Rattle.pm_world.specs.Memory.{Memory, PoolWord, Becomes, bit, cells_of}
 use Rattle.pm_world.specs.World.{Opening, Views, Past, origin, ghost_of, settled_words, World}
+use Rattle.pm_world.proofs.Basics.{some_cond}
 use Rattle.pm_world.proofs.BlocksKnown.{first_so}
-use Rattle.pm_world.proofs.RecordsAtPlaces.{data_pictured, known_pictured}
+use Rattle.pm_world.proofs.RecordsAtPlaces.{data_pictured}
 use Rattle.pm_world.proofs.Frame.{here_own, own_has}
 use Rattle.pm_world.proofs.AfterStore.{after_store, keeps_at}
 use Rattle.pm_world.proofs.Entering.{logged_recorded}
@@ -283,7 +284,7 @@ module _ (w n : ℕ) (o : Opening) (mem new : Memory) (views views' : Views) (g 
     fits_of p y q = (q.word.plain, λ b. (found_here p q b, seen b))
       where
         pic : pictured (views k).fixed.shape (views k).claims (word_of (views k).fixed.shape p) ≡ Some y
-        pic = known_pictured (Rattle.pm_view.specs.View.runs_one (views k) || Rattle.pm_view.specs.Claims.is_held (views k).fixed.shape (views k).claims (word_of (views k).fixed.shape p)) (pictured (views k).fixed.shape (views k).claims (word_of (views k).fixed.shape p)) y q.word.present
+        pic = some_cond (Rattle.pm_view.specs.View.runs_one (views k) || Rattle.pm_view.specs.Claims.is_held (views k).fixed.shape (views k).claims (word_of (views k).fixed.shape p)) (pictured (views k).fixed.shape (views k).claims (word_of (views k).fixed.shape p)) y q.word.present
 
         seen : (b : ℕ) → given ((sight_of (views k)).picture p b) ≡ true
         seen b = ap given (cond-true (is_pictured p) _ _ (data_pictured (views k).fixed.shape p q.word.plain q.word.place) ∙ ap (Rattle.std.specs.Option.option_map (λ z. Rattle.std.specs.Int.bit_at z b == 1)) pic)
@@ -300,7 +301,7 @@ module _ (w n : ℕ) (o : Opening) (mem new : Memory) (views views' : Views) (g 
         found_here RootWord q b = absurd (both_ways false refl q.word.plain)
 
     next_recorded : (p : Place) → is_recorded ((views k).log.records ++ a.next ∷ []) p ≡ true → Rattle.pm_world.specs.World.RecordedFits g.geo (sight_of (views k)) p
-    next_recorded p q = let y = Rattle.pm_world.proofs.StepDrain.old_some (old_of ((views k).log.records ++ a.next ∷ []) p) q in
+    next_recorded p q = let y = Rattle.pm_world.proofs.Basics.some_of (old_of ((views k).log.records ++ a.next ∷ []) p) q in
         ⊎_elim (λ (t : old_of (views k).log.records p ≡ Some y.0). (x.each_lane k ink).recorded (ap Rattle.pm_world.specs.Lanes.is_decided open_) p (ap given t))
         (λ (t : old_in a.next p ≡ Some y.0). fits_of p y.0 (subst (CanRecordAt (views k) p) (old_in_is a.next p y.0 t) (of_word p (ap given t)))) (old_cases (views k).log.records a.next p y.0 y.1)
 

@@ -26,6 +26,8 @@ use Rattle.pm_world.specs.Logs.{slot_list, AreaChange, LogFits}
 use Rattle.pm_world.specs.Laws.{Turn}
 use Rattle.pm_world.specs.Memory.{Memory, PoolWord, LockWord, RunWord, ZoneWord, ZoneLock, CommitCounter, StopWord, Becomes, bit, huge_told, run_told, bits_of, descriptor_told, cells_by, cells_of}
 use Rattle.pm_world.specs.World.{Opening, Views, Past, origin, ghost_of, settled_words, World}
+use Rattle.pm_world.proofs.RecordsAtPlaces.{data_pictured}
+use Rattle.pm_world.proofs.Basics.{twin_twin}
 use Rattle.pm_world.proofs.SlotWords.{slot_range}
 use Rattle.pm_world.proofs.AfterStore.{after_store, store_world, keeps_at}
 use Rattle.pm_world.proofs.Cells.{cells_stored, bits_else, descriptor_else}
@@ -42,13 +44,6 @@ use Rattle.pm_world.specs.Laws.{KeepsAt}
 use Rattle.pm_world.proofs.Worlds.{own_unrecorded}
 use Rattle.pm_world.proofs.WordsApart.{one_cell}
 use Rattle.pm_world.proofs.Writing.{Writes, written_fits}
-
--- ---- places that are one word
-twin_twin : (p : Place) → twin (twin p) ≡ p
-twin_twin (InRun c w) = refl
-twin_twin (InHuge c w) = refl
-twin_twin (Descr c) = refl
-twin_twin RootWord = refl
 
 abbrev is_chunk : Place → Bool
 is_chunk (InRun c w) = true
@@ -107,12 +102,6 @@ other_unused h (InRun c u) d e t = e (eqb-true (h.class c) 0 (and_parts (nat_lt 
 other_unused h (InHuge c u) d e t = both_ways false refl (sym (ap not (eq-eqb (h.class c) 0 e)) ∙ (and_parts (nat_lt u 512) (not (h.class c == 0)) t).1)
 other_unused h (Descr c) d e t = both_ways false refl d
 other_unused h RootWord d e t = both_ways false refl d
-
-data_pictured : (sh : Shape) (p : Place) → is_data p ≡ true → is_place sh p ≡ true → is_pictured p ≡ true
-data_pictured sh (InRun c u) d t = and_from (nat_le 8 u) (nat_lt u 512) d (and_parts (nat_lt c (chunks_of sh)) (nat_lt u 512) t).1
-data_pictured sh (InHuge c u) d t = (and_parts (nat_lt c (chunks_of sh)) (nat_lt u 512) t).1
-data_pictured sh (Descr c) d t = absurd (both_ways false refl d)
-data_pictured sh RootWord d t = refl
 
 soil_from : (p : Place) (mi lg : Bool) → is_data p ≡ true → (mi || lg) ≡ true → open_soils p mi lg ≡ true
 soil_from (InRun c u) mi lg d t = and_from (nat_le 8 u) (mi || lg) d t

@@ -10,7 +10,6 @@ pub mod Course
 pub mod Crash
 pub mod Laws
 pub mod Histories
-pub mod Decisions
 pub mod Opens
 pub mod BlockLines
 pub mod WrongSteps
