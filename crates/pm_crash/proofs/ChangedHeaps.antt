@@ -30,7 +30,7 @@ option_cases None = inl refl
 option_cases (Some true) = inr (inl refl)
 option_cases (Some false) = inr (inr refl)
 
-next_times : (m i : ℕ) → m * suc i ≡ m * i + m
+pub next_times : (m i : ℕ) → m * suc i ≡ m * i + m
 next_times m i = mul_comm m (suc i) ∙ (let e : suc i * m ≡ i * m + m = omega arith in e ∙ ap (λ n. n + m) (mul_comm i m))
 
 module _ (sh : Shape) (class : ℕ → ℕ) (s : State) (d : Diff) (h : ChangesHeap sh class s d) where
@@ -46,14 +46,14 @@ module _ (sh : Shape) (class : ℕ → ℕ) (s : State) (d : Diff) (h : ChangesH
     -- ---- NO BLOCK IS MADE WHERE A HUGE ONE IS
     huge_alone : (f c : ℕ) (B : Block) (line : ℕ) → is_allocated sh s (Big f) ≡ true → f ≤ c → c < f + val (s (Descr f)) 8 56 → Makes d B
         → AllocatedHas sh (after_diff d s) (record { first = λ c. c; class = class }) B line → line_of_chunk sh c ≤ line → line < line_of_chunk sh c + 64 → ⊥
-    huge_alone f c B line a from to m has low high = h.apart B (Big f) line m has a (record {
+    huge_alone f c B line a from to m has low high = h.blocks.apart B (Big f) line m has a (record {
       allocated = (and_parts (not (has_blocks s f)) (s (Descr f) 1) (and_parts (nat_lt f (chunks_of sh)) (not (has_blocks s f) && s (Descr f) 1) a).1).1;
       has = (c, and_from (nat_le f c) (nat_lt c (f + val (s (Descr f)) 8 56)) (le-leb f c from) (lt-ltb c (f + val (s (Descr f)) 8 56) to), record { from = low; to = high });
     })
 
     small_alone : (f c i : ℕ) → is_allocated sh s (Big f) ≡ true → f ≤ c → c < f + val (s (Descr f)) 8 56 → Makes d (Small c i) → ⊥
     small_alone f c i a from to m =
-        let inside = h.of_run c i m in
+        let inside = h.blocks.of_run c i m in
         let some = run_has_lines (class c) i inside in
         let fit = run_fits (class c) i inside in
         let next = next_times (class c) i in
@@ -63,7 +63,7 @@ module _ (sh : Shape) (class : ℕ → ℕ) (s : State) (d : Diff) (h : ChangesH
 
     big_alone : (f c : ℕ) → is_allocated sh s (Big f) ≡ true → f ≤ c → c < f + val (s (Descr f)) 8 56 → Makes d (Big c) → ⊥
     big_alone f c a from to m =
-        let some = (h.of_chunks c m).1.some in
+        let some = (h.blocks.of_chunks c m).1.some in
         huge_alone f c (Big c) (line_of_chunk sh c) a from to m
         (record {
           allocated = ap (λ o. over o (s (Descr c) 1)) m;
@@ -87,7 +87,7 @@ module _ (sh : Shape) (class : ℕ → ℕ) (s : State) (d : Diff) (h : ChangesH
         ⊎_elim
         (λ (z : given (d (InRun f 0) y.0) ≡ false). both_ways (has_blocks s' f) e (with_block s' f y.0 y.1 (over_none (d (InRun f 0) y.0) (s (InRun f 0) y.0) z ∙ y.2)))
         (λ z. ⊎_elim (λ (m : d (InRun f 0) y.0 ≡ Some true). both_ways (has_blocks s' f) e (with_block s' f y.0 y.1 (ap (λ o. over o (s (InRun f 0) y.0)) m)))
-        (λ (m : d (InRun f 0) y.0 ≡ Some false). both_ways (s (Descr f) 1) (h.plain f y.0 m) t) z)
+        (λ (m : d (InRun f 0) y.0 ≡ Some false). both_ways (s (Descr f) 1) (h.blocks.plain f y.0 m) t) z)
         (option_cases (d (InRun f 0) y.0)))
 
     was_huge : (f : ℕ) → f < chunks_of sh → has_blocks s f ≡ false → s (Descr f) 1 ≡ true → is_allocated sh s (Big f) ≡ true
@@ -102,7 +102,7 @@ module _ (sh : Shape) (class : ℕ → ℕ) (s : State) (d : Diff) (h : ChangesH
     runs : (c i : ℕ) → c < chunks_of sh → i < 64 → s' (InRun c 0) i ≡ true → i < blocks_of (class c)
     runs c i l m t = ⊎_elim
         (λ (q : given (d (InRun c 0) i) ≡ false). g.runs c i l m (sym (over_none (d (InRun c 0) i) (s (InRun c 0) i) q) ∙ t))
-        (λ q. ⊎_elim (λ (z : d (InRun c 0) i ≡ Some true). h.of_run c i z)
+        (λ q. ⊎_elim (λ (z : d (InRun c 0) i ≡ Some true). h.blocks.of_run c i z)
         (λ (z : d (InRun c 0) i ≡ Some false). absurd (both_ways false refl (sym (ap (λ o. over o (s (InRun c 0) i)) z) ∙ t))) q)
         (option_cases (d (InRun c 0) i))
 
@@ -128,7 +128,7 @@ module _ (sh : Shape) (class : ℕ → ℕ) (s : State) (d : Diff) (h : ChangesH
                 (option_cases (d (Descr c) 1))),
           );
         })
-        (λ q. ⊎_elim (λ (z : d (Descr f) 1 ≡ Some true). (h.of_chunks f z).1)
+        (λ q. ⊎_elim (λ (z : d (Descr f) 1 ≡ Some true). (h.blocks.of_chunks f z).1)
         (λ (z : d (Descr f) 1 ≡ Some false). absurd (both_ways false refl (sym (ap (λ o. over o (s (Descr f) 1)) z) ∙ t))) q)
         (option_cases (d (Descr f) 1))
 
@@ -147,7 +147,7 @@ module _ (sh : Shape) (class : ℕ → ℕ) (s : State) (d : Diff) (h : ChangesH
         (ap (λ t. nat_lt f (chunks_of sh) && (not (has_blocks s' f) && t)) same ∙ ap (λ t. nat_lt f (chunks_of sh) && t) (by_bit (s (Descr f) 1) refl)))
         (λ q. ⊎_elim
         (λ (z : d (Descr f) 1 ≡ Some true).
-        let e = (h.of_chunks f z).0 in
+        let e = (h.blocks.of_chunks f z).0 in
         let set : s' (Descr f) 1 ≡ true = ap (λ t. over t (s (Descr f) 1)) z in
         and_from (nat_lt f (chunks_of sh)) (not (has_blocks s' f) && s' (Descr f) 1) o (and_from (not (has_blocks s' f)) (s' (Descr f) 1) (not_from_false (has_blocks s' f) e) set)
         ∙ sym (ap (λ t. over t (is_allocated sh s (Big f))) z))

@@ -31,3 +31,5 @@ pub mod Told
 pub mod Written
 pub mod Edited
 pub mod Effects
+pub mod OwnBlocks
+pub mod SceneSteps

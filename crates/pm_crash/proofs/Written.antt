@@ -36,7 +36,7 @@ use Rattle.pm_crash.proofs.ObjectBytes.{aligned_range, byte_of_object}
 use Rattle.pm_crash.proofs.Told.{items_told}
 
 -- a block begins a word
-begins_word : (sh : Shape) (class : ℕ → ℕ) (s : State) (B : Block) → (lines_of sh class s B).place % 8 ≡ 0
+pub begins_word : (sh : Shape) (class : ℕ → ℕ) (s : State) (B : Block) → (lines_of sh class s B).place % 8 ≡ 0
 begins_word sh class s (Small c i) = let before : ℕ = class c * i in omega arith
 begins_word sh class s (Big f) = omega arith
 begins_word sh class s Root = refl
@@ -48,7 +48,7 @@ reads_find sh class s B at len inside = aligned_range (words_by sh class s) at l
 
 module _ (w v : ℕ → ℕ) (block : Lines) (at : ℕ) (bytes : List ℕ) (begins : block.place % 8 ≡ 0)
     (inside : at + length bytes ≤ size_in w block) (are : AreBytes bytes) (write : IsWritten w v (offset_in block + at) bytes) where
-  header_kept : (k : ℕ) → k < 8 → header_word v block k ≡ header_word w block k
+  pub header_kept : (k : ℕ) → k < 8 → header_word v block k ≡ header_word w block k
   header_kept k low = write.others (block.place / 8 + k) (λ there.
       let has = covered_has_byte (offset_in block + at) (length bytes) (block.place / 8 + k) there in
       let above = has.2 in omega arith)

@@ -28,16 +28,12 @@ Makes d B = turn d B ≡ Some true
 abbrev pub Frees : Diff → Block → Type 0
 Frees d B = turn d B ≡ Some false
 
--- WHAT IS ASKED OF A DIFFERENCE, from bits that hold a pool
-pub record ChangesHeap (sh : Shape) (class : ℕ → ℕ) (s : State) (d : Diff) : Type 0 where
-  -- a block that is made is one of a run's, or chunks that nothing else is; its object has its size
+-- WHAT IS ASKED OF THE BLOCKS of a difference, from bits that hold a pool
+pub record ChangesBlocks (sh : Shape) (class : ℕ → ℕ) (s : State) (d : Diff) : Type 0 where
+  -- a block that is made is one of a run's, or chunks that nothing else is
   pub of_run : (c i : ℕ) → Makes d (Small c i) → i < blocks_of (class c)
   pub of_chunks : (f : ℕ) → Makes d (Big f)
       → (has_blocks (after_diff d s) f ≡ false) × IsWhole (after_diff d s) f
-  pub sized : (B : Block) → Makes d B → is_occupancy sh B ≡ true
-      → (good_block (words_by sh class (after_diff d s)) (lines_of sh class (after_diff d s) B) ≡ true)
-      × (takes_links (words_by sh class (after_diff d s)) (lines_of sh class (after_diff d s) B)
-      ≡ true)
   -- and no line of it is an allocated block's
   pub apart : (B C : Block) (line : ℕ) → Makes d B
       → AllocatedHas sh (after_diff d s) (record { first = λ c. c; class = class }) B line
@@ -45,6 +41,15 @@ pub record ChangesHeap (sh : Shape) (class : ℕ → ℕ) (s : State) (d : Diff)
       → AllocatedHas sh s (record { first = λ c. c; class = class }) C line → ⊥
   -- a run of which a block is freed is no huge block besides
   pub plain : (c i : ℕ) → Frees d (Small c i) → s (Descr c) 1 ≡ false
+
+-- AND OF ITS WORDS
+pub record ChangesHeap (sh : Shape) (class : ℕ → ℕ) (s : State) (d : Diff) : Type 0 where
+  pub blocks : ChangesBlocks sh class s d
+  -- the object of a block that is made has its size
+  pub sized : (B : Block) → Makes d B → is_occupancy sh B ≡ true
+      → (good_block (words_by sh class (after_diff d s)) (lines_of sh class (after_diff d s) B) ≡ true)
+      × (takes_links (words_by sh class (after_diff d s)) (lines_of sh class (after_diff d s) B)
+      ≡ true)
   -- a descriptor changes with its block alone
   pub descriptors : (f b : ℕ) → given (turn d (Big f)) ≡ false → given (d (Descr f) b) ≡ false
   -- blocks that stay keep their headers

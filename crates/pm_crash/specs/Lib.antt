@@ -13,3 +13,5 @@ pub mod HeapChanges
 pub mod Writes
 pub mod Edits
 pub mod Facts
+pub mod OwnBlocks
+pub mod Scenes

@@ -1,3 +1,4 @@
+ghost use Rattle.pm_crash.specs.OwnBlocks.{OwnBlocksAreFree};
 ghost use Rattle.pm_crash.specs.Objects.{BlocksHaveItems, ItemsHaveBlocks, OffsetsTellBlocks, RootIsTold};
 ghost use Rattle.pm_crash.specs.HeapChanges.{BlocksChange, BlocksStay, ChangedHeapsHold};
 ghost use Rattle.pm_crash.specs.Objects.{GoodHeapsHold, HeldHeapsAreGood};
@@ -26,4 +27,11 @@ pub fn a_difference_changes_the_heap()
     ensures holds { ChangedHeapsHold }
     ensures blocks { BlocksChange }
     ensures places { BlocksStay }
+{}
+
+/// A law: from all bits that may precede a lane's call and that hold a pool, a difference that makes
+/// blocks of the lane's own and frees blocks that it found changes blocks as a heap's may: what is
+/// the lane's own is free, whatever other lanes did. No code runs.
+pub fn own_blocks_are_free()
+    ensures { OwnBlocksAreFree }
 {}
