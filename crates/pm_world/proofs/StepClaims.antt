@@ -23,7 +23,7 @@ use Rattle.pm_world.proofs.Basics.{early_undecided}
 use Rattle.pm_world.proofs.Cells.{other_sort, occ_sort}
 use Rattle.pm_world.proofs.Counting.{count_same}
 use Rattle.pm_world.proofs.Frame.{Around}
-use Rattle.pm_world.proofs.Worlds.{world_after}
+use Rattle.pm_world.proofs.Worlds.{world_after, log_again, log_moved}
 
 -- A LANE'S FACTS beside its sight, where the words of the pool stay, and of its view its claims and what it saw of zones and occupancy words may change
 pub lane_again : (o : Opening) (mem new : Memory) (g : Past) (k : ℕ) (v : View) → LaneFits o mem g k v → ((w : ℕ) → new (PoolWord w) ≡ mem (PoolWord w)) → (claims' : List Claim) (seen' : List Step) (zones' : List ℕ) (occupancy' : List Seen)
@@ -37,26 +37,10 @@ lane_again o mem new g k v f pools claims' seen' zones' occupancy' phase owned m
   lane = f.lane;
   shape = f.shape;
   lanes = f.lanes;
-  log = record {
-    first = q.first;
-    last = q.last;
-    below = q.below;
-    stored = pools (word_of_generation o.shape k) ∙ q.stored;
-    bump = q.bump;
-    sealed = pools (word_of_seal o.shape k) ∙ q.sealed;
-    entries_most = q.entries_most;
-    records_most = q.records_most;
-    pairs = λ i y e. let z = q.pairs i y e in (pools (word_of_entry o.shape k i + 0) ∙ z.0, pools (word_of_entry o.shape k i + 1) ∙ z.1, z.2, z.3);
-    pair_part = λ i e. pools (word_of_entry o.shape k (length v.log.entries) + i) ∙ q.pair_part i e;
-    records = λ j r e. let z = q.records j r e in (λ i a. pools (8 * line_of_slot o.shape k j + i) ∙ z.0 i a, z.1, z.2, z.3, z.4, z.5);
-    once = q.once;
-    olds = λ p y e b. let z = q.olds p y e b in (owned p b (ap given e) z.0, z.1);
-    slot_part = λ i e. pools (8 * line_of_slot o.shape k (length v.log.records) + i) ∙ q.slot_part i e;
-    stale = λ j u e a z. q.stale j u e a (sym (ap (λ s. undo_of (slot_list s)) (λ i n. pools (8 * line_of_slot o.shape k j + n) i)) ∙ z);
-    slot_changes = q.slot_changes;
-    area_changes = q.area_changes;
-    phase = phase;
-  };
+  log = log_again v.log.phase (log_moved o.shape k (λ u. mem (PoolWord u)) (λ u. new (PoolWord u)) pools q) f.log.bump (((log_moved o.shape k (λ u. mem (PoolWord u)) (λ u. new (PoolWord u)) pools q)).sealed) (λ p y e b. let z = q.olds p y e b in (owned p b (ap given e) z.0, z.1))
+      q.slot_changes
+      q.area_changes
+      phase;
   made = made;
   recorded = recorded;
   number = f.number;

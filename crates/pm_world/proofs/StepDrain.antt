@@ -35,7 +35,7 @@ use Rattle.pm_world.proofs.Frame.{Around, mine_own, own_has}
 use Rattle.pm_world.proofs.Going.{at_phase, unchanged}
 use Rattle.pm_world.proofs.StepPlain.{plain_step}
 use Rattle.pm_world.proofs.Stores.{drops, Drops, goes_on_to, GoesOnAt}
-use Rattle.pm_world.proofs.Worlds.{turned, world_after, stops_stay}
+use Rattle.pm_world.proofs.Worlds.{turned, world_after, stops_stay, log_again}
 
 -- ---- numbers
 pub high_bit : (x b : ℕ) → x < 2 ^ 64 → 64 ≤ b → bit x b ≡ false
@@ -87,26 +87,10 @@ module _ (sh : Shape) (lane generation seal : ℕ) (entry slot : ℕ → ℕ →
 
   -- its entries are to be applied
   pub sealed_log : (n : ℕ) → l.phase ≡ Sealing n → ((p : Place) (b : ℕ) → owned p b ≡ true → owned' p b ≡ true) → LogFits sh lane generation seal entry slot S' owned' picture (record l { phase = Applying l.entries }) changes
-  sealed_log n e to = let bump : l.bumped ≡ false = subst (λ ph. BumpFits ph l.bumped) e f.bump in let phase = subst (λ ph. PhaseFits sh lane picture l changes ph) e f.phase in record {
-    first = f.first;
-    last = f.last;
-    below = f.below;
-    stored = f.stored;
-    bump = tt;
-    sealed = f.sealed ∙ ap (λ ph. seal_in ph (length l.entries)) e;
-    entries_most = f.entries_most;
-    records_most = f.records_most;
-    pairs = f.pairs;
-    pair_part = f.pair_part;
-    records = f.records;
-    once = f.once;
-    olds = λ p y q b. (to p b (f.olds p y q b).0, λ u. absurd (both_ways true u refl));
-    slot_part = f.slot_part;
-    stale = f.stale;
-    slot_changes = λ i d q. let z = ap length clean in absurd (omega arith);
-    area_changes = λ i d q. let z = ap length clean in absurd (omega arith);
-    phase = (whole phase.0, record { done = []; are = refl; ends = λ b. absurd (both_ways l.bumped bump b); to_end = λ _. last_of phase.0 }, phase.1, phase.2);
-  }
+  sealed_log n e to = let bump : l.bumped ≡ false = subst (λ ph. BumpFits ph l.bumped) e f.bump in let phase = subst (λ ph. PhaseFits sh lane picture l changes ph) e f.phase in log_again (Applying l.entries) f tt (f.sealed ∙ ap (λ ph. seal_in ph (length l.entries)) e) (λ p y q b. (to p b (f.olds p y q b).0, λ u. absurd (both_ways true u refl)))
+      (λ i d q. let z = ap length clean in absurd (omega arith))
+      (λ i d q. let z = ap length clean in absurd (omega arith))
+      ((whole phase.0, record { done = []; are = refl; ends = λ b. absurd (both_ways l.bumped bump b); to_end = λ _. last_of phase.0 }, phase.1, phase.2))
     where
       whole : AreWhole sh lane l → AreWhole sh lane (record l { phase = Applying l.entries })
       whole w = record { front = w.front; are = w.are; placed = w.placed }

@@ -28,7 +28,7 @@ use Rattle.pm_world.proofs.Basics.{and_false}
 use Rattle.pm_world.proofs.Counting.{count_same}
 use Rattle.pm_world.proofs.Frame.{Around, maker_no_run}
 use Rattle.pm_world.proofs.Going.{Turned}
-use Rattle.pm_world.proofs.Worlds.{turned, world_after, stops_stay}
+use Rattle.pm_world.proofs.Worlds.{turned, world_after, stops_stay, log_again}
 use Rattle.pm_world.proofs.OccWorlds.{data_owned}
 use Rattle.pm_world.proofs.Runs.{mine_made, with_runs, holder_with_runs, ghost_with_runs, dropped, Drains, makes_runs}
 use Rattle.pm_world.proofs.Stores.{drops}
@@ -169,26 +169,10 @@ module _ (o : Opening) (mem : Memory) (views views' : Views) (g : Past) (x : Wor
         lane = fl.lane;
         shape = fl.shape;
         lanes = fl.lanes;
-        log = record {
-          first = l.first;
-          last = l.last;
-          below = l.below;
-          stored = l.stored;
-          bump = l.bump;
-          sealed = l.sealed;
-          entries_most = l.entries_most;
-          records_most = l.records_most;
-          pairs = l.pairs;
-          pair_part = l.pair_part;
-          records = l.records;
-          once = l.once;
-          olds = λ p m q b. let y = l.olds p m q b in let z = kept_of p b (ap given q) y.0 in (subst (λ w. owns g.geo S w.hold p b ≡ true) (sym sight_is) (dropped o.shape o.lanes (origin o) cells sights (ghost_of g) x.bits k ink dirty p b z.0 z.1), y.1);
-          slot_part = l.slot_part;
-          stale = l.stale;
-          slot_changes = All-filter (λ (c : Undrained). not c.flushed) (λ (c : Undrained). Rattle.pm_view.specs.Parts.part_of o.shape k c.word ≡ Rattle.pm_view.specs.Parts.SlotPart → c.word < 8 * Rattle.pm_layout.specs.Areas.line_of_slot o.shape k (Rattle.pm_world.specs.Logs.used_slots (views k).log)) (views k).changes l.slot_changes;
-          area_changes = All-filter (λ (c : Undrained). not c.flushed) (λ (c : Undrained). Rattle.pm_world.specs.Logs.AreaChange (views k).log.phase (length (views k).log.entries) (views k).log.generation (Rattle.pm_view.specs.Parts.part_of o.shape k c.word) c) (views k).changes l.area_changes;
-          phase = drained_phase o.shape k (sights k).picture (views k).log (views k).changes (views k).log.phase l.phase;
-        };
+        log = log_again ((views k).log.phase) l l.bump l.sealed (λ p m q b. let y = l.olds p m q b in let z = kept_of p b (ap given q) y.0 in (subst (λ w. owns g.geo S w.hold p b ≡ true) (sym sight_is) (dropped o.shape o.lanes (origin o) cells sights (ghost_of g) x.bits k ink dirty p b z.0 z.1), y.1))
+            (All-filter (λ (c : Undrained). not c.flushed) (λ (c : Undrained). Rattle.pm_view.specs.Parts.part_of o.shape k c.word ≡ Rattle.pm_view.specs.Parts.SlotPart → c.word < 8 * Rattle.pm_layout.specs.Areas.line_of_slot o.shape k (Rattle.pm_world.specs.Logs.used_slots (views k).log)) (views k).changes l.slot_changes)
+            (All-filter (λ (c : Undrained). not c.flushed) (λ (c : Undrained). Rattle.pm_world.specs.Logs.AreaChange (views k).log.phase (length (views k).log.entries) (views k).log.generation (Rattle.pm_view.specs.Parts.part_of o.shape k c.word) c) (views k).changes l.area_changes)
+            (drained_phase o.shape k (sights k).picture (views k).log (views k).changes (views k).log.phase l.phase);
         made = λ u c. ap (λ m. dirty c && m) (fl.made u c) ∙ and_false (dirty c);
         recorded = fl.recorded;
         number = fl.number;

@@ -22,6 +22,7 @@ use Rattle.pm_world.specs.Logs.{used_slots, AreaChange, PhaseFits}
 use Rattle.pm_world.specs.Memory.{Memory}
 use Rattle.pm_world.specs.World.{Opening, Past, LaneFits}
 use Rattle.pm_world.specs.Laws.{Keeps}
+use Rattle.pm_world.proofs.Worlds.{log_again}
 use Rattle.pm_world.proofs.AfterStore.{stop_stays, counts_on}
 use Rattle.pm_world.proofs.StepDraw.{all_cons}
 use Rattle.pm_world.proofs.StepPlain.{plain_step}
@@ -71,27 +72,11 @@ lane_marked o mem g k line v f due = let l = f.log in record {
   lane = f.lane;
   shape = f.shape;
   lanes = f.lanes;
-  log = record {
-    first = l.first;
-    last = l.last;
-    below = l.below;
-    stored = l.stored;
-    bump = l.bump;
-    sealed = l.sealed;
-    entries_most = l.entries_most;
-    records_most = l.records_most;
-    pairs = l.pairs;
-    pair_part = l.pair_part;
-    records = l.records;
-    once = l.once;
-    olds = l.olds;
-    slot_part = l.slot_part;
-    stale = l.stale;
-    slot_changes = all_marked line (λ (c : Undrained). part_of o.shape k c.word ≡ SlotPart → c.word < 8 * line_of_slot o.shape k (used_slots v.log)) (λ c q. q) v.changes l.slot_changes;
-    area_changes = all_marked line (λ (c : Undrained). AreaChange v.log.phase (length v.log.entries) v.log.generation (part_of o.shape k c.word) c)
-        (λ c q. q) v.changes l.area_changes;
-    phase = phase_marked o.shape k line (sight_of v).picture v.log v.changes v.log.phase l.phase;
-  };
+  log = log_again v.log.phase l l.bump l.sealed l.olds
+      (all_marked line (λ (c : Undrained). part_of o.shape k c.word ≡ SlotPart → c.word < 8 * line_of_slot o.shape k (used_slots v.log)) (λ c q. q) v.changes l.slot_changes)
+      (all_marked line (λ (c : Undrained). AreaChange v.log.phase (length v.log.entries) v.log.generation (part_of o.shape k c.word) c)
+      (λ c q. q) v.changes l.area_changes)
+      (phase_marked o.shape k line (sight_of v).picture v.log v.changes v.log.phase l.phase);
   made = f.made;
   recorded = λ u p r. let z = f.recorded u p r in (z.0, z.1);
   number = f.number;

@@ -22,7 +22,7 @@ use Rattle.pm_world.proofs.Counting.{count_same}
 use Rattle.pm_world.proofs.Going.{unchanged, at_phase}
 use Rattle.pm_world.proofs.StepDraw.{numbers_below, all_numbered}
 use Rattle.pm_world.proofs.StepPlain.{lane_told}
-use Rattle.pm_world.proofs.Worlds.{turned, world_after}
+use Rattle.pm_world.proofs.Worlds.{turned, world_after, log_again}
 
 -- ---- how many lanes may take a number
 abbrev one : Bool → ℕ
@@ -117,27 +117,11 @@ module _ (o : Opening) (mem new : Memory) (views views' : Views) (g : Past) (x :
         lane = f.lane;
         shape = f.shape;
         lanes = f.lanes;
-        log = record {
-          first = q.first;
-          last = q.last;
-          below = q.below;
-          stored = q.stored;
-          bump = unbumped;
-          sealed = q.sealed ∙ ap (λ ph. seal_in ph (length (views k).log.entries)) idle_;
-          entries_most = q.entries_most;
-          records_most = q.records_most;
-          pairs = q.pairs;
-          pair_part = q.pair_part;
-          records = q.records;
-          once = q.once;
-          olds = λ p y e b. let z = q.olds p y e b in (z.0, λ _. z.1 (ap Rattle.pm_world.specs.Lanes.is_decided idle_));
-          slot_part = q.slot_part;
-          stale = q.stale;
-          slot_changes = q.slot_changes;
-          area_changes = λ i d l. let c = Rattle.std.proofs.Common.get_or (views k).changes i d in area_begins (length (views k).log.entries) (views k).log.generation (part_of o.shape k c.word) c
-              (subst (λ ph. AreaChange ph (length (views k).log.entries) (views k).log.generation (part_of o.shape k c.word) c) idle_ (q.area_changes i d l));
-          phase = (let e = ap length idle_log.2 in omega arith, let e = ap length idle_log.3 in omega arith);
-        };
+        log = log_again Open q unbumped (q.sealed ∙ ap (λ ph. seal_in ph (length (views k).log.entries)) idle_) (λ p y e b. let z = q.olds p y e b in (z.0, λ _. z.1 (ap Rattle.pm_world.specs.Lanes.is_decided idle_)))
+            q.slot_changes
+            (λ i d l. let c = Rattle.std.proofs.Common.get_or (views k).changes i d in area_begins (length (views k).log.entries) (views k).log.generation (part_of o.shape k c.word) c
+            (subst (λ ph. AreaChange ph (length (views k).log.entries) (views k).log.generation (part_of o.shape k c.word) c) idle_ (q.area_changes i d l)))
+            ((let e = ap length idle_log.2 in omega arith, let e = ap length idle_log.3 in omega arith));
         made = λ u. absurd (both_ways false refl u);
         recorded = λ u p y. f.recorded (ap Rattle.pm_world.specs.Lanes.is_decided idle_) p y;
         number = refl;
