@@ -86,3 +86,4 @@ pub mod RunsKept
 pub mod SoloMoves
 pub mod SoloWorlds
 pub mod OwnedWords
+pub mod SoloStands

@@ -21,3 +21,4 @@ pub mod Solo
 pub mod SoloWorld
 pub mod OwnedBits
 pub mod LaneFields
+pub mod SoloLanes
