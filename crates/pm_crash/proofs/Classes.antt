@@ -1,7 +1,7 @@
 -- What a descriptor says of its chunk, read backwards; and that a good one is told by its low byte.
 use Rattle.std.proofs.Common.{◌≡◌, ◌≢◌, ⊎_elim, ℕ, ◌/◌, ◌%◌, ◌^◌, ◌<◌, ◌≤◌, ◌&&◌, Bool, true, false, cond, eqb, ltb, leb, Option, Some, None, refl, sym, ◌∙◌, ap, subst, arith}
 use Rattle.std.specs.Int.{bit_at}
-use Rattle.std.proofs.lemmas.Bool.{and_parts, cases_Bool, cases_eq, cases_lt, eqb-true, leb-false, ltb-true}
+use Rattle.std.proofs.lemmas.Bool.{and_from, and_parts, cases_Bool, cases_eq, cases_lt, eq-eqb, eqb-true, le-leb, leb-false, leb-true, ltb-true}
 use Rattle.std.proofs.lemmas.Nat.Bits.{bit_at_above}
 use Rattle.pm_layout.specs.Sizes.{blocks_of}
 use Rattle.pm_layout.specs.declared.class.Class.{Class}
@@ -103,3 +103,21 @@ unfolding is_run_class
 class_has_blocks d lines is =
     let tested = lines_tested (is_run_class d) (is_whole_class d) d lines (sym (class_by_tests d) ∙ is) in
     subst (λ (n : ℕ). 0 < blocks_of n) tested.1 (ltb-true 0 (blocks_of (d / 256)) (and_parts (eqb (d % 256) 1) (ltb 0 (blocks_of (d / 256))) tested.0).1)
+
+-- some chunks are 1 to 64
+pub class_has_chunks : (d chunks : ℕ) → class_in d ≡ Some (Chunks chunks) → (1 ≤ chunks) × (chunks ≤ 64)
+unfolding is_whole_class
+class_has_chunks d chunks is =
+    let tested = chunks_tested (is_run_class d) (is_whole_class d) d chunks (sym (class_by_tests d) ∙ is) in
+    let range = and_parts (leb 1 (d / 256)) (leb (d / 256) 64) (and_parts (eqb (d % 256) 2) (leb 1 (d / 256) && leb (d / 256) 64) tested.0).1 in
+    (subst (λ (n : ℕ). 1 ≤ n) tested.1 (leb-true 1 (d / 256) range.0), subst (λ (n : ℕ). n ≤ 64) tested.1 (leb-true (d / 256) 64 range.1))
+
+-- and a descriptor says so of them
+pub class_of_chunks : (d chunks : ℕ) → d % 256 ≡ 2 → d / 256 ≡ chunks → 1 ≤ chunks → chunks ≤ 64 → class_in d ≡ Some (Chunks chunks)
+unfolding class_in
+class_of_chunks d chunks low high some most =
+    let no_run : (eqb (d % 256) 1 && ltb 0 (blocks_of (d / 256))) ≡ false = ap (λ (n : ℕ). eqb n 1 && ltb 0 (blocks_of (d / 256))) low in
+    let whole : (eqb (d % 256) 2 && (leb 1 (d / 256) && leb (d / 256) 64)) ≡ true =
+    and_from (eqb (d % 256) 2) (leb 1 (d / 256) && leb (d / 256) 64) (eq-eqb (d % 256) 2 low)
+    (and_from (leb 1 (d / 256)) (leb (d / 256) 64) (le-leb 1 (d / 256) (omega arith)) (le-leb (d / 256) 64 (omega arith))) in
+    (λ j. cond (no_run j) (Some (Lines (d / 256))) (cond (whole j) (Some (Chunks (d / 256))) None)) ∙ ap (λ (n : ℕ). Some (Chunks n)) high

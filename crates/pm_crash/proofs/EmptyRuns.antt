@@ -61,7 +61,7 @@ class_of_run d lines is some =
     ∙ ap (λ (n : ℕ). Some (Lines n)) high
 
 -- a list of which each member passes
-all_pass : (p : ℕ → Bool) (xs : List ℕ) → ((x : ℕ) → Contains xs x → p x ≡ true) → list_all p xs ≡ true
+pub all_pass : (p : ℕ → Bool) (xs : List ℕ) → ((x : ℕ) → Contains xs x → p x ≡ true) → list_all p xs ≡ true
 all_pass p [] h = refl
 all_pass p (x ∷ xs) h = and_from (p x) (list_all p xs) (h x (first_member x xs)) (all_pass p xs (λ y there. h y (later_member x xs y there)))
 

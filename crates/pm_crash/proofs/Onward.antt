@@ -63,6 +63,8 @@ precedes_with : (cl cl' : ℕ → ℕ) (v : View) (s : State)
 precedes_with cl cl' v s there_ own p = record {
   found = p.found;
   spans = p.spans;
+  whole = p.whole;
+  plain = p.plain;
   class = λ c i t. ⊎_elim
       (λ (e : has_found v (Small c i) ≡ true). there_ c i (p.found (Small c i) e))
       (λ (e : has_own v (Small c i) ≡ true). own c i e)

@@ -31,7 +31,7 @@ use Rattle.pm_crash.proofs.Spelling.{chunk_is, chunk_spelled, descriptor_is, des
 use Rattle.pm_crash.proofs.Standing.{block_stands, IsChunkBlock, IsRunBlock}
 
 -- each member of a list that passes as a whole
-all_member : (p : ℕ → Bool) (xs : List ℕ) (x : ℕ) → list_all p xs ≡ true → Contains xs x → p x ≡ true
+pub all_member : (p : ℕ → Bool) (xs : List ℕ) (x : ℕ) → list_all p xs ≡ true → Contains xs x → p x ≡ true
 all_member p [] x e there = absurd (no_member x there)
 all_member p (y ∷ xs) x e there = let t = and_parts (p y) (list_all p xs) e in
     elim (member_cases y xs x there) [ inl here ↦ ap p (sym here) ∙ t.0 | inr later ↦ all_member p xs x t.1 later ]

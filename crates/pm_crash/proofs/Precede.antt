@@ -26,7 +26,9 @@ use Rattle.pm_world.proofs.Frame.{found_has, mine_own, own_has, owns_apart, sees
 use Rattle.pm_world.proofs.Geometry.{live_same}
 use Rattle.pm_world.proofs.WordPlaces.{page_apart}
 use Rattle.pm_crash.specs.Footprints.{KeepsDecided, MayPrecede, bit_before, geometry_of, has_found, has_own, is_of_object, is_run_to, kept_bits}
+use Rattle.pm_crash.specs.Spelled.{has_blocks}
 use Rattle.pm_crash.proofs.KeptBits as kept
+use Rattle.pm_crash.proofs.Spelling.{some_block}
 
 -- ---- LINES AND THEIR BLOCKS
 
@@ -171,6 +173,18 @@ module _ (o : Opening) (mem : Memory) (views : Views) (g : Past) (x : World o me
       ∙ same_span f (val (S (Descr f)) 8 56) (h.span f)
       (λ c. sym (x.bits.geo.shape f ((fit k).hold.found (Big f) t).2 c)
       ∙ (fit k).hold.span f (found_has h (Big f) t) c)
+
+  found_whole : (f : ℕ) → has_found v (Big f) ≡ true → has_blocks K f ≡ false
+  found_whole f t = false_from_ne_true (has_blocks K f) (λ e. let y = some_block K f e in
+      let q = found_first f t in
+      both_ways (g.runs f) (kept.huge o mem views g x keep d f (ap (λ c. there K (Big c)) q ∙ found_there (Big f) t))
+      (and_parts (g.runs f) (nat_lt y.0 (blocks_of (g.geo.class f))) (kept.within o mem views g x keep d f y.0 y.2)).0)
+
+  found_plain : (c i : ℕ) → has_found v (Small c i) ≡ true → K (Descr c) 1 ≡ false
+  found_plain c i t = false_from_ne_true (K (Descr c) 1) (λ e.
+      both_ways (g.runs c)
+      (kept.huge o mem views g x keep d c (ap (λ f. there K (Big f)) (kept.head o mem views g x keep d c e) ∙ e))
+      (and_parts (g.runs c) (nat_lt i (blocks_of (g.geo.class c))) ((fit k).hold.found (Small c i) t).1).0)
 
   own_first : (f : ℕ) → h.mine (Big f) ≡ true → g.geo.first f ≡ f
   own_first f t = eqb-true (g.geo.first f) f ((fit k).hold.mine (Big f) t).1
@@ -333,6 +347,8 @@ module _ (o : Opening) (mem : Memory) (views : Views) (g : Past) (x : World o me
   precedes = record {
     found = found_there;
     spans = found_spans;
+    whole = found_whole;
+    plain = found_plain;
     class = class_so;
     known = known_so;
     apart = λ B C line a c. lines_apart B C line (subst (λ s. OwnHas s h (geometry_of v) B line) sh_is a)

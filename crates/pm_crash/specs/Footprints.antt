@@ -1,5 +1,5 @@
 -- WHAT A CALL RESTS ON: what its lane found, knew and had for its own as it took its number.
-use Rattle.std.specs.Prelude.{◌≡◌, ℕ, ◌+◌, ◌*◌, ◌^◌, ◌<◌, ◌≤◌, Bool, true, not, ◌==◌, ◌||◌, Some, slice_index}
+use Rattle.std.specs.Prelude.{◌≡◌, ℕ, ◌+◌, ◌*◌, ◌^◌, ◌<◌, ◌≤◌, Bool, true, false, not, ◌==◌, ◌||◌, Some, slice_index}
 use Rattle.std.specs.Option.{option_map}
 use Rattle.pm_layout.specs.Chunks.{word_of_descriptor}
 use Rattle.pm_view.specs.Claims.{class, found, geometry, mine, span}
@@ -12,6 +12,7 @@ use Rattle.pm_world.specs.Sights.{is_recorded, picture, sight_of}
 use Rattle.pm_world.specs.Lanes.{sees, valid}
 use Rattle.pm_world.specs.Memory.{bit}
 use Rattle.pm_world.specs.BlockLines.{AllocatedHas, OwnHas}
+use Rattle.pm_crash.specs.Spelled.{has_blocks}
 use Rattle.pm_world.specs.World.{Opening, Views, Past, ghost_of, numbered_by, origin}
 
 -- which blocks words are in, and what is a run, as the lane knows
@@ -46,6 +47,10 @@ pub record MayPrecede (classes : ℕ → ℕ) (v : View) (s : State) : Type 0 wh
   pub found : (B : Block) → has_found v B ≡ true → there s B ≡ true
   pub spans : (f : ℕ) → has_found v (Big f) ≡ true
       → val (s (Descr f)) 8 56 ≡ span v.fixed.shape v.claims f
+  -- and no block of a run is in its first chunk
+  pub whole : (f : ℕ) → has_found v (Big f) ≡ true → has_blocks s f ≡ false
+  -- and a run in which it found one is no huge block
+  pub plain : (c i : ℕ) → has_found v (Small c i) ≡ true → s (Descr c) 1 ≡ false
   -- runs in which it found blocks, or has some, are of the class that it knows
   pub class : (c i : ℕ) → (has_found v (Small c i) || has_own v (Small c i)) ≡ true
       → classes c ≡ Rattle.pm_view.specs.Claims.class v.claims c

@@ -8,3 +8,10 @@ pub mod Images
 pub mod Freshness
 pub mod Laws
 pub mod Torn
+pub mod Objects
+pub mod HeapChanges
+pub mod Writes
+pub mod Edits
+pub mod Facts
+pub mod OwnBlocks
+pub mod Scenes

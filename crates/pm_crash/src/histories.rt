@@ -1,3 +1,4 @@
+ghost use Rattle.pm_crash.specs.Facts.{EffectsAreFacts, EffectsAreSteps, QuietCallsAreSteps};
 ghost use Rattle.pm_crash.specs.Laws.{CallIsStep, EverySetMayBeKept, HistoryHolds};
 
 /// A law: a call whose fact holds is a step of the plain model, from whatever pool the kept bits
@@ -12,4 +13,14 @@ pub fn a_call_is_a_step()
 pub fn a_history_holds_its_replay()
     ensures replay { HistoryHolds }
     ensures sets { EverySetMayBeKept }
+{}
+
+/// A law: a call whose difference changes a heap, and whose blocks have the items to which the
+/// model's call leads, is a step; and where it is so from all bits that may precede it, it has its
+/// fact. A call that changes nothing is a step where the model's call leaves the pool as it is. No
+/// code runs.
+pub fn effects_are_facts()
+    ensures steps { EffectsAreSteps }
+    ensures facts { EffectsAreFacts }
+    ensures quiet { QuietCallsAreSteps }
 {}

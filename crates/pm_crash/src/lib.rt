@@ -16,11 +16,19 @@ mod footprints;
 mod freshness;
 mod histories;
 mod images;
+mod objects;
+mod scenes;
 mod torn;
+mod writes;
 
 pub use described::descriptors_have_classes;
 pub use footprints::footprints_stand;
 pub use freshness::histories_are_fresh;
-pub use histories::{a_call_is_a_step, a_history_holds_its_replay};
+pub use histories::{a_call_is_a_step, a_history_holds_its_replay, effects_are_facts};
 pub use images::images_mean_replays;
+pub use objects::{
+    a_difference_changes_the_heap, blocks_are_items, good_heaps_hold_pools, own_blocks_are_free,
+};
+pub use scenes::scenes_go_on;
 pub use torn::no_record_is_torn;
+pub use writes::{blocks_are_edits, bytes_stand_in_words, items_are_told};
