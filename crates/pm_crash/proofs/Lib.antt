@@ -34,3 +34,4 @@ pub mod Effects
 pub mod OwnBlocks
 pub mod SceneSteps
 pub mod Missing
+pub mod FullZones

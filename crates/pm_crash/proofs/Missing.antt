@@ -1,6 +1,6 @@
 -- A block that is gone leaves no object at its offset; an offset is one block's alone.
-use Rattle.std.proofs.Common.{◌≡◌, ℕ, ◌+◌, ◌*◌, ◌/◌, ◌%◌, ◌^◌, ◌<◌, ◌≤◌, nat_lt, not, ◌==◌, ◌&&◌, Bool, true, false, Option, Some, None, refl, sym, ◌∙◌, ap, subst, arith, eq-eqb}
-use Rattle.std.proofs.lemmas.Bool.{and_from, and_parts, both_ways, lt-ltb, ltb-true, not-true, or_left}
+use Rattle.std.proofs.Common.{◌≡◌, ◌≢◌, ⊎_elim, ℕ, zero, suc, ◌*◌, ◌%◌, ◌<◌, ◌≤◌, nat_lt, cond, not, ◌==◌, ◌&&◌, Bool, true, false, Option, Some, None, refl, sym, ◌∙◌, ap, subst, arith, eq-eqb}
+use Rattle.std.proofs.lemmas.Bool.{and_from, and_parts, both_ways, cases_lt, lt-ltb, ltb-true, not-true, or_left}
 use Rattle.pm_header.specs.declared.header.Header.{Header}
 use Rattle.pm_layout.specs.Chunks.{chunks_of}
 use Rattle.pm_layout.specs.Sizes.{block_place, blocks_of}
@@ -12,16 +12,20 @@ use Rattle.pm_image.specs.declared.block.Block.{Block as Placed}
 use Rattle.pm_image.specs.Blocks.{chunk_word}
 use Rattle.pm_image.specs.Contents.{offset_in}
 use Rattle.pm_image.proofs.Rooms.{run_fits}
+use Rattle.pm_view.specs.Claims.{class}
 use Rattle.pm_view.specs.Places.{InRun, Descr, Block, Small, Big, Root}
 use Rattle.pm_world.specs.Causes.{Causes, stands}
 use Rattle.pm_world.specs.Crash.{is_decided_in, is_kept}
 use Rattle.pm_world.specs.Lanes.{is_occupancy}
-use Rattle.pm_world.specs.Memory.{bit}
+use Rattle.pm_world.specs.Memory.{Memory, bit, cells_of}
+use Rattle.pm_world.specs.Sights.{sight_of}
 use Rattle.pm_world.specs.States.{State, Word, val}
-use Rattle.pm_world.specs.World.{Opening, Views, Past}
+use Rattle.pm_world.specs.World.{Opening, Views, Past, World}
 use Rattle.pm_world.proofs.CausesKept as kept
+use Rattle.pm_world.proofs.Crashes.{some_lane}
+use Rattle.pm_world.proofs.Frame.{not_making}
 use Rattle.pm_world.proofs.Values.{val_from}
-use Rattle.pm_crash.specs.Answers.{CausesBearReports, ImagesLackObject, IsOffsetOf, MissedIsGone, NoBlockNoObject, RunsHaveCauses, has_block, offset_by}
+use Rattle.pm_crash.specs.Answers.{CausesBearReports, ImagesLackObject, IsOffsetOf, KnownClassesHold, MissedIsGone, NoBlockNoObject, RunsHaveCauses, has_block, offset_by}
 use Rattle.pm_crash.specs.Footprints.{KeepsDecided, kept_bits}
 use Rattle.pm_crash.specs.Objects.{IsGoodHeap, is_allocated, offset_of}
 use Rattle.pm_crash.specs.Replayed.{HoldsReplay}
@@ -113,7 +117,33 @@ module _ (o : Opening) (g : Past) (keep : ℕ → Bool) (n : ℕ) (header : Head
           } in
           absurd (both_ways (stands s z.of) (gone z.of at) (allocated_stands sh class s good z.of z.allocated))
 
+-- ---- WHAT A LANE KNOWS OF RUNS
+
+module _ (o : Opening) (mem : Memory) (views : Views) (g : Past) (w : World o mem views g) (c : ℕ) where
+  abbrev maker : ℕ → Bool
+  maker j = (sight_of (views j)).hold.making c
+
+  class_told : (n : ℕ) → (cells_of o.shape mem).descr c ≡ suc n → g.geo.class c ≡ suc n
+  class_told n told = ⊎_elim
+      (λ (y : (j : ℕ) × (maker j ≡ true)). sym ((w.bits.each_lane y.0).hold.making c y.1).1 ∙ told)
+      (λ (y : (j : ℕ) → j < o.lanes → maker j ≡ false).
+      let none : (j : ℕ) → maker j ≡ false = λ j. ⊎_elim (λ (l : j < o.lanes). y j l)
+      (λ (out : o.lanes ≤ j). not_making (sight_of (views j)).hold c 0 (w.bits.beyond j out (Small c 0)).0) (cases_lt j o.lanes) in
+      by_run (g.runs c) (sym (w.bits.descr c none) ∙ told))
+      (some_lane maker o.lanes)
+    where
+      by_run : (t : Bool) → cond t (g.geo.class c) 0 ≡ suc n → g.geo.class c ≡ suc n
+      by_run true e = e
+      by_run false e = absurd (omega arith)
+
+  known : (k n : ℕ) → class (views k).claims c ≡ n → n ≢ 0 → g.geo.class c ≡ n
+  known k zero saw some = absurd (some refl)
+  known k (suc n) saw some = class_told n ((w.bits.each_lane k).hold.seen c n saw)
+
 -- ---- THE LAWS
+
+pub classes_hold : KnownClassesHold
+classes_hold o mem views g w k c some = known o mem views g w c k (class (views k).claims c) refl some
 
 pub gone : MissedIsGone
 gone o g lane c off B cause at = record {

@@ -1,6 +1,6 @@
 -- WHAT THE CAUSES OF ANSWERS MEAN FOR A REPORT: by offsets and pools and by the calls of the history,
 -- in place of blocks and bits.
-use Rattle.std.specs.Prelude.{◌≡◌, ℕ, ◌+◌, ◌*◌, ◌<◌, ◌≤◌, nat_lt, ◌&&◌, Bool, true, false, List, None}
+use Rattle.std.specs.Prelude.{◌≡◌, ◌≢◌, ℕ, ◌+◌, ◌*◌, ◌<◌, ◌≤◌, nat_lt, ◌&&◌, Bool, true, false, List, [], ◌∷◌, None, length}
 use Rattle.pm_header.specs.declared.header.Header.{Header}
 use Rattle.pm_layout.specs.Chunks.{chunks_of}
 use Rattle.pm_layout.specs.Sizes.{block_place, blocks_of}
@@ -8,15 +8,16 @@ use Rattle.pm_layout.specs.declared.shape.Shape.{Shape}
 use Rattle.pm_objects.specs.Pool.{object_at}
 use Rattle.pm_objects.specs.declared.pool.PoolView.{PoolView}
 use Rattle.pm_image.specs.Blocks.{chunk_word}
+use Rattle.pm_view.specs.Claims.{class}
 use Rattle.pm_view.specs.Places.{Block, Small, Big, Root}
 use Rattle.pm_view.specs.View.{Constants, View}
 use Rattle.pm_world.specs.Causes.{BusyHasCause, Causes, CountsNew, IsCall, NoObjectCause}
-use Rattle.pm_world.specs.Causes.{NoSpaceHasCause, drawn_by, times_missed}
+use Rattle.pm_world.specs.Causes.{FilledByLanes, NoSpaceHasCause, all_got, drawn_by, times_missed}
 use Rattle.pm_world.specs.Crash.{is_kept}
-use Rattle.pm_world.specs.Memory.{Memory}
-use Rattle.pm_world.specs.Opens.{IsTaken, idle_views}
+use Rattle.pm_world.specs.Memory.{Memory, bit}
+use Rattle.pm_world.specs.Opens.{IsTaken, idle_views, takes}
 use Rattle.pm_world.specs.Runs.{IsRun, IsWorld, LaneStep, Moment}
-use Rattle.pm_world.specs.World.{Opening, Views, Past}
+use Rattle.pm_world.specs.World.{Opening, Views, Past, World}
 use Rattle.pm_crash.specs.Footprints.{Footprints, KeepsDecided}
 use Rattle.pm_crash.specs.Images.{OpensPool}
 use Rattle.pm_crash.specs.Replayed.{HasFacts, HoldsReplay, Replay, kept_calls, kept_pending}
@@ -25,20 +26,27 @@ use Rattle.pm_crash.specs.Replayed.{HasFacts, HoldsReplay, Replay, kept_calls, k
 
 -- the shape has the block: one of as many as a run of the chunk's class has, or whole chunks
 abbrev pub has_block : Shape → (ℕ → ℕ) → Block → Bool
-has_block sh class (Small c i) = nat_lt c (chunks_of sh) && nat_lt i (blocks_of (class c))
-has_block sh class (Big f) = nat_lt f (chunks_of sh)
-has_block sh class Root = false
+has_block sh classes (Small c i) =
+    nat_lt c (chunks_of sh) && nat_lt i (blocks_of (classes c))
+has_block sh classes (Big f) = nat_lt f (chunks_of sh)
+has_block sh classes Root = false
 
 -- the offset of the object that may stand in it: it lies after the 64 bytes of its header
 abbrev pub offset_by : Shape → (ℕ → ℕ) → Block → ℕ
-offset_by sh class (Small c i) = block_place (8 * chunk_word sh.lanes c) (class c) i + 64
-offset_by sh class (Big f) = 8 * chunk_word sh.lanes f + 64
-offset_by sh class Root = 64
+offset_by sh classes (Small c i) =
+    block_place (8 * chunk_word sh.lanes c) (classes c) i + 64
+offset_by sh classes (Big f) = 8 * chunk_word sh.lanes f + 64
+offset_by sh classes Root = 64
 
 -- the offset is that of this block
 pub record IsOffsetOf (o : Opening) (g : Past) (off : ℕ) (B : Block) : Type 0 where
   pub is_block : has_block o.shape g.geo.class B ≡ true
   pub is_offset : offset_by o.shape g.geo.class B ≡ off
+
+-- THE CLASSES THAT A LANE KNOWS are the history's, so the offsets that it tells by them are the blocks'
+abbrev pub KnownClassesHold : Type 0
+KnownClassesHold = (o : Opening) (mem : Memory) (views : Views) (g : Past) → World o mem views g
+    → (k c : ℕ) → class (views k).claims c ≢ 0 → g.geo.class c ≡ class (views k).claims c
 
 -- ---- NoObject
 
@@ -81,6 +89,27 @@ ImagesLackObject = (o : Opening) (views : Views) (g : Past) (header : Header) (p
     → Footprints o header.id views g → HasFacts g → OpensPool o header pool
     → (lane c off : ℕ) → c ≤ g.length → (cause : NoObjectAt o g lane c off)
     → LeadsWithout g (is_kept o views g image) pool cause.number off
+
+-- ---- NoSpace
+
+-- a zone's word has no n clear bits in a row
+abbrev pub HasNoRoom : ℕ → ℕ → Type 0
+HasNoRoom x n = (i : ℕ) → i + n ≤ 64 → (j : ℕ) × (i ≤ j) × (j < i + n) × (bit x j ≡ true)
+
+-- disjoint stretches of n chunks of a zone, by their first chunks in rising order, that the pool read
+-- has free
+unfoldable pub Stretches : Opening → ℕ → ℕ → ℕ → List ℕ → Type 0
+Stretches o zone n from [] = Unit {0}
+Stretches o zone n from (i ∷ rest) = (from ≤ i) × (i + n ≤ 64)
+    × ((j : ℕ) → i ≤ j → j < i + n → takes o (Big (64 * zone + j)) ≡ false)
+    × Stretches o zone n (i + n) rest
+
+-- A ZONE WITHOUT ROOM for n chunks in a row, by a word that lanes filled: the chunks that all lanes
+-- got of it are at least as many as such stretches
+abbrev pub FullZoneIsGot : Type 0
+FullZoneIsGot = (o : Opening) (views : Views) (zone x n : ℕ) (starts : List ℕ)
+    → FilledByLanes o views zone x → HasNoRoom x n → Stretches o zone n 0 starts
+    → length starts ≤ all_got zone views o.lanes
 
 -- ---- EACH ANSWER HAS ITS CAUSE in a report
 
