@@ -17,7 +17,8 @@ use Rattle.pm_record.specs.declared.undo.Undo.{Undo}
 use Rattle.pm_image.specs.Logs.{all_applied, area_word, covers, entries, entries_for, entry_pair, generation, is_sealed, record_for, records, recovered, recovered_by, restored, seal_word, slot_line, undo_slot}
 use Rattle.pm_view.specs.declared.change.Change.{Change}
 use Rattle.pm_view.specs.Changes.{IsFormed, taken_back}
-use Rattle.pm_world.specs.Crash.{IsUndrainedOf, Survives, all_taken_back}
+use Rattle.pm_memory.specs.Survivors.{all_taken_back}
+use Rattle.pm_world.specs.Crash.{IsUndrainedOf, Survives}
 use Rattle.pm_world.specs.Memory.{Memory, PoolWord}
 use Rattle.pm_world.specs.World.{Opening, Views, Past, World}
 

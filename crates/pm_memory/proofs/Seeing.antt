@@ -2,7 +2,6 @@
 -- `k` the memory with the call counted, `n` the memory after.
 use Rattle.std.proofs.Common.{◌≡◌, ℕ, ◌+◌, ◌-◌, ◌/◌, ◌%◌, ◌^◌, ◌<◌, ◌≤◌, bit_and, bit_or, Bool, true, false, cond, List, ◌∷◌, length, length-set, slice_index, set, Option, Some, None, IsSomeAnd, IfSome, Result, Ok, Err, IsErr, refl, sym, ap, ◌∙◌, subst, arith, rules}
 use Rattle.std.specs.Option.{ForSome, option_map}
-use Rattle.std.specs.Int.{bit_not, w64}
 use Rattle.std.proofs.lemmas.Nat.{and_mask}
 use Rattle.pm_layout.specs.declared.shape.Shape.{Shape}
 use Rattle.pm_view.specs.declared.change.Change.{Change}
@@ -16,7 +15,7 @@ use Rattle.pm_view.specs.Parts.{Part}
 use Rattle.pm_view.specs.Steps.{Step}
 use Rattle.pm_view.specs.Steps.Step.{Load, Store, Or, And, Flush, Drain}
 use Rattle.pm_view.specs.View.{View}
-use Rattle.pm_view.specs.Views.{after, changed, learned, part_in, value_in, shape_of, marked_by, claims_drained, log_left}
+use Rattle.pm_view.specs.Views.{after, changed_from, learned, part_in, value_in, shape_of, marked_by, claims_drained, log_left}
 use Rattle.pm_memory.specs.Changes.{changes_flushed, changes_drained, AreUndrained}
 use Rattle.pm_memory.specs.Runs.{AnyStep, MadeOrStopped}
 use Rattle.pm_memory.specs.Solo.{Solo, Sees, AreKnown, AreLocked, IsLockWord, IsCount, IsDue, IsSpent, counted, with_change, says_stopped}
@@ -135,15 +134,15 @@ old_known None mask word old known is = tt
 old_known (Some z) mask word old known is = is ∙ ap (λ n. bit_and n mask) (known z refl)
 
 -- a counted call made this change
-sees_changed : (m : Solo) (v : View) (c : Change) (x : ℕ) (claims : List Claim) (log : Log) → IsDue m → ForSome m.stop (λ stop. stop < 2 ^ 64) → Grows v.fixed.shape v.claims claims
-    → c.word < length m.words → c.flushed ≡ false → c.old ≡ bit_and (slice_index m.words c.word) c.mask → Sees m v → Sees (with_change (counted m) c x) (changed v c.word c.mask x claims log)
-sees_changed m v c x claims log due fits grows within plain old sees =
+sees_changed : (m : Solo) (v : View) (c : Change) (was : Option ℕ) (x : ℕ) (claims : List Claim) (log : Log) → IsDue m → ForSome m.stop (λ stop. stop < 2 ^ 64) → Grows v.fixed.shape v.claims claims
+    → c.word < length m.words → c.flushed ≡ false → IfSome (option_map (λ (z : ℕ). bit_and z c.mask) was) (λ y. c.old ≡ y) → Sees m v → Sees (with_change (counted m) c x) (changed_from v c.word c.mask was x claims log)
+sees_changed m v c was x claims log due fits grows within plain old sees =
     let same : length (set m.words c.word x) ≡ length m.words = length-set m.words c.word x in
     record {
       fixed = record { lane = sees.fixed.lane; lanes = sees.fixed.lanes; stop_is = sees.fixed.stop_is; size = same ∙ sees.fixed.size };
       words = known_stored v.fixed.shape m.words c.word x v.claims claims grows sees.words within;
       occupancy = sees.occupancy;
-      changes = (m.changes, c, refl, record { word = refl; mask = refl; flushed = plain; old = old_known (value_in v c.word) c.mask (slice_index m.words c.word) c.old (sees.words c.word) old }, sees.changes);
+      changes = (m.changes, c, refl, record { word = refl; mask = refl; flushed = plain; old = old }, sees.changes);
       calls = count_next m v sees due fits;
       counter = sees.counter;
       locks = locks_same v.claims (Knows c.word x ∷ claims) m.locks grows.locked_is grows.reads_is sees.locks;
@@ -175,11 +174,11 @@ whole : (x : ℕ) → x < 2 ^ 64 → x ≡ bit_and x all_bits
 whole x small = let low : bit_and x (2 ^ 64 - 1) ≡ x % 2 ^ 64 = and_mask x 64 in let e : x % 2 ^ 64 ≡ x = omega arith in sym (low ∙ e)
 
 module _ (m k n : Solo) (due : IsDue m) (fits : ForSome m.stop (λ stop. stop < 2 ^ 64)) (once : k ≡ counted m) where
-  -- the call made this change of what it found
-  made_change : (v : View) (c : Change) (x : ℕ) (claims : List Claim) (log : Log) → Grows v.fixed.shape v.claims claims → c.word < length m.words → c.flushed ≡ false → c.old ≡ bit_and (slice_index m.words c.word) c.mask
-      → n ≡ with_change k c x → Sees m v → Sees n (changed v c.word c.mask x claims log)
-  made_change v c x claims log grows within plain old is sees =
-      subst (λ (memory : Solo). Sees memory (changed v c.word c.mask x claims log)) (sym (is ∙ ap (λ (memory : Solo). with_change memory c x) once)) (sees_changed m v c x claims log due fits grows within plain old sees)
+  -- the call made this change of a word that was this, where that is known
+  made_change : (v : View) (c : Change) (was : Option ℕ) (x : ℕ) (claims : List Claim) (log : Log) → Grows v.fixed.shape v.claims claims → c.word < length m.words → c.flushed ≡ false → IfSome (option_map (λ (z : ℕ). bit_and z c.mask) was) (λ y. c.old ≡ y)
+      → n ≡ with_change k c x → Sees m v → Sees n (changed_from v c.word c.mask was x claims log)
+  made_change v c was x claims log grows within plain old is sees =
+      subst (λ (memory : Solo). Sees memory (changed_from v c.word c.mask was x claims log)) (sym (is ∙ ap (λ (memory : Solo). with_change memory c x) once)) (sees_changed m v c was x claims log due fits grows within plain old sees)
 
   found_in : (w found : ℕ) → found ≡ slice_index k.words w → found ≡ slice_index m.words w
   found_in w found is = is ∙ ap (λ (memory : Solo). slice_index memory.words w) once
@@ -187,19 +186,23 @@ module _ (m k n : Solo) (due : IsDue m) (fits : ForSome m.stop (λ stop. stop < 
   pub stored_made : (w x found : ℕ) (c : Change) → found < 2 ^ 64 → w < length m.words → found ≡ slice_index k.words w → c ≡ store_change w found x → n ≡ with_change k c x → (v : View) → Sees m v → Sees n (after v (Store w x)) × Unit {0} × MayCount v
   stored_made w x found c small within finds makes is v sees =
       let claims : List Claim = marked_by v.log.phase (part_in v w) x v.claims in
-      let log : Log = log_stored (shape_of v) (class v.claims) v.log.phase (part_in v w) x v.log in
-      (made_change v (store_change w found x) x claims log (grows_marked v.fixed.shape v.log.phase (part_in v w) x v.claims) within refl (whole found small ∙ ap (λ y. bit_and y all_bits) (found_in w found finds)) (is ∙ ap (λ (d : Change). with_change k d x) makes) sees, tt, may_count m v sees due fits)
+      let log : Log = log_stored (shape_of v) (class v.claims) v.log.phase (part_in v w) x v.log in (
+        made_change v (store_change w found x) (value_in v w) x claims log (grows_marked v.fixed.shape v.log.phase (part_in v w) x v.claims) within refl
+            (old_known (value_in v w) all_bits (slice_index m.words w) found (sees.words w) (whole found small ∙ ap (λ y. bit_and y all_bits) (found_in w found finds))) (is ∙ ap (λ (d : Change). with_change k d x) makes) sees,
+        tt,
+        may_count m v sees due fits,
+      )
 
   pub or_made : (w bits found : ℕ) (c : Change) → w < length m.words → found ≡ slice_index k.words w → c ≡ or_change w bits found → n ≡ with_change k c (bit_or found bits) → (v : View) → Sees m v → Sees n (after v (Or w bits found)) × FindsKnown v w found × MayCount v
   or_made w bits found c within finds makes is v sees = (
-    made_change v (or_change w bits found) (bit_or found bits) v.claims (log_changed v.log.phase v.log) (grows_none v.fixed.shape v.claims) within refl (ap (λ y. bit_and y bits) (found_in w found finds)) (is ∙ ap (λ (d : Change). with_change k d (bit_or found bits)) makes) sees,
+    made_change v (or_change w bits found) (Some found) (bit_or found bits) v.claims (log_changed v.log.phase v.log) (grows_none v.fixed.shape v.claims) within refl refl (is ∙ ap (λ (d : Change). with_change k d (bit_or found bits)) makes) sees,
     finds_known m v w found (found_in w found finds) sees,
     may_count m v sees due fits,
   )
 
   pub and_made : (w bits found : ℕ) (c : Change) → w < length m.words → found ≡ slice_index k.words w → c ≡ and_change w bits found → n ≡ with_change k c (bit_and found bits) → (v : View) → Sees m v → Sees n (after v (And w bits found)) × FindsKnown v w found × MayCount v
   and_made w bits found c within finds makes is v sees = (
-    made_change v (and_change w bits found) (bit_and found bits) v.claims (log_changed v.log.phase v.log) (grows_none v.fixed.shape v.claims) within refl (ap (λ y. bit_and y (bit_not w64 bits)) (found_in w found finds)) (is ∙ ap (λ (d : Change). with_change k d (bit_and found bits)) makes) sees,
+    made_change v (and_change w bits found) (Some found) (bit_and found bits) v.claims (log_changed v.log.phase v.log) (grows_none v.fixed.shape v.claims) within refl refl (is ∙ ap (λ (d : Change). with_change k d (bit_and found bits)) makes) sees,
     finds_known m v w found (found_in w found finds) sees,
     may_count m v sees due fits,
   )

@@ -54,14 +54,18 @@ marked_by Idle (DescriptorPart c) x claims = Marked c (x / 256) ∷ claims
 marked_by Open (DescriptorPart c) x claims = Marked c (x / 256) ∷ claims
 marked_by phase part x claims = claims
 
--- one more change, of bits of a word that becomes x, with the log as the store leaves it
-abbrev pub changed : View → ℕ → ℕ → ℕ → List Claim → Log → View
-changed v w mask x claims log = record v {
+-- one more change, of bits of a word that was this, where that is known, and becomes x, with the log as the step leaves it
+abbrev pub changed_from : View → ℕ → ℕ → Option ℕ → ℕ → List Claim → Log → View
+changed_from v w mask was x claims log = record v {
   claims = Knows w x ∷ claims;
-  changes = record { word = w; mask = mask; old = option_map (λ old. bit_and old mask) (value_in v w); flushed = false } ∷ v.changes;
+  changes = record { word = w; mask = mask; old = option_map (λ old. bit_and old mask) was; flushed = false } ∷ v.changes;
   calls = v.calls + 1;
   log = log;
 }
+
+-- a store finds nothing: the word was what the lane last saw of it
+abbrev pub changed : View → ℕ → ℕ → ℕ → List Claim → Log → View
+changed v w mask x claims log = changed_from v w mask (value_in v w) x claims log
 
 -- ---- drains
 
@@ -163,8 +167,8 @@ published_told operation reply actions published = published
 abbrev pub after : View → Step → View
 after v (Load w x) = record v { claims = learned v.log.phase (part_in v w) w x v.claims }
 after v (Store w x) = changed v w all_bits x (marked_by v.log.phase (part_in v w) x v.claims) (log_stored (shape_of v) (class v.claims) v.log.phase (part_in v w) x v.log)
-after v (Or w bits found) = changed v w bits (bit_or found bits) v.claims (log_changed v.log.phase v.log)
-after v (And w bits found) = changed v w (bit_not w64 bits) (bit_and found bits) v.claims (log_changed v.log.phase v.log)
+after v (Or w bits found) = changed_from v w bits (Some found) (bit_or found bits) v.claims (log_changed v.log.phase v.log)
+after v (And w bits found) = changed_from v w (bit_not w64 bits) (Some found) (bit_and found bits) v.claims (log_changed v.log.phase v.log)
 after v (Flush line) = record v { changes = flushed line v.changes; calls = v.calls + 1 }
 after v Drain = drained_to v (drained v.changes)
 after v (TakeWrite line won) = with_seen (TakeWrite line won) (record v { claims = with_won won (Took line true) v.claims })

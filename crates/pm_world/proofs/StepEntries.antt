@@ -19,7 +19,7 @@ use Rattle.pm_view.specs.Entries.{Entry, Redo, given_bit, delta, latest, redos, 
 use Rattle.pm_view.specs.Log.{Applying, Log, old_of}
 use Rattle.pm_view.specs.Places.{Place, InRun, InHuge, Descr, RootWord, Block, Small, Big, Root, part, block_of, is_data, twin, same_place, word_of, is_place, in_span}
 use Rattle.pm_view.specs.View.{View}
-use Rattle.pm_view.specs.Views.{value_in, part_in, changed}
+use Rattle.pm_view.specs.Views.{value_in, part_in, changed, changed_from}
 use Rattle.pm_world.specs.States.{State, Diff, given, read, put1, Cells}
 use Rattle.pm_world.specs.Sights.{Hold, Sight, hold_of, is_pictured, picture, is_use, is_soiled, is_made, is_recorded, fresh, call_in, sight_of}
 use Rattle.pm_world.specs.Lanes.{Ghost, own, owns, is_in_making, TurnAfter, SightFits, Flies, flies_at}
@@ -80,7 +80,7 @@ pictured_plain (Descr c) t = absurd (both_ways false refl t)
 pictured_plain RootWord t = refl
 
 module _ (o : Opening) (mem : Memory) (views : Views) (g : Past) (x : World o mem views g) (k : ℕ) (ink : k < o.lanes) (w : ℕ) (d : Entry) (todo : List Entry) (ph : (views k).log.phase ≡ Applying (d ∷ todo)) (word : d.word ≡ w) (inside : w < words_of o.shape)
-    (p₀ : Place) (place : d.place ≡ Some p₀) (small : made_word d.op d.value (mem (PoolWord w)) < 2 ^ 64) where
+    (p₀ : Place) (place : d.place ≡ Some p₀) (small : made_word d.op d.value (mem (PoolWord w)) < 2 ^ 64) (was : Option ℕ) where
   abbrev v : View
   v = views k
 
@@ -217,7 +217,7 @@ module _ (o : Opening) (mem : Memory) (views : Views) (g : Past) (x : World o me
   claims' = Knows w made ∷ v.claims
 
   abbrev pub change : Undrained
-  change = record { word = w; mask = mask_of d.op d.value; old = option_map (λ old. bit_and old (mask_of d.op d.value)) (value_in v w); flushed = false }
+  change = record { word = w; mask = mask_of d.op d.value; old = option_map (λ old. bit_and old (mask_of d.op d.value)) was; flushed = false }
 
   abbrev log' : Log
   log' = record v.log { phase = Applying todo }
@@ -292,13 +292,13 @@ module _ (o : Opening) (mem : Memory) (views : Views) (g : Past) (x : World o me
           (λ (z : rest ≡ true). inl (and_from (is_use h p) rest y.0 z)) (or_cases new_ rest y.1)
 
   -- the lane's sight fits
-  pub sight_now : SightFits o.shape cells' S (Flies G k) G k (sight_of (changed v w (mask_of d.op d.value) made v.claims (record v.log { phase = Applying todo })))
+  pub sight_now : SightFits o.shape cells' S (Flies G k) G k (sight_of (changed_from v w (mask_of d.op d.value) was made v.claims (record v.log { phase = Applying todo })))
   sight_now = applied_fits o.shape cells cells' S (Flies G k) G x.bits.geo k (sight_of v) e₀ (d ∷ todo) todo f left_is own_words fresh' picture'
       (Rattle.pm_world.specs.Sights.is_logged v.fixed.shape v.fixed.lane (change ∷ v.changes) v.log.records) (is_soiled v.fixed.shape h (change ∷ v.changes)) applied_now
 
   -- ---- the lane's log, and the world
   abbrev View' : View
-  View' = changed v w (mask_of d.op d.value) made v.claims (record v.log { phase = Applying todo })
+  View' = changed_from v w (mask_of d.op d.value) was made v.claims (record v.log { phase = Applying todo })
 
   area_else : (lane i : ℕ) → lane < o.shape.lanes → i < 1024 → (u : ℕ) → u ≡ word_of_generation o.shape lane + i → put1 (λ u. mem (PoolWord u)) w made u ≡ mem (PoolWord u)
   area_else lane i a b u e = put1_else (λ u. mem (PoolWord u)) w made u (λ q. no_area o.shape p₀ lane i a b pair.0 (at_word ∙ (sym q ∙ e)))
@@ -440,8 +440,8 @@ module _ (o : Opening) (mem new : Memory) (views views' : Views) (g : Past) (x :
       let p = next_place o mem views g x k ink w d todo ph next.0 (ap tag here ∙ t) in
       let made : made_word d.op d.value (mem (PoolWord w)) ≡ n = ap (λ z. made_word z d.value (mem (PoolWord w))) next.1 ∙ next.2 in
       let whole : mask_of d.op d.value ≡ all_bits = ap (λ z. mask_of z d.value) next.1 in
-      entry_applied o mem views g x k ink w d todo ph next.0 (subst (λ s. w < words_of s) (x.each_lane k ink).shape m.inside) p.0 p.1 (subst (λ z. z < 2 ^ 64) (sym made) m.small) new views' (subst (λ z. Becomes (PoolWord w) z mem new) (sym made) became) m.room due
-      (subst (λ z. z < 2 ^ 64) (sym whole) (omega arith)) (subst (λ z. AreaChange (Applying todo) (length (views k).log.entries) (views k).log.generation z (change o mem views g x k ink w d todo ph next.0 (subst (λ s. w < words_of s) (x.each_lane k ink).shape m.inside) p.0 p.1 (subst (λ z. z < 2 ^ 64) (sym made) m.small))) (sym here) (area (change o mem views g x k ink w d todo ph next.0 (subst (λ s. w < words_of s) (x.each_lane k ink).shape m.inside) p.0 p.1 (subst (λ z. z < 2 ^ 64) (sym made) m.small)) whole))
+      entry_applied o mem views g x k ink w d todo ph next.0 (subst (λ s. w < words_of s) (x.each_lane k ink).shape m.inside) p.0 p.1 (subst (λ z. z < 2 ^ 64) (sym made) m.small) (value_in (views k) w) new views' (subst (λ z. Becomes (PoolWord w) z mem new) (sym made) became) m.room due
+      (subst (λ z. z < 2 ^ 64) (sym whole) (omega arith)) (subst (λ z. AreaChange (Applying todo) (length (views k).log.entries) (views k).log.generation z (change o mem views g x k ink w d todo ph next.0 (subst (λ s. w < words_of s) (x.each_lane k ink).shape m.inside) p.0 p.1 (subst (λ z. z < 2 ^ 64) (sym made) m.small) (value_in (views k) w))) (sym here) (area (change o mem views g x k ink w d todo ph next.0 (subst (λ s. w < words_of s) (x.each_lane k ink).shape m.inside) p.0 p.1 (subst (λ z. z < 2 ^ 64) (sym made) m.small) (value_in (views k) w)) whole))
       (subst (λ z. Turn views views' k (changed (views k) w z (made_word d.op d.value (mem (PoolWord w))) (views k).claims (record (views k).log { phase = Applying todo }))) (sym whole) (subst (λ z. Turn views views' k (changed (views k) w all_bits z (views k).claims (record (views k).log { phase = Applying todo }))) (sym made) turn))
 
 pub applies_root : (todo : List Entry) → KeepsAt (Applying todo) RootPart
