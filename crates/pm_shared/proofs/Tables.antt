@@ -4,7 +4,7 @@ use Rattle.std.proofs.lemmas.Bool.{cases_eq}
 use Rattle.pm_layout.specs.declared.shape.Shape.{Shape}
 use Rattle.pm_world.specs.Memory.{Location, PoolWord, LockWord, RunWord, ZoneWord, ZoneLock, CommitCounter, StopWord, IsSame, IsSameBut}
 use Rattle.pm_shared.specs.Placing.{sort_of, number_of, count_of, start_of, table_size, place, pulse_place, said, memory_of}
-use Rattle.pm_shared.proofs.Places.{Lies, lies, apart, start_after}
+use Rattle.pm_shared.proofs.Injective.{Lies, lies, apart, start_after}
 
 module _ (sh : Shape) (words : List ℕ) (x : ℕ) where
   -- a location elsewhere

@@ -9,12 +9,16 @@ use Rattle.pm_world.specs.Lanes.{is_occupancy}
 use Rattle.pm_world.specs.Memory.{occupancy_bit}
 use Rattle.pm_world.specs.Opens.{IsRetired, takes}
 use Rattle.pm_world.specs.World.{Opening}
-use Rattle.atomic_table.specs.Table.{Me}
-use Rattle.pm_shared.specs.Rule.{Knowledge, Pool, Lane, Spent}
+use Rattle.atomic_table.specs.Table.{Me, Allows}
+use Rattle.pm_shared.specs.Rule.{Knowledge, Pool, Lane, Spent, Ruled}
 use Rattle.pm_shared.specs.declared.rule.Beginning.{Beginning}
 
 abbrev pub opening_of : Beginning → Opening
 opening_of b = record { shape = b.shape; lanes = b.lanes; words = b.words.items }
+
+-- what a call of the table asks: whatever the table is, the rule is kept, and what the call tells is so
+abbrev pub TableAllows : Beginning → ℕ → Me ℕ Knowledge → ℕ → (ℕ → ℕ) → (ℕ → Me ℕ Knowledge → Type 0) → Type 0
+TableAllows b id me word becomes told = Allows (Ruled (opening_of b)) 0 id me word becomes told
 
 -- what stays of a lane, and the generation that its log goes on with
 abbrev pub fixed_of : Beginning → ℕ → Constants

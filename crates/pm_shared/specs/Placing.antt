@@ -1,7 +1,9 @@
 -- WHERE THE SHARED WORDS LIE in the table: one sort after another, and of each sort as many as the pool has. Behind them lies a word a lane that says
 -- nothing: a flush and a drain load it.
-use Rattle.std.specs.Prelude.{ℕ, zero, suc, ◌+◌, ◌*◌, ◌/◌, ◌^◌, nat_lt, cond, ◌==◌, List, [], ◌∷◌, slice_index}
-use Rattle.pm_layout.specs.Areas.{page_words}
+use Rattle.std.specs.Prelude.{ℕ, zero, suc, ◌+◌, ◌-◌, ◌*◌, ◌/◌, ◌^◌, bit_or, nat_lt, cond, ◌==◌, List, [], ◌∷◌, slice_index}
+use Rattle.std.specs.Int.{bit_not, w64}
+use Rattle.pm_view.specs.LockWords.{reader_bit, writer_bit}
+use Rattle.pm_layout.specs.Areas.{page_words, page_bytes}
 use Rattle.pm_layout.specs.Chunks.{words_of}
 use Rattle.pm_layout.specs.declared.shape.Shape.{Shape}
 use Rattle.pm_world.specs.Memory.{Memory, Location, PoolWord, LockWord, RunWord, ZoneWord, ZoneLock, CommitCounter, StopWord}
@@ -45,6 +47,10 @@ table_size sh = start_of sh 8
 abbrev pub place : Shape → Location → ℕ
 place sh l = cond (nat_lt (number_of l) (count_of sh (sort_of l))) (start_of sh (sort_of l) + number_of l) (table_size sh)
 
+-- that of a run's occupancy word, by the place of its chunk in bytes
+abbrev pub run_place : Shape → ℕ → ℕ
+run_place sh at = place sh (RunWord (at / page_bytes))
+
 -- the lane's own word that says nothing
 abbrev pub pulse_place : Shape → ℕ → ℕ
 pulse_place sh lane = start_of sh 7 + lane
@@ -65,3 +71,7 @@ said StopWord x = x
 -- the memory of the world that the table's words are
 abbrev pub memory_of : Shape → List ℕ → Memory
 memory_of sh words l = said l (slice_index words (place sh l))
+
+-- what stays of a lock word where a lane gives the lock back: a reader clears its own bit, a writer all that readers left too
+abbrev pub kept_bits : ℕ → ℕ → ℕ
+kept_bits lane x = cond (x / 2 ^ 32 == 0) (bit_not w64 (bit_or (reader_bit lane) (writer_bit lane))) (bit_not w64 (bit_or (2 ^ 32 - 1) (writer_bit lane)))

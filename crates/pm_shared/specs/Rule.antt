@@ -5,10 +5,12 @@ use Rattle.std.specs.List.{list_any}
 use mathlib.Core.Option.{some}
 use lib.ListN.{get_elem?}
 use Rattle.atomic_table.specs.Table.{State, Me}
+use Rattle.pm_layout.specs.declared.shape.Shape.{Shape}
 use Rattle.pm_view.specs.Founds.{Found}
 use Rattle.pm_view.specs.Steps.{Step}
 use Rattle.pm_view.specs.View.{View}
 use Rattle.pm_view.specs.Views.{after}
+use Rattle.pm_world.specs.Lawful.{IsLawful}
 use Rattle.pm_world.specs.Memory.{Memory, ZoneWord, bit}
 use Rattle.pm_world.specs.World.{Opening, Views, Past, World}
 use Rattle.pm_shared.specs.Placing.{table_size, memory_of}
@@ -68,3 +70,15 @@ lane_of v = (Lane v None, [])
 -- the step was made as it was answered, where r was found: the seat's view is the view after it, and the reply is what the view knew
 abbrev pub Made : (ℕ → Step) → View → ℕ → Me ℕ Knowledge → Type 0
 Made step v r n = (n ≡ lane_of (after v (step r))) × Found v (step r)
+
+-- a lane's seat may make this step, whatever it finds: of the lane of this number
+pub record SeatAsks (sh : Shape) (lane : ℕ) (me : Me ℕ Knowledge) (step : ℕ → Step) : Type 0 where
+  pub view : View
+  pub sees : me ≡ lane_of view
+  pub shape : view.fixed.shape ≡ sh
+  pub lane_is : view.fixed.lane ≡ lane
+  pub lawful : (r : ℕ) → IsLawful view (step r)
+
+-- and made it, with this reply
+abbrev pub SeatMade : Me ℕ Knowledge → Me ℕ Knowledge → Step → Type 0
+SeatMade old new s = (v : View) → old ≡ lane_of v → (new ≡ lane_of (after v s)) × Found v s

@@ -2,8 +2,10 @@
 #![tactic(auto)]
 
 mod mem;
+mod places;
 mod plays;
 mod rule;
+mod steps;
 
 pub use mem::{LaneSeat, SharedMem};
 pub use rule::{Beginning, Knows, WorldRule};

@@ -48,3 +48,16 @@ apart sh l m inside same = let a = lies sh l inside in let b = lies sh m (subst 
     ⊎_elim (λ (e : sort_of l ≡ sort_of m). let f : start_of sh (sort_of l) ≡ start_of sh (sort_of m) = ap (start_of sh) e in let x = a.at in let y = b.at in let n : number_of l ≡ number_of m = omega arith in
     sym (from_is l) ∙ (ap (λ s. from s (number_of l)) e ∙ (ap (from (sort_of m)) n ∙ from_is m)))
     (λ (ne : sort_of l ≢ sort_of m). ⊎_elim (λ (less : sort_of l < sort_of m). let h = below sh l m a b less in absurd (omega arith)) (λ (le : sort_of m ≤ sort_of l). let h = below sh m l b a (omega arith) in absurd (omega arith)) (cases_lt (sort_of l) (sort_of m))) (cases_eq (sort_of l) (sort_of m))
+
+-- a location that the pool has lies in the table
+pub below_size : (sh : Shape) (l : Location) → number_of l < count_of sh (sort_of l) → place sh l ≡ start_of sh (sort_of l) + number_of l → place sh l < table_size sh
+below_size sh l fewer is = let n : start_of sh (suc (sort_of l)) ≡ start_of sh (sort_of l) + count_of sh (sort_of l) = refl in let h : start_of sh (suc (sort_of l)) ≤ table_size sh = start_after sh (suc (sort_of l)) 8 (few l) in omega arith
+  where
+    few : (l : Location) → suc (sort_of l) ≤ 8
+    few (PoolWord w) = omega arith
+    few (LockWord line) = omega arith
+    few (RunWord page) = omega arith
+    few (ZoneWord zone) = omega arith
+    few (ZoneLock zone) = omega arith
+    few CommitCounter = omega arith
+    few StopWord = omega arith
