@@ -24,7 +24,7 @@ use Rattle.pm_shared.specs.declared.mem.SharedMem.{SharedMem}
 use Rattle.pm_shared.specs.Openings.{opening_of, TableAllows}
 use Rattle.pm_shared.specs.Placing.{sort_of, number_of, count_of, start_of, table_size, place, memory_of, kept_bits}
 use Rattle.pm_shared.specs.Plays.{tells, looks_at_lock, looks_at_zone, Looked, occupies_zone}
-use Rattle.pm_shared.specs.Rule.{Knowledge, Pool, Lane, Spent, Bound, BoundHolds, Made, Ruled, lane_of, SeatAsks, SeatFits, Owned}
+use Rattle.pm_shared.specs.Rule.{Knowledge, Pool, Lane, Spent, Bound, BoundHolds, Made, Ruled, lane_of, SeatAsks, SeatMade, SeatFits, Owned}
 use Rattle.pm_shared.proofs.Allows.{Before, allows}
 use Rattle.pm_shared.proofs.Asked.{one_view, number_is, below_place, few_lanes}
 use Rattle.pm_shared.proofs.Moving.{At, found_at, mode_known, write_gives, read_gives, occupy_won, occupy_lost, clear_still}
@@ -44,7 +44,7 @@ before o s r id v b here = let fit = r.seats id (Lane v b) here in record { view
 
 -- ---- HOW THE LANE HOLDS A LINE
 module _ (m : SharedMem) (lane : ℕ) (me : Me ℕ Knowledge) (line i : ℕ) (ask : SeatAsks m.shape lane me (λ r. Give line)) (few : lane < m.shape.lanes) (inside : line < words_of m.shape / 8) (is : i ≡ place m.shape (LockWord line)) where
-  o : Opening
+  abbrev o : Opening
   o = opening_of m.table.shared.key
 
   at_lock : (words : List ℕ) → Before o words ask.view None → At o.shape words i (LockWord line)
@@ -101,7 +101,7 @@ module _ (m : SharedMem) (lane : ℕ) (me : Me ℕ Knowledge) (zone bits i : ℕ
   number_here w e = number_is m.shape (ZoneWord zone) i is inside w.fixed.shape (ap (λ (u : View). u.fixed.shape) e ∙ ask.shape)
 
   -- where the bits are clear they might be set, where not they are refused
-  would : ℕ → ℕ
+  abbrev would : ℕ → ℕ
   would n = cond (eqb (bit_and n bits) 0) (bit_or n bits) n
 
   would_move : (words : List ℕ) → Before (opening_of m.table.shared.key) words ask.view None → Moves ask.view.fixed.lane (Occupy (Zone zone) bits (eqb (bit_and (slice_index words i) bits) 0)) (memory_of (opening_of m.table.shared.key).shape words) (memory_of (opening_of m.table.shared.key).shape (set words i (would (slice_index words i))))
@@ -191,3 +191,13 @@ module _ (m : SharedMem) (lane : ℕ) (me : Me ℕ Knowledge) (zone bits i : ℕ
       (q.0, q.1, q.2, q.3, λ w c e. let v_is : w ≡ v = one_view w v (Some c) (Some b) now e saw in
           subst (λ z. Made (λ _. Occupy (Zone z) bits true) w (slice_index s.words i) (q.0, Rattle.atomic_table.specs.Table.carried_after now.1 q.1)) (sym (number_here w v_is))
           (subst (λ (u : View). Made (λ _. Occupy (Zone zone) bits true) u (slice_index s.words i) (q.0, Rattle.atomic_table.specs.Table.carried_after now.1 q.1)) (sym v_is) q.4))
+
+  pub refused_zone : (r : ℕ) (new : Me ℕ Knowledge) → looks_at_zone (step 0 i bits bits none) me r new → bit_and r bits ≢ 0 → SeatMade me new (Occupy (Zone zone) bits false)
+  refused_zone r new told set_ w e = let v_is : w ≡ ask.view = one_view w ask.view None None me e ask.sees in
+      let t : Made (λ _. Occupy (Zone (i - start_of w.fixed.shape 3)) bits false) w r new = subst (λ b. Looked w (step 0 i bits bits none) b r new) (ne_eqb (bit_and r bits) 0 set_) (told w e) in
+      subst (λ z. Made (λ _. Occupy (Zone z) bits false) w r new) (number_here w v_is) t
+
+  pub taken_zone : (r q : ℕ) (now new : Me ℕ Knowledge) → looks_at_zone (step 0 i bits bits none) me r now → bit_and r bits ≡ 0 → occupies_zone (step 0 i bits 0 none) now q new → SeatMade me new (Occupy (Zone zone) bits true)
+  taken_zone r q now new told clear took w e = let v_is : w ≡ ask.view = one_view w ask.view None None me e ask.sees in
+      let saw : now ≡ (Lane w (Some (record { zone = i - start_of w.fixed.shape 3; bits = r })), []) = subst (λ b. Looked w (step 0 i bits bits none) b r now) (eq-eqb (bit_and r bits) 0 clear) (told w e) in
+      subst (λ z. Made (λ _. Occupy (Zone z) bits true) w q new) (number_here w v_is) (took w (record { zone = i - start_of w.fixed.shape 3; bits = r }) saw)

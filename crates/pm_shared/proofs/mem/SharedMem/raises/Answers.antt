@@ -12,6 +12,7 @@ use Rattle.pm_view.specs.Steps.Step.{Load, Store, Or, And, Flush, Drain, TakeWri
 use Rattle.pm_world.specs.Memory.{PoolWord, LockWord, RunWord, ZoneWord, ZoneLock, CommitCounter, StopWord}
 use Rattle.pm_shared.specs.Placing.{start_of}
 use Rattle.pm_shared.proofs.Asked.{asked, gave, in_shape, at_inside, below_place, word_is, number_is, run_inside, run_whole, run_is, twice_not, few_lanes, draw_room}
+use Rattle.pm_shared.specs.Rule.{SeatMade}
 use Rattle.pm_shared.proofs.Moving as moves
 use Rattle.pm_shared.proofs.mem.SharedMem.raises.Goals as goal
 
@@ -28,6 +29,6 @@ swap_from-requires-clause-step c = asked c.args.self.now c.args.lane c.args.seat
     (λ words size B fits. moves.raise_moves c.args.self.now.shape words c.lock_at.result c.args.lane c.args.line c.reader-own.result c.writer.result (few_lanes c.args.self.now.shape c.args.lane c.requires.few) c.reader-own.ensures c.writer.ensures (record { is = c.lock_at.ensures; inside = below_place c.args.self.now.shape (LockWord c.args.line) (in_shape _ _ _ _ c.requires.asks (λ (sh : Shape). c.args.line < words_of sh / 8) (c.requires.asks.lawful 0).allowed.inside); size = size }))
 
 pub returns-clause-made : goal.returns-clause-made
-returns-clause-made c = gave c.args.self.now c.args.lane c.args.seat.now.me (λ v st r. Raise (st.word - start_of v.fixed.shape 1) (eqb r st.first)) (step 0 c.lock_at.result c.reader-own.result c.writer.result none) (λ r. Raise c.args.line (eqb r (reader_bit c.args.lane))) c.requires.asks
+returns-clause-made c = subst (λ o. SeatMade c.args.seat.now.me c.swap_from.new.seat.me (Raise c.args.line (eqb c.swap_from.result o))) (sym c.reader-own.ensures) (gave c.args.self.now c.args.lane c.args.seat.now.me (λ v st r. Raise (st.word - start_of v.fixed.shape 1) (eqb r st.first)) (step 0 c.lock_at.result c.reader-own.result c.writer.result none) (λ r. Raise c.args.line (eqb r (reader_bit c.args.lane))) c.requires.asks
     (λ v s l r. ap (λ n. Raise n (eqb r c.reader-own.result)) (number_is c.args.self.now.shape (LockWord c.args.line) c.lock_at.result c.lock_at.ensures (in_shape _ _ _ _ c.requires.asks (λ (sh : Shape). c.args.line < words_of sh / 8) (c.requires.asks.lawful 0).allowed.inside) v.fixed.shape s) ∙ ap (λ o. Raise c.args.line (eqb r o)) c.reader-own.ensures)
-    c.swap_from.result c.swap_from.new.seat.me c.swap_from.ensures.told
+    c.swap_from.result c.swap_from.new.seat.me c.swap_from.ensures.told)
