@@ -71,12 +71,18 @@ module _ (m : SharedMem) (lane : ℕ) (me : Me ℕ Knowledge) (step : View → T
   asked id i f moves s rule homes here fits =
       let o : Opening = opening_of m.table.shared.key in
       let moved : (words : List ℕ) → Before o words ask.view None → slice_index words i < 18446744073709551616 → Moves ask.view.fixed.lane (actual (slice_index words i)) (memory_of o.shape words) (memory_of o.shape (set words i (f (slice_index words i)))) = λ words B l.
-          subst (λ k. Moves k (actual (slice_index words i)) (memory_of o.shape words) (memory_of o.shape (set words i (f (slice_index words i))))) (sym ask.lane_is)
-          (subst (λ z. Moves lane (actual (slice_index words i)) (memory_of z words) (memory_of z (set words i (f (slice_index words i))))) (sym shape_is) (moves words (B.size ∙ ap table_size shape_is) B l)) in
-      let q = subst (λ (n : Me ℕ Knowledge). Allows (Ruled o) 0 id n i f (Made actual ask.view)) (sym ask.sees) (allows o id ask.view None i f actual ask.lawful moved) s rule homes here fits in
-      (q.0, q.1, q.2, q.3, λ w e. let v_is : w ≡ ask.view = one_view w ask.view None None me e ask.sees in let r : ℕ = slice_index s.words i in
-        (q.4.0 ∙ ap lane_of (ap (λ (u : View). after u (actual r)) (sym v_is) ∙ ap (after w) (sym (read_off w v_is r))),
-        subst (λ z. Found w z) (sym (read_off w v_is r)) (subst (λ (u : View). Found u (actual r)) (sym v_is) q.4.1)))
+      subst (λ k. Moves k (actual (slice_index words i)) (memory_of o.shape words) (memory_of o.shape (set words i (f (slice_index words i))))) (sym ask.lane_is)
+      (subst (λ z. Moves lane (actual (slice_index words i)) (memory_of z words) (memory_of z (set words i (f (slice_index words i))))) (sym shape_is) (moves words (B.size ∙ ap table_size shape_is) B l)) in
+      let q = subst (λ (n : Me ℕ Knowledge). Allows (Ruled o) 0 id n i f (Made actual ask.view)) (sym ask.sees) (allows o id ask.view None i f actual ask.lawful moved) s rule homes here fits in (
+        q.0,
+        q.1,
+        q.2,
+        q.3,
+        λ w e. let v_is : w ≡ ask.view = one_view w ask.view None None me e ask.sees in let r : ℕ = slice_index s.words i in (
+          q.4.0 ∙ ap lane_of (ap (λ (u : View). after u (actual r)) (sym v_is) ∙ ap (after w) (sym (read_off w v_is r))),
+          subst (λ z. Found w z) (sym (read_off w v_is r)) (subst (λ (u : View). Found u (actual r)) (sym v_is) q.4.1),
+        ),
+      )
 
   pub gave : (r : ℕ) (new : Me ℕ Knowledge) → tells step st me r new → SeatMade me new (actual r)
   gave r new told w e = let v_is : w ≡ ask.view = one_view w ask.view None None me e ask.sees in let t = told w e in

@@ -59,14 +59,14 @@ module _ (m : SharedMem) (lane : ℕ) (me : Me ℕ Knowledge) (line i : ℕ) (as
 
   pub looks_lock : (id : ℕ) → TableAllows m.table.shared.key id me i (λ n. n) (looks_at_lock (step 0 i 0 0 none) me)
   looks_lock id s r homes here fits = let here' : get_elem? s.views id ≡ some (Lane ask.view None) = here ∙ ap (λ (n : Me ℕ Knowledge). some n.0) ask.sees in let x : ℕ = slice_index s.words i in let B = before o s r id ask.view None here' in (
-      me.0,
-      keeps,
-      tt,
-      subst (Ruled o) (λ j. record { words = sym (set_same s.words i) j; homes = s.homes; views = sym (set_again s.views id me.0 here) j }) r,
-      λ w e. let v_is : w ≡ ask.view = one_view w ask.view None None me e ask.sees in
-          let n_is : i - start_of w.fixed.shape 1 ≡ line = number_is m.shape (LockWord line) i is inside w.fixed.shape (ap (λ (u : View). u.fixed.shape) v_is ∙ ask.shape) in
-          (λ j. (me.0, no_slots j), ap (locked w.claims) n_is ∙ (ap (λ (u : View). locked u.claims line) v_is ∙ mode s.words B)),
-    )
+    me.0,
+    keeps,
+    tt,
+    subst (Ruled o) (λ j. record { words = sym (set_same s.words i) j; homes = s.homes; views = sym (set_again s.views id me.0 here) j }) r,
+    λ w e. let v_is : w ≡ ask.view = one_view w ask.view None None me e ask.sees in
+        let n_is : i - start_of w.fixed.shape 1 ≡ line = number_is m.shape (LockWord line) i is inside w.fixed.shape (ap (λ (u : View). u.fixed.shape) v_is ∙ ask.shape) in
+        (λ j. (me.0, no_slots j), ap (locked w.claims) n_is ∙ (ap (λ (u : View). locked u.claims line) v_is ∙ mode s.words B)),
+  )
     where
       no_slots : me.1 ≡ me.1
       no_slots = refl
@@ -157,16 +157,19 @@ module _ (m : SharedMem) (lane : ℕ) (me : Me ℕ Knowledge) (zone bits i : ℕ
       )
         where
           mine : SeatFits o (memory_of o.shape s.words) r.views r.owner id (Lane ask.view (Some b))
-          mine = ((r.seats id (Lane ask.view None) here').0, record {
-            held = (ask.lawful 0).allowed.open_;
-            within = λ n t. let f = found_at o.shape s.words i (ZoneWord zone) (here_at s.words ask.view None (before o s r id ask.view None here')) in ap (λ y. bit y n) (sym f) ∙ t;
-          })
+          mine = (
+            (r.seats id (Lane ask.view None) here').0,
+            record {
+              held = (ask.lawful 0).allowed.open_;
+              within = λ n t. let f = found_at o.shape s.words i (ZoneWord zone) (here_at s.words ask.view None (before o s r id ask.view None here')) in ap (λ y. bit y n) (sym f) ∙ t;
+            },
+          )
 
       taken : bit_and x bits ≢ 0 → Goal
       taken set_ = let no : eqb (bit_and x bits) 0 ≡ false = ne_eqb (bit_and x bits) 0 set_ in
           let would_is : would x ≡ either (eqb x bits) bits x = ap (λ t. cond t (bit_or x bits) x) no ∙ sym (pulsed x) in
           let q = subst (λ (n : Me ℕ Knowledge). Allows (Ruled o) 0 id n i would (Made (λ r. Occupy (Zone zone) bits (eqb (bit_and r bits) 0)) ask.view)) (sym ask.sees)
-              (allows o id ask.view None i would (λ r. Occupy (Zone zone) bits (eqb (bit_and r bits) 0)) ask.lawful (λ words B l. would_move words B)) s r homes here fits in (
+          (allows o id ask.view None i would (λ r. Occupy (Zone zone) bits (eqb (bit_and r bits) 0)) ask.lawful (λ words B l. would_move words B)) s r homes here fits in (
             q.0,
             q.1,
             q.2,
@@ -185,12 +188,17 @@ module _ (m : SharedMem) (lane : ℕ) (me : Me ℕ Knowledge) (zone bits i : ℕ
       let b : Bound = record { zone = i - start_of v.fixed.shape 3; bits = r } in
       let sure : (k : ℕ) → IsLawful v (Occupy (Zone zone) bits true) = λ k. record { allowed = (ask.lawful 0).allowed; due = λ e. absurd (both_ways false refl e) } in
       let moves : (words : List ℕ) → Before o words v (Some b) → slice_index words i < 18446744073709551616 → Moves v.fixed.lane (Occupy (Zone zone) bits true) (memory_of o.shape words) (memory_of o.shape (set words i (bit_or (slice_index words i) bits))) = λ words B l.
-          let A = here_at words v (Some b) B in let f = found_at o.shape words i (ZoneWord zone) A in
-          occupy_won o.shape words i v.fixed.lane (Zone zone) bits (clear_still (slice_index words i) r bits (λ n t. B.bound.within n (ap (λ z. bit (memory_of o.shape words (ZoneWord z)) n) (number_here v refl) ∙ (ap (λ y. bit y n) f ∙ t))) clear) A in
-      let q = subst (λ (n : Me ℕ Knowledge). Allows (Ruled o) 0 id n i (λ n. bit_or n bits) (Made (λ _. Occupy (Zone zone) bits true) v)) (sym saw) (allows o id v (Some b) i (λ n. bit_or n bits) (λ _. Occupy (Zone zone) bits true) sure moves) s rule homes here fits in
-      (q.0, q.1, q.2, q.3, λ w c e. let v_is : w ≡ v = one_view w v (Some c) (Some b) now e saw in
-          subst (λ z. Made (λ _. Occupy (Zone z) bits true) w (slice_index s.words i) (q.0, Rattle.atomic_table.specs.Table.carried_after now.1 q.1)) (sym (number_here w v_is))
-          (subst (λ (u : View). Made (λ _. Occupy (Zone zone) bits true) u (slice_index s.words i) (q.0, Rattle.atomic_table.specs.Table.carried_after now.1 q.1)) (sym v_is) q.4))
+      let A = here_at words v (Some b) B in let f = found_at o.shape words i (ZoneWord zone) A in
+      occupy_won o.shape words i v.fixed.lane (Zone zone) bits (clear_still (slice_index words i) r bits (λ n t. B.bound.within n (ap (λ z. bit (memory_of o.shape words (ZoneWord z)) n) (number_here v refl) ∙ (ap (λ y. bit y n) f ∙ t))) clear) A in
+      let q = subst (λ (n : Me ℕ Knowledge). Allows (Ruled o) 0 id n i (λ n. bit_or n bits) (Made (λ _. Occupy (Zone zone) bits true) v)) (sym saw) (allows o id v (Some b) i (λ n. bit_or n bits) (λ _. Occupy (Zone zone) bits true) sure moves) s rule homes here fits in (
+        q.0,
+        q.1,
+        q.2,
+        q.3,
+        λ w c e. let v_is : w ≡ v = one_view w v (Some c) (Some b) now e saw in
+            subst (λ z. Made (λ _. Occupy (Zone z) bits true) w (slice_index s.words i) (q.0, Rattle.atomic_table.specs.Table.carried_after now.1 q.1)) (sym (number_here w v_is))
+            (subst (λ (u : View). Made (λ _. Occupy (Zone zone) bits true) u (slice_index s.words i) (q.0, Rattle.atomic_table.specs.Table.carried_after now.1 q.1)) (sym v_is) q.4),
+      )
 
   pub refused_zone : (r : ℕ) (new : Me ℕ Knowledge) → looks_at_zone (step 0 i bits bits none) me r new → bit_and r bits ≢ 0 → SeatMade me new (Occupy (Zone zone) bits false)
   refused_zone r new told set_ w e = let v_is : w ≡ ask.view = one_view w ask.view None None me e ask.sees in

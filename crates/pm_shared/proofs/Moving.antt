@@ -62,24 +62,24 @@ module _ (sh : Shape) (words : List ℕ) (i k : ℕ) where
   pub write_moves : (line w : ℕ) → w ≡ writer_bit k → At sh words i (LockWord line) → Does (TakeWrite line (eqb (slice_index words i) 0)) (either (eqb (slice_index words i) 0) w (slice_index words i))
   write_moves line w e A = let x : ℕ = slice_index words i in let f = found_at sh words i (LockWord line) A in ⊎_elim
       (λ (hit : x ≡ 0). let t = turns_to sh words i (LockWord line) A w in subst (λ b. Does (TakeWrite line b) (either b w x)) (sym (eq-eqb x 0 hit))
-          (t.0, ap (with_writer k) f ∙ (write_won k x hit ∙ ap Some (ap lock_said (sym e) ∙ sym t.1))))
+      (t.0, ap (with_writer k) f ∙ (write_won k x hit ∙ ap Some (ap lock_said (sym e) ∙ sym t.1))))
       (λ (miss : x ≢ 0). subst (λ b. Does (TakeWrite line b) (either b w x)) (sym (ne_eqb x 0 miss))
-          (stays_at sh words i (LockWord line) A x refl, ap (with_writer k) f ∙ write_lost k x miss)) (cases_eq x 0)
+      (stays_at sh words i (LockWord line) A x refl, ap (with_writer k) f ∙ write_lost k x miss)) (cases_eq x 0)
 
   pub read_moves : (line b : ℕ) → k < 32 → b ≡ reader_bit k → At sh words i (LockWord line) → Does (TakeRead line (eqb (slice_index words i / 2 ^ 32) 0)) (bit_or (slice_index words i) b)
   read_moves line b few e A = let x : ℕ = slice_index words i in let f = found_at sh words i (LockWord line) A in let new : ℕ = bit_or x b in ⊎_elim
       (λ (hit : x / 2 ^ 32 ≡ 0). let t = turns_to sh words i (LockWord line) A new in subst (λ y. Does (TakeRead line y) new) (sym (eq-eqb (x / 2 ^ 32) 0 hit))
-          (t.0, ap (with_reader k) f ∙ (read_won k x few hit ∙ ap Some (ap (λ y. lock_said (bit_or x y)) (sym e) ∙ sym t.1))))
+      (t.0, ap (with_reader k) f ∙ (read_won k x few hit ∙ ap Some (ap (λ y. lock_said (bit_or x y)) (sym e) ∙ sym t.1))))
       (λ (miss : x / 2 ^ 32 ≢ 0). subst (λ y. Does (TakeRead line y) new) (sym (ne_eqb (x / 2 ^ 32) 0 miss))
-          (stays_at sh words i (LockWord line) A new (ap (λ y. lock_said (bit_or x y)) e ∙ read_same k x few miss), ap (with_reader k) f ∙ read_lost k x miss)) (cases_eq (x / 2 ^ 32) 0)
+      (stays_at sh words i (LockWord line) A new (ap (λ y. lock_said (bit_or x y)) e ∙ read_same k x few miss), ap (with_reader k) f ∙ read_lost k x miss)) (cases_eq (x / 2 ^ 32) 0)
 
   pub raise_moves : (line own w : ℕ) → k < 32 → own ≡ reader_bit k → w ≡ writer_bit k → At sh words i (LockWord line) → Does (Raise line (eqb (slice_index words i) (reader_bit k))) (either (eqb (slice_index words i) own) w (slice_index words i))
   raise_moves line own w few o e A = subst (λ z. Does (Raise line (eqb (slice_index words i) (reader_bit k))) (either (eqb (slice_index words i) z) w (slice_index words i))) (sym o) (
       let x : ℕ = slice_index words i in let f = found_at sh words i (LockWord line) A in ⊎_elim
       (λ (hit : x ≡ reader_bit k). let t = turns_to sh words i (LockWord line) A w in subst (λ b. Does (Raise line b) (either b w x)) (sym (eq-eqb x (reader_bit k) hit))
-          (t.0, ap (with_raised k) f ∙ (raise_won k x few hit ∙ ap Some (ap lock_said (sym e) ∙ sym t.1))))
+      (t.0, ap (with_raised k) f ∙ (raise_won k x few hit ∙ ap Some (ap lock_said (sym e) ∙ sym t.1))))
       (λ (miss : x ≢ reader_bit k). subst (λ b. Does (Raise line b) (either b w x)) (sym (ne_eqb x (reader_bit k) miss))
-          (stays_at sh words i (LockWord line) A x refl, ap (with_raised k) f ∙ raise_lost k x few miss)) (cases_eq x (reader_bit k)))
+      (stays_at sh words i (LockWord line) A x refl, ap (with_raised k) f ∙ raise_lost k x few miss)) (cases_eq x (reader_bit k)))
 
   -- given back: by the bits that a writer, or a reader, keeps
   pub write_gives : (line bits : ℕ) → k < 32 → bits ≡ bit_not w64 (bit_or (2 ^ 32 - 1) (writer_bit k)) → slice_index words i / 2 ^ 32 ≢ 0 → At sh words i (LockWord line) → Does (Give line) (bit_and (slice_index words i) bits)
@@ -122,14 +122,14 @@ module _ (sh : Shape) (words : List ℕ) (i k : ℕ) where
   set_already : (x b : ℕ) → bit_and x (2 ^ b) ≢ 0 → bit_or x (2 ^ b) ≡ x
   set_already x b taken = let p = and_pow x b in let top = bit_at-lt x b in let one : bit_at x b ≡ 1 = ⊎_elim (λ (z : bit_at x b ≡ 0). let none : 0 * 2 ^ b ≡ 0 = omega arith in absurd (taken (p ∙ (ap (λ y. y * 2 ^ b) z ∙ none)))) (λ (n : bit_at x b ≢ 0). omega (arith, top)) (cases_eq (bit_at x b) 0) in
       same_from_bits (bit_or x (2 ^ b)) x (λ j. let o = bit_at_or x (2 ^ b) j in ⊎_elim
-          (λ (e : j ≡ b). let s = bit_at-pow_same b in let u : bit_at x j ≡ 1 = ap (bit_at x) e ∙ one in let v : bit_at (2 ^ b) j ≡ 1 = ap (bit_at (2 ^ b)) e ∙ s in omega (arith, o, u, v))
-          (λ (ne : j ≢ b). let z = bit_at-pow_other b j ne in omega (arith, o, z)) (cases_eq j b))
+      (λ (e : j ≡ b). let s = bit_at-pow_same b in let u : bit_at x j ≡ 1 = ap (bit_at x) e ∙ one in let v : bit_at (2 ^ b) j ≡ 1 = ap (bit_at (2 ^ b)) e ∙ s in omega (arith, o, u, v))
+      (λ (ne : j ≢ b). let z = bit_at-pow_other b j ne in omega (arith, o, z)) (cases_eq j b))
 
   pub occupy_run : (at b bits : ℕ) → bits ≡ 2 ^ b → At sh words i (occ_at (Run at)) → Does (Occupy (Run at) bits (eqb (bit_and (slice_index words i) bits) 0)) (bit_or (slice_index words i) bits)
   occupy_run at b bits e A = let x : ℕ = slice_index words i in ⊎_elim
       (λ (free : bit_and x bits ≡ 0). subst (λ t. Does (Occupy (Run at) bits t) (bit_or x bits)) (sym (eq-eqb (bit_and x bits) 0 free)) (occupy_won (Run at) bits free A))
       (λ (taken : bit_and x bits ≢ 0). subst (λ t. Does (Occupy (Run at) bits t) (bit_or x bits)) (sym (ne_eqb (bit_and x bits) 0 taken))
-          (occupy_lost (Run at) bits (bit_or x bits) (ap (bit_or x) e ∙ set_already x b (λ q. taken (ap (bit_and x) e ∙ q))) taken A)) (cases_eq (bit_and x bits) 0)
+      (occupy_lost (Run at) bits (bit_or x bits) (ap (bit_or x) e ∙ set_already x b (λ q. taken (ap (bit_and x) e ∙ q))) taken A)) (cases_eq (bit_and x bits) 0)
 
   pub vacate_moves : (at : Occ) (bits kept : ℕ) → kept ≡ bit_not w64 bits → At sh words i (occ_at at) → Does (Vacate at bits) (bit_and (slice_index words i) kept)
   vacate_moves at bits kept e A = let t = occ_turns at (bit_and (slice_index words i) kept) A in (t.0, t.1 ∙ (ap (bit_and (slice_index words i)) e ∙ ap (λ y. bit_and y (bit_not w64 bits)) (sym (occ_found at A))))

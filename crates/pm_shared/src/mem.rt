@@ -6,7 +6,6 @@ ghost use Rattle.pm_layout.specs.Chunks.{words_of};
 ghost use Rattle.pm_shared.specs.Openings.{TableAllows};
 ghost use Rattle.pm_shared.specs.Placing.{table_size};
 
-
 use crate::rule::{Beginning, Knows, WorldRule};
 use atomic_table::{Play, Seat, Table};
 use pm_layout::Shape;
@@ -87,14 +86,22 @@ impl SharedMem {
     }
 
     /// Makes the word `to` where it is `from`, and tells the word before.
-    pub fn swap_from<M: Play<u8, Knows>>(&self, seat: &mut LaneSeat, word: usize, from: u64, to: u64) -> u64
+    pub fn swap_from<M: Play<u8, Knows>>(
+        &self,
+        seat: &mut LaneSeat,
+        word: usize,
+        from: u64,
+        to: u64,
+    ) -> u64
         requires table { seat.old.table_id ≡ self.now.table.shared.table_id }
         requires word { word < table_size self.now.shape }
         requires step { TableAllows self.now.table.shared.key seat.old.id seat.old.me word (λ n. either (n == from) to n) (M.then (step 0 word from to none) seat.old.me) }
         ensures table { seat.new.table_id ≡ seat.old.table_id }
         ensures told { M.then (step 0 word from to none) seat.old.me result seat.new.me }
     {
-        self.table.shared.compare_exchange::<M>(seat, word, from, to)
+        self.table
+            .shared
+            .compare_exchange::<M>(seat, word, from, to)
     }
 
     /// Leaves the word as it is, and tells it; the step has a number with it.
@@ -105,6 +112,8 @@ impl SharedMem {
         ensures table { seat.new.table_id ≡ seat.old.table_id }
         ensures told { M.then (step 0 word about about none) seat.old.me result seat.new.me }
     {
-        self.table.shared.compare_exchange::<M>(seat, word, about, about)
+        self.table
+            .shared
+            .compare_exchange::<M>(seat, word, about, about)
     }
 }

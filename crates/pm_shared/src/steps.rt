@@ -7,8 +7,7 @@ ghost use Rattle.pm_shared.specs.Placing.{kept_bits};
 ghost use Rattle.pm_shared.specs.Rule.{SeatAsks, SeatMade};
 
 use crate::mem::LaneSeat;
-use crate::plays;
-use crate::SharedMem;
+use crate::{SharedMem, plays};
 use pm_layout::MAX_LANES;
 
 /// The bits of lanes that read come before those of lanes that write; lanes count from 0 to 31.

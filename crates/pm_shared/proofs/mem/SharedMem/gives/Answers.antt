@@ -38,7 +38,7 @@ and-requires-clause-step c = asked c.args.self.now c.args.lane c.load-found.new.
     (λ v s l r. ap Give (number_is c.args.self.now.shape (LockWord c.args.line) c.lock_at-at.result c.lock_at-at.ensures (in_shape _ _ _ _ c.requires.asks (λ (sh : Shape). c.args.line < words_of sh / 8) (c.requires.asks.lawful 0).allowed.inside) v.fixed.shape s))
     c.load-found.new.seat.id c.lock_at-at.result (λ n. bit_and n c.kept.result)
     (λ words size B fits. subst (λ z. Moves c.args.lane (Give c.args.line) (memory_of c.args.self.now.shape words) (memory_of c.args.self.now.shape (set words c.lock_at-at.result (bit_and (slice_index words c.lock_at-at.result) z)))) (sym c.kept.ensures)
-        (gives_moves c.args.self.now c.args.lane c.args.seat.now.me c.args.line c.lock_at-at.result c.requires.asks c.requires.few (in_shape _ _ _ _ c.requires.asks (λ (sh : Shape). c.args.line < words_of sh / 8) (c.requires.asks.lawful 0).allowed.inside) c.lock_at-at.ensures c.load-found.result words size (let told = c.load-found.ensures.told c.requires.asks.view c.requires.asks.sees in ap (λ n. locked c.requires.asks.view.claims n) (sym (number_is c.args.self.now.shape (LockWord c.args.line) c.lock_at-at.result c.lock_at-at.ensures (in_shape _ _ _ _ c.requires.asks (λ (sh : Shape). c.args.line < words_of sh / 8) (c.requires.asks.lawful 0).allowed.inside) c.requires.asks.view.fixed.shape c.requires.asks.shape)) ∙ told.1) B))
+    (gives_moves c.args.self.now c.args.lane c.args.seat.now.me c.args.line c.lock_at-at.result c.requires.asks c.requires.few (in_shape _ _ _ _ c.requires.asks (λ (sh : Shape). c.args.line < words_of sh / 8) (c.requires.asks.lawful 0).allowed.inside) c.lock_at-at.ensures c.load-found.result words size (let told = c.load-found.ensures.told c.requires.asks.view c.requires.asks.sees in ap (λ n. locked c.requires.asks.view.claims n) (sym (number_is c.args.self.now.shape (LockWord c.args.line) c.lock_at-at.result c.lock_at-at.ensures (in_shape _ _ _ _ c.requires.asks (λ (sh : Shape). c.args.line < words_of sh / 8) (c.requires.asks.lawful 0).allowed.inside) c.requires.asks.view.fixed.shape c.requires.asks.shape)) ∙ told.1) B))
 
 pub returns-clause-made : goal.returns-clause-made
 returns-clause-made c v e = gave c.args.self.now c.args.lane c.load-found.new.seat.me (λ v st r. Give (st.word - start_of v.fixed.shape 1)) (step 0 c.lock_at-at.result c.kept.result 0 none) (λ r. Give c.args.line) (record { view = c.requires.asks.view; sees = (let told = c.load-found.ensures.told c.requires.asks.view c.requires.asks.sees in told.0) ∙ c.requires.asks.sees; shape = c.requires.asks.shape; lane_is = c.requires.asks.lane_is; lawful = c.requires.asks.lawful })
