@@ -1,0 +1,17 @@
+pub mod Held
+pub mod Spelled
+pub mod Footprints
+pub mod Calls
+pub mod Replayed
+pub mod Described
+pub mod Images
+pub mod Freshness
+pub mod Laws
+pub mod Torn
+pub mod Objects
+pub mod HeapChanges
+pub mod Writes
+pub mod Edits
+pub mod Facts
+pub mod OwnBlocks
+pub mod Scenes
