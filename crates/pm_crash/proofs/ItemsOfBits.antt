@@ -94,7 +94,7 @@ root_is_told sh class s header pool holds = ap (λ (p : PoolView). p.root) holds
 -- ---- OFFSETS
 
 -- blocks of two chunks don't begin at one place, nor do two of one run
-one_start : (lanes c d lines index many other : ℕ) → index < blocks_of lines → other < blocks_of many
+pub one_start : (lanes c d lines index many other : ℕ) → index < blocks_of lines → other < blocks_of many
     → block_place (8 * chunk_word lanes c) lines index ≡ block_place (8 * chunk_word lanes d) many other → c ≡ d
 one_start lanes c d lines index many other l m e = let a = run_fits lines index l in let b = run_fits many other m in
     let some = run_has_lines lines index l in let more = run_has_lines many other m in
@@ -104,7 +104,7 @@ one_start lanes c d lines index many other l m e = let a = run_fits lines index 
     chunk_apart : (lanes c d a b : ℕ) → a < 64 → b < 64 → 8 * chunk_word lanes c + 64 * a ≡ 8 * chunk_word lanes d + 64 * b → c ≡ d
     chunk_apart lanes c d a b l m e = omega arith
 
-same_index : (n i j : ℕ) → 1 ≤ n → n * i ≡ n * j → i ≡ j
+pub same_index : (n i j : ℕ) → 1 ≤ n → n * i ≡ n * j → i ≡ j
 same_index n i j some e = sym (mul-div_cancel_left i {n = n} (omega arith)) ∙ (ap (λ m. m / n) e ∙ mul-div_cancel_left j {n = n} (omega arith))
 
 pub offsets_tell : OffsetsTellBlocks

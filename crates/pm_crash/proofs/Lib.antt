@@ -33,3 +33,5 @@ pub mod Edited
 pub mod Effects
 pub mod OwnBlocks
 pub mod SceneSteps
+pub mod Missing
+pub mod FullZones

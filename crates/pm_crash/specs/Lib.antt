@@ -8,6 +8,7 @@ pub mod Images
 pub mod Freshness
 pub mod Laws
 pub mod Torn
+pub mod Answers
 pub mod Objects
 pub mod HeapChanges
 pub mod Writes

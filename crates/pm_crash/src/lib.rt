@@ -11,6 +11,7 @@
 //! `pm_model` for calls, `pm_image` for the meaning of words; docs/MODEL.md, "The crash theorem".
 #![tactic(auto)]
 
+mod answers;
 mod described;
 mod footprints;
 mod freshness;
@@ -21,6 +22,7 @@ mod scenes;
 mod torn;
 mod writes;
 
+pub use answers::reports_have_causes;
 pub use described::descriptors_have_classes;
 pub use footprints::footprints_stand;
 pub use freshness::histories_are_fresh;

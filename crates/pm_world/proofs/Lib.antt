@@ -94,3 +94,4 @@ pub mod OverlappingCalls
 pub mod Missed
 pub mod CausesKept
 pub mod OccupancyShown
+pub mod SoloStands

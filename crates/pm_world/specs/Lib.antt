@@ -22,3 +22,4 @@ pub mod OwnedBits
 pub mod LaneFields
 pub mod Causes
 pub mod CauseLaws
+pub mod SoloLanes

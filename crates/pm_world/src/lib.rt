@@ -46,5 +46,10 @@ pub use lent::{LentOperation, LentValue};
 pub use opening::{recovered_words_open_a_world, recovery_opens_a_world};
 pub use owned_bits::OwnedBits;
 pub use report_laws::{answers_have_causes, steps_show_causes, worlds_bear_reports};
-pub use solo_laws::{memory_survivors_survive_in_worlds, solo_calls_keep_worlds};
+pub use solo_laws::{
+    memory_survivors_survive_in_worlds, solo_calls_keep_worlds, solo_memory_stands_in_its_world,
+};
 pub use wrong_steps::wrong_steps_are_not_lawful;
+
+#[cfg(test)]
+mod tests;

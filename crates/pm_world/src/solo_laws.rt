@@ -1,4 +1,5 @@
 ghost use Rattle.pm_view.specs.Steps.{Step};
+ghost use Rattle.pm_world.specs.SoloLanes.{OpenedStands, StandsAfter, StandingSurvives};
 ghost use Rattle.pm_world.specs.SoloWorld.{CallsMove, CallsKeepWorlds, CallsKeepForms, SurvivorsAreTheWorlds};
 
 /// A law: each call of one lane's memory is one step of lane 0 on the words that lanes share; of a
@@ -15,4 +16,14 @@ pub fn solo_calls_keep_worlds()
 /// world. No code runs.
 pub fn memory_survivors_survive_in_worlds()
     ensures { SurvivorsAreTheWorlds }
+{}
+
+/// A law: where a memory's words open a world of one lane, the memory stands in that world, with
+/// lane 0 asked nothing and an empty history; so it does after each call that lane 0's view allows;
+/// and what a power failure may leave of a memory that stands in a world, it may leave of that
+/// world. No code runs.
+pub fn solo_memory_stands_in_its_world()
+    ensures opened { OpenedStands }
+    ensures calls { (step : Step) → StandsAfter step }
+    ensures survivors { StandingSurvives }
 {}
