@@ -9,7 +9,7 @@ ghost use Rattle.pm_shared.specs.Placing.{table_size};
 use crate::rule::{Beginning, Knows, WorldRule};
 use atomic_table::{Play, Seat, Table};
 use pm_layout::Shape;
-use std::alloc::{AllocError, Global};
+use std::alloc::Global;
 
 /// A seat of the table: what its lane knows, and nothing when a program runs.
 pub type LaneSeat = Seat<u8, Knows>;
