@@ -1,0 +1,9 @@
+pub mod Injective
+pub mod LockSaid
+pub mod Tables
+pub mod Bounds
+pub mod Constant
+pub mod Allows
+pub mod Moving
+pub mod Asked
+pub mod Looks

@@ -1,0 +1,5 @@
+pub mod Placing
+pub mod Rule
+pub mod Plays
+pub mod Openings
+pub mod Closings

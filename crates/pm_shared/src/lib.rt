@@ -1,0 +1,24 @@
+//! The words that all lanes of a pool share, as the words of one table of atomic words.
+//!
+//! The rule of the table is the world of `pm_world`: its words are the memory of a world, and each
+//! seat of the table knows a lane's view of that world, the views of lanes that the pool has still
+//! to hand out or has taken back, or nothing any more. `SharedMem` has the steps of a lane: each is
+//! one atomic step of the table and one lawful step of the lane whose seat makes it. Two load the
+//! word in a step before: a line's lock is released, and bits of a zone are taken. One lemma proves
+//! the steps of every kind from the world's law. No step waits, and none allocates.
+//!
+//! Still to come: the traits of a lane's memory over a seat; lanes split off the pool's seat and
+//! joined to it; how the table begins on a pool's words and ends; operations that are told in the
+//! history. Of these the definitions stand, in `Openings`, `Closings` and `Plays`. Until then
+//! nobody makes a `SharedMem`, and no lane runs on one. The crate stands on the kit's
+//! `atomic_table`.
+#![tactic(auto)]
+
+mod mem;
+mod places;
+mod plays;
+mod rule;
+mod steps;
+
+pub use mem::{LaneSeat, SharedMem};
+pub use rule::{Beginning, Knows, WorldRule};
