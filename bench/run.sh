@@ -1,14 +1,18 @@
 #!/usr/bin/env bash
-# Times of the program on the least and the largest pool beside `cp` of the same file, in milliseconds: the least of five runs, and how many
-# times `cp` each takes; and the times of ten million stores, and of ten thousand blocks reserved, by one lane alone. Run it by `make bench`; it is no
-# part of the gate.
+# Times of the program on the least and the largest pool beside `cp` of the same file: the least of five runs, in milliseconds, and how many
+# times `cp` each takes; and the times of ten million stores, and of ten thousand blocks reserved, by one lane alone. All are rows of
+# bench/times.csv, which a run makes anew. `check` and `info` have limits: of the largest pool 20 times `cp`, and of the least one 1.5 times
+# `/bin/true` and `cp` together. A run that passes a limit says so, and ends with status 1. Run it by `make bench`; it is no part of the gate.
 set -euo pipefail
 cd "$(dirname "$0")/.."
 program=build/pmempool
+table=bench/times.csv
 folder=$(mktemp -d)
 trap 'rm -rf "$folder"' EXIT
+head="$(date -u +%Y-%m-%dT%H:%MZ),$(nproc),$(git rev-parse --short HEAD)"
+passed=0
 
-# least TIMES COMMAND..: the least time of five runs, in microseconds; $file is removed before each run where it is a new one
+# least COMMAND..: the least time of five runs, in microseconds; $folder/new is removed before each run
 least() {
   local best=999999999 start end
   for _ in 1 2 3 4 5; do
@@ -16,28 +20,48 @@ least() {
     start=$(date +%s%N)
     "$@" > "$folder/out"
     end=$(date +%s%N)
-    [ $(((end - start) / 1000)) -lt $best ] && best=$(((end - start) / 1000))
+    if [ $(((end - start) / 1000)) -lt $best ]; then best=$(((end - start) / 1000)); fi
   done
   echo "$best"
 }
 
-row() { printf '%-28s %10.2f ms %8.1f times cp\n' "$1" "$(echo "$2" | awk '{print $1 / 1000}')" "$(echo "$2 $3" | awk '{print $1 / $2}')"; }
+# row POOL NAME TIME [CP [LIMIT]]: a row of the table, with the bytes of the pool; the times in microseconds
+row() {
+  local milliseconds times='' limit=''
+  milliseconds=$(awk "BEGIN { printf \"%.2f\", $3 / 1000 }")
+  if [ -n "${4-}" ]; then times=$(awk "BEGIN { printf \"%.1f\", $3 / $4 }"); fi
+  if [ -n "${5-}" ]; then limit=$(awk "BEGIN { printf \"%.2f\", $5 / 1000 }"); fi
+  echo "$head,$1,$2,$milliseconds,$times,$limit" >> "$folder/table"
+  printf '%-60s %10s ms %10s %s\n' "$2" "$milliseconds" "${times:+$times times cp}" "${limit:+at most $limit ms}"
+  if [ -n "${5-}" ] && [ "$3" -gt "$5" ]; then echo "$2 of $1 bytes is too slow"; passed=1; fi
+}
 
+echo 'date,processors,commit,pool_bytes,what,milliseconds,times_cp,limit_milliseconds' > "$folder/table"
 printf 'lane 0\nbegin root\nadd root 0 8\nwrite root 0 0102030405060708\ncommit\n' > "$folder/script"
 
 for shape in "1 1" "32 32"; do
   set -- $shape
   pool="$folder/pool-$1-$2"
   "$program" create "$pool" --lanes "$1" --zones "$2" --id 7 --layout bench --root 64 > /dev/null
+  bytes=$(stat -c %s "$pool")
+  true=$(least /bin/true)
   copy=$(least cp "$pool" "$folder/new")
   create=$(least "$program" create "$folder/new" --lanes "$1" --zones "$2" --id 7 --layout bench --root 64)
   dump=$(least "$program" dump "$pool")
+  check=$(least "$program" check "$pool")
+  [ "$(cat "$folder/out")" = consistent ]
+  info=$(least "$program" info "$pool")
+  [ "$(wc -l < "$folder/out")" = 12 ]
   exec=$(least "$program" exec "$pool" --script "$folder/script" --out "$folder/new" --layout bench)
-  printf 'a pool of %s bytes (%s lanes, %s zones)\n' "$(stat -c %s "$pool")" "$1" "$2"
-  row "cp" "$copy" "$copy"
-  row "create" "$create" "$copy"
-  row "dump" "$dump" "$copy"
-  row "exec of one small write" "$exec" "$copy"
+  if [ "$shape" = "1 1" ]; then limit=$(((true + copy) * 3 / 2)); else limit=$((copy * 20)); fi
+  echo "a pool of $bytes bytes ($1 lanes, $2 zones)"
+  row "$bytes" /bin/true "$true" "$copy"
+  row "$bytes" cp "$copy" "$copy"
+  row "$bytes" create "$create" "$copy"
+  row "$bytes" dump "$dump" "$copy"
+  row "$bytes" check "$check" "$copy" "$limit"
+  row "$bytes" info "$info" "$copy" "$limit"
+  row "$bytes" 'exec of one small write' "$exec" "$copy"
 done
 
 # The other two are programs of their own, outside the gate: their files end in .in, so that the gate takes them for no crate's. They are proved and
@@ -61,8 +85,11 @@ done
 stores=$(least "$root/crates/stores/out/stores")
 # eight stores, a flush and a drain each of 1,250,000 times
 [ "$(cat "$folder/out")" = 12500000 ]
-printf '%s %8.2f ms\n' '10,000,000 stores, a flush and a drain after each eighth' "$(echo "$stores" | awk '{print $1 / 1000}')"
+row '' '10000000 stores and a flush and a drain after each eighth' "$stores"
 
 reserve=$(least "$root/crates/reserve/out/reserve")
 [ "$(cat "$folder/out")" = 10000 ]
-printf '%s %8.2f ms\n' '10,000 blocks for objects of 64 bytes reserved in a pool of 32 zones' "$(echo "$reserve" | awk '{print $1 / 1000}')"
+row '' '10000 blocks for objects of 64 bytes in a pool of 32 zones' "$reserve"
+
+cp "$folder/table" "$table"
+exit $passed

@@ -1,9 +1,9 @@
-pub mod Texts
 pub mod FileBytes
-pub mod OptionCounts
 pub mod OneCommand
 pub mod OneLane
 pub mod Running
 pub mod NewNames
 pub mod Printing
+pub mod Checking
+pub mod Causes
 pub mod Completeness

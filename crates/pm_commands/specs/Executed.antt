@@ -1,5 +1,5 @@
 -- What a run of a script over pool files comes to: the theorem that the program is built for.
-use Rattle.std.specs.Prelude.{◌≡◌, ◌⊎◌, ℕ, ◌%◌, ◌≤◌, List, [], ◌∷◌, length, Option, None, Some}
+use Rattle.std.specs.Prelude.{◌≡◌, ◌⊎◌, ℕ, ◌%◌, ◌≤◌, List, [], ◌∷◌, length, Option, None, Some, ⊤}
 use Rattle.pm_words.specs.Words.{bytes_of, words_of}
 use Rattle.pm_image.specs.Means.{IsMeaning}
 use Rattle.pm_objects.specs.declared.history.Entry.{Entry}
@@ -7,9 +7,10 @@ use Rattle.pm_objects.specs.declared.pool.PoolView.{PoolView}
 use Rattle.pm_recover.specs.Recovery.{IsRecovered}
 use Rattle.solo_script.specs.Scripts.{IsBadLine, IsScript}
 use Rattle.solo_script.specs.Words.{lines}
-use Rattle.solo_script.specs.declared.fault.BadLine.{BadLine}
 use Rattle.solo_script.specs.declared.script.Script.{Script}
-use Rattle.pm_shelf.specs.Outside.{Held, IsFront, IsMissing, IsThere, IsWhole, MayAddPart, Rose}
+use Rattle.pm_options.specs.Words.{Exec}
+use Rattle.pm_script.specs.Stops.{stop_of}
+use Rattle.pm_shelf.specs.Outside.{Adds, Held, IsWhole, MayAddPart}
 use Rattle.pm_text.specs.Report.{report_text}
 use Rattle.pm_text.specs.declared.report.LaneEnd.{LaneEnd}
 use Rattle.std.specs.Borrow.{Bor}
@@ -19,15 +20,17 @@ use Rattle.solo_exec.specs.Letters.{AreGiven, Offsets, resolved}
 use Rattle.solo_exec.specs.Opening.{HasFewerLanes, IsOfOtherLayout, IsOpened}
 use Rattle.solo_exec.specs.Runs.{IsHistoryOf, LeavesReplay, MakesCallsOf}
 use Rattle.solo_exec.specs.Torn.{HasNoTornMatch}
-use Rattle.pm_commands.specs.Failures.{IsTooLong}
-use Rattle.pm_commands.specs.PoolFiles.{BytesFail, BytesMean, IsFaulty, limit}
-use Rattle.pm_commands.specs.Words.{Exec}
+use Rattle.pm_commands.specs.PoolFiles.{BytesFail, BytesMean, limit}
 use Rattle.pm_commands.specs.declared.failure.Failure.{Failure}
-use Rattle.pm_commands.specs.declared.failure.Failure.TheVariants.{Usage, Refused, Faulty, OtherLayout, FewerLanes, NotRead, TooLong, BadScript, NotWritten, NoMemory}
+use Rattle.pm_commands.specs.declared.failure.Failure.TheVariants.{Faulty, OtherLayout, FewerLanes, BadScript, NoMemory}
 
 -- the bytes of the longest script
 abbrev pub script_limit : ℕ
 script_limit = 1048576
+
+-- after how many counted calls lane 0 stops, if it does
+abbrev pub stop : Exec → Option ℕ
+stop e = stop_of 0 e.stops
 
 -- a script's run on the pool of these bytes leaves these bytes and this text: the report of a history of the script's calls. Lane 0 made the
 -- memory calls of the script's lines, one after another, up to its end, and what is left is the image that the keep number chooses of what was
@@ -45,10 +48,10 @@ pub record IsRunOver (source script_text : List ℕ) (e : Exec) (written text : 
   pub is_report : text ≡ report_text history (end ∷ [])
   pub given : Offsets
   pub are_given : AreGiven history end given
-  pub calls : (pool : PoolView) → IsMeaning (words_of source) pool → IsHistoryOf pool (resolved given script.lines) e.stop history end
-  pub made : (pool : PoolView) → IsMeaning (words_of source) pool → MakesCallsOf (words_of source) pool (resolved given script.lines) e.stop e.keep history end image
+  pub calls : (pool : PoolView) → IsMeaning (words_of source) pool → IsHistoryOf pool (resolved given script.lines) (stop e) history end
+  pub made : (pool : PoolView) → IsMeaning (words_of source) pool → MakesCallsOf (words_of source) pool (resolved given script.lines) (stop e) e.keep history end image
   pub replay : (pool : PoolView) → IsMeaning (words_of source) pool
-      → ((words : List ℕ) → IsRecovered (words_of source) words pool.lanes → HasNoTornMatch words pool (resolved given script.lines) e.stop)
+      → ((words : List ℕ) → IsRecovered (words_of source) words pool.lanes → HasNoTornMatch words pool (resolved given script.lines) (stop e))
       → LeavesReplay (words_of source) pool history image
 
 -- so it does with what the shelf holds under the names of the pool and the script
@@ -60,44 +63,21 @@ pub record IsRunOf (held : Option Held) (e : Exec) (written text : List ℕ) : T
   pub run : IsRunOver source script_text e written text
 
 -- the new name is as it was, or new with a front of the bytes that such a run leaves; every other name is as it was
-pub record AddsPartOfRun (held after : Option Held) (e : Exec) : Type 0 where
+pub record AddsPartOfRun (e : Exec) (held after : Option Held) : Type 0 where
   pub written : List ℕ
   pub text : List ℕ
   pub run : IsRunOf held e written text
   pub part : MayAddPart held after e.out written
 
 -- the shelf is as it was, or has a part of a run more
-abbrev pub MayAddRun : Option Held → Option Held → Exec → Type 0
-MayAddRun held after e = (after ≡ held) ⊎ AddsPartOfRun held after e
+abbrev pub MayAddRun : Exec → Option Held → Option Held → Type 0
+MayAddRun e held after = (after ≡ held) ⊎ AddsPartOfRun e held after
 
--- the name has the bytes of a pool of another layout name
-pub record IsOtherLayout (held : Option Held) (e : Exec) (kept : List ℕ) : Type 0 where
-  pub source : List ℕ
-  pub whole : IsWhole held e.pool limit source
-  pub in_words : length source % 8 ≡ 0
-  pub other : IsOfOtherLayout (words_of source) e.layout kept
-
--- the bytes are a pool of the layout name that was asked for, and the text is a script of more lanes than run
-pub record AreOfMoreLanes (source script_text : List ℕ) (e : Exec) (asked kept : ℕ) : Type 0 where
-  pub in_words : length source % 8 ≡ 0
-  pub script : Script
-  pub is_script : IsScript (lines script_text) script
-  pub asked_for : asked ≡ script.lanes
-  pub fewer : HasFewerLanes (words_of source) e.layout asked kept
-
--- the names have such a pool and such a script
-pub record HasMoreLanes (held : Option Held) (e : Exec) (asked kept : ℕ) : Type 0 where
-  pub source : List ℕ
-  pub whole : IsWhole held e.pool limit source
-  pub script_text : List ℕ
-  pub whole_script : IsWhole held e.script script_limit script_text
-  pub are : AreOfMoreLanes source script_text e asked kept
-
--- the name has a text that is no script, and this is its first bad line
-pub record HasBadLine (held : Option Held) (e : Exec) (bad : BadLine) : Type 0 where
-  pub script_text : List ℕ
-  pub whole : IsWhole held e.script script_limit script_text
-  pub is_bad : IsBadLine (lines script_text) bad
+-- status 0 of `exec`: the script was run on the pool, what is left stands under its new name, and this is the report
+pub record IsExecuted (e : Exec) (held after : Option Held) (text : List ℕ) : Type 0 where
+  pub written : List ℕ
+  pub added : Adds held after e.out written
+  pub run : IsRunOf held e written text
 
 -- a run is possible: the names have a pool of the layout and a script of one lane, and the new name is not there
 pub record CanRun (held : Held) (e : Exec) : Type 0 where
@@ -114,44 +94,30 @@ pub record CanRun (held : Held) (e : Exec) : Type 0 where
   pub few : script.lanes ≤ 1
   pub absent : held e.out ≡ None
 
--- the script's name has more bytes than a script
-abbrev pub IsTooLongScript : Option Held → List ℕ → Type 0
-IsTooLongScript held name = (front : List ℕ) × IsFront held name script_limit front
+-- the text is a script
+abbrev pub HasScript : List ℕ → Type 0
+HasScript script_text = (script : Script) × IsScript (lines script_text) script
 
--- why `exec` failed
-abbrev pub IsExecCause : Exec → Option Held → Option Held → ℕ → ℕ → Failure → Type 0
-IsExecCause e held after faults faults_after Usage = ⊥
-IsExecCause e held after faults faults_after (Refused refusal) = ⊥
-IsExecCause e held after faults faults_after (Faulty found) = IsFaulty held e.pool found × (after ≡ held)
-IsExecCause e held after faults faults_after (OtherLayout asked kept) = (asked.now ≡ e.layout) × IsOtherLayout held e kept × (after ≡ held)
-IsExecCause e held after faults faults_after (FewerLanes asked kept) = HasMoreLanes held e asked kept × (after ≡ held)
-IsExecCause e held after faults faults_after (NotRead name) = ((name.now ≡ e.pool) ⊎ (name.now ≡ e.script)) × (Rose faults faults_after ⊎ IsMissing held name.now) × (after ≡ held)
-IsExecCause e held after faults faults_after (TooLong name) =
-    (((name.now ≡ e.pool) × IsTooLong held name.now) ⊎ ((name.now ≡ e.script) × IsTooLongScript held name.now)) × (after ≡ held)
-IsExecCause e held after faults faults_after (BadScript bad) = HasBadLine held e bad × (after ≡ held)
-IsExecCause e held after faults faults_after (NotWritten name) = (name.now ≡ e.out) × (Rose faults faults_after ⊎ IsThere held name.now)
-IsExecCause e held after faults faults_after NoMemory = Unit {0}
+-- the bytes are a pool of the layout name that was asked for, and the text is a script of more lanes than run
+pub record AreOfMoreLanes (source script_text : List ℕ) (e : Exec) (asked kept : ℕ) : Type 0 where
+  pub in_words : length source % 8 ≡ 0
+  pub script : Script
+  pub is_script : IsScript (lines script_text) script
+  pub asked_for : asked ≡ script.lanes
+  pub fewer : HasFewerLanes (words_of source) e.layout asked kept
 
--- why a name was not read
-abbrev pub IsReadCause : List ℕ → ℕ → Option Held → ℕ → ℕ → Failure → Type 0
-IsReadCause name most held faults faults_after (NotRead failed) = (failed.now ≡ name) × (Rose faults faults_after ⊎ IsMissing held name)
-IsReadCause name most held faults faults_after (TooLong failed) = (failed.now ≡ name) × ((front : List ℕ) × IsFront held name most front)
-IsReadCause name most held faults faults_after NoMemory = Unit {0}
-IsReadCause name most held faults faults_after failure = ⊥
+-- the bytes are a pool of this layout name, and another was asked for
+pub record AreOfOtherLayout (source : List ℕ) (e : Exec) (kept : List ℕ) : Type 0 where
+  pub in_words : length source % 8 ≡ 0
+  pub other : IsOfOtherLayout (words_of source) e.layout kept
 
--- why a name was not written
-abbrev pub IsWriteCause : List ℕ → Option Held → ℕ → ℕ → Failure → Type 0
-IsWriteCause name held faults faults_after (NotWritten failed) = (failed.now ≡ name) × (Rose faults faults_after ⊎ IsThere held name)
-IsWriteCause name held faults faults_after NoMemory = Unit {0}
-IsWriteCause name held faults faults_after failure = ⊥
-
--- why a script was not run
+-- why a script was not run: a line of it is bad; else the pool has a fault; else it has another layout name; else too few lanes run
 abbrev pub IsRunFault : List ℕ → List ℕ → Exec → Failure → Type 0
-IsRunFault source script_text e (Faulty found) = BytesFail source found
-IsRunFault source script_text e (OtherLayout asked kept) = (asked.now ≡ e.layout) × (length source % 8 ≡ 0) × IsOfOtherLayout (words_of source) e.layout kept
-IsRunFault source script_text e (FewerLanes asked kept) = AreOfMoreLanes source script_text e asked kept
 IsRunFault source script_text e (BadScript bad) = IsBadLine (lines script_text) bad
-IsRunFault source script_text e NoMemory = Unit {0}
+IsRunFault source script_text e (Faulty found) = HasScript script_text × BytesFail source found
+IsRunFault source script_text e (OtherLayout asked kept) = HasScript script_text × (asked.now ≡ e.layout) × AreOfOtherLayout source e kept
+IsRunFault source script_text e (FewerLanes asked kept) = AreOfMoreLanes source script_text e asked kept
+IsRunFault source script_text e NoMemory = ⊤
 IsRunFault source script_text e failure = ⊥
 
 -- the failure that a pool is that was not opened

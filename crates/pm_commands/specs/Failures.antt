@@ -1,56 +1,63 @@
--- Why a command ends without its answer, and what that leaves on the shelf.
-use Rattle.std.specs.Prelude.{◌≡◌, ◌⊎◌, ℕ, List, Option}
-use Rattle.pm_shelf.specs.Outside.{Held, Rose, IsThere, IsMissing, IsFront}
+-- Why a command ends with another status than 0. The causes of a command have an order: one that lies later in it comes only where the
+-- earlier ones do not apply.
+use Rattle.std.specs.Prelude.{◌≡◌, ◌⊎◌, ℕ, List, Option, ⊤}
+use Rattle.pm_image.specs.declared.fault.ImageFault.{ImageFault}
 use Rattle.pm_image.specs.declared.fault.MeansFault.{MeansFault}
 use Rattle.pm_image.specs.declared.fault.MeansFault.TheVariants.{Image, Memory}
-use Rattle.pm_commands.specs.Words.{Create}
-use Rattle.pm_commands.specs.Refusals.{IsGood, IsCause}
-use Rattle.pm_commands.specs.PoolFiles.{limit, IsFaulty}
+use Rattle.pm_options.specs.Words.{Check, Create, Exec}
+use Rattle.pm_shelf.specs.Outside.{Held, Rose, IsThere, IsMissing, IsFront, IsWhole}
+use Rattle.pm_commands.specs.Checked.{HasFaultLeft, IsRepair}
+use Rattle.pm_commands.specs.Created.{HasGoodValues, IsValueCause}
+use Rattle.pm_commands.specs.Executed.{IsRunFault, IsRunOf, script_limit}
+use Rattle.pm_commands.specs.PoolFiles.{HasFault, limit}
 use Rattle.pm_commands.specs.declared.failure.Failure.{Failure}
-use Rattle.pm_commands.specs.declared.failure.Failure.TheVariants.{Usage, Refused, Faulty, OtherLayout, FewerLanes, NotRead, TooLong, BadScript, NotWritten, NoMemory}
+use Rattle.pm_commands.specs.declared.failure.Failure.TheVariants.{Faulty, Fault, NotRead, TooLong, NotWritten, NoMemory}
 
--- of `create`, before anything is written
-abbrev pub IsCauseBefore : Create → Failure → Type 0
-IsCauseBefore c Usage = ⊥
-IsCauseBefore c (Refused refusal) = IsCause c.wanted refusal
-IsCauseBefore c (Faulty found) = ⊥
-IsCauseBefore c (OtherLayout asked kept) = ⊥
-IsCauseBefore c (FewerLanes asked kept) = ⊥
-IsCauseBefore c (NotRead name) = ⊥
-IsCauseBefore c (TooLong name) = ⊥
-IsCauseBefore c (BadScript bad) = ⊥
-IsCauseBefore c (NotWritten name) = ⊥
-IsCauseBefore c NoMemory = Unit {0}
+-- why a name was not read that may have so many bytes: the shelf failed in this run, or the name was not there, or it has more bytes
+abbrev pub IsReadCause : List ℕ → ℕ → Option Held → ℕ → ℕ → Failure → Type 0
+IsReadCause name most held faults faults_after (NotRead failed) = (failed.now ≡ name) × (Rose faults faults_after ⊎ IsMissing held name)
+IsReadCause name most held faults faults_after (TooLong failed) = (failed.now ≡ name) × ((front : List ℕ) × IsFront held name most front)
+IsReadCause name most held faults faults_after NoMemory = ⊤
+IsReadCause name most held faults faults_after failure = ⊥
 
--- of `create`, from what the shelf held and how often it had failed to what it holds and has failed
-abbrev pub IsCauseOf : Create → Option Held → Option Held → ℕ → ℕ → Failure → Type 0
-IsCauseOf c held after faults faults_after Usage = ⊥
-IsCauseOf c held after faults faults_after (Refused refusal) = IsCause c.wanted refusal × (after ≡ held)
-IsCauseOf c held after faults faults_after (Faulty found) = ⊥
-IsCauseOf c held after faults faults_after (OtherLayout asked kept) = ⊥
-IsCauseOf c held after faults faults_after (FewerLanes asked kept) = ⊥
-IsCauseOf c held after faults faults_after (NotRead name) = ⊥
-IsCauseOf c held after faults faults_after (TooLong name) = ⊥
-IsCauseOf c held after faults faults_after (BadScript bad) = ⊥
-IsCauseOf c held after faults faults_after (NotWritten name) = IsGood c.wanted × (name.now ≡ c.pool) × (Rose faults faults_after ⊎ IsThere held c.pool)
-IsCauseOf c held after faults faults_after NoMemory = Unit {0}
+-- why a name was not written: the shelf failed in this run, or the name was there
+abbrev pub IsWriteCause : List ℕ → Option Held → ℕ → ℕ → Failure → Type 0
+IsWriteCause name held faults faults_after (NotWritten failed) = (failed.now ≡ name) × (Rose faults faults_after ⊎ IsThere held name)
+IsWriteCause name held faults faults_after NoMemory = ⊤
+IsWriteCause name held faults faults_after failure = ⊥
 
--- the name has more bytes than a pool
-abbrev pub IsTooLong : Option Held → List ℕ → Type 0
-IsTooLong held name = (front : List ℕ) × IsFront held name limit front
+-- of `create`: a value is refused, the first that is to be; else the pool was not written
+abbrev pub IsCreateCause : Create → Option Held → Option Held → ℕ → ℕ → Failure → Type 0
+IsCreateCause c held after faults faults_after (NotWritten name) = HasGoodValues c.wanted × IsWriteCause c.pool held faults faults_after (NotWritten name)
+IsCreateCause c held after faults faults_after NoMemory = ⊤
+IsCreateCause c held after faults faults_after failure = IsValueCause c.wanted failure × (after ≡ held)
 
--- of `dump`, which leaves the shelf as it was
-abbrev pub IsDumpCause : List ℕ → Option Held → ℕ → ℕ → Failure → Type 0
-IsDumpCause pool held faults faults_after Usage = ⊥
-IsDumpCause pool held faults faults_after (Refused refusal) = ⊥
-IsDumpCause pool held faults faults_after (Faulty found) = IsFaulty held pool found
-IsDumpCause pool held faults faults_after (OtherLayout asked kept) = ⊥
-IsDumpCause pool held faults faults_after (FewerLanes asked kept) = ⊥
-IsDumpCause pool held faults faults_after (NotRead name) = (name.now ≡ pool) × (Rose faults faults_after ⊎ IsMissing held pool)
-IsDumpCause pool held faults faults_after (TooLong name) = (name.now ≡ pool) × IsTooLong held pool
-IsDumpCause pool held faults faults_after (BadScript bad) = ⊥
-IsDumpCause pool held faults faults_after (NotWritten name) = ⊥
-IsDumpCause pool held faults faults_after NoMemory = Unit {0}
+-- of `dump` and `info`: the pool was not read; else it has a fault
+abbrev pub IsShowCause : List ℕ → Option Held → ℕ → ℕ → Failure → Type 0
+IsShowCause pool held faults faults_after (Faulty found) = HasFault held pool found
+IsShowCause pool held faults faults_after failure = IsReadCause pool limit held faults faults_after failure
+
+-- of `check`: the pool was not read; else it has a fault and was not mended; else it was mended and not written
+abbrev pub IsCheckCause : Check → Option Held → Option Held → ℕ → ℕ → Failure → Type 0
+IsCheckCause c held after faults faults_after (Fault found) = HasFaultLeft c held found × (after ≡ held)
+IsCheckCause c held after faults faults_after (NotWritten name) =
+    (found : ImageFault) × (mended : List ℕ) × IsRepair c held found name.now mended × IsWriteCause name.now held faults faults_after (NotWritten name)
+IsCheckCause c held after faults faults_after NoMemory = ⊤
+IsCheckCause c held after faults faults_after failure = IsReadCause c.pool limit held faults faults_after failure × (after ≡ held)
+
+-- of `exec`, before it writes: the pool was not read; else the script was not read; else it was not run
+abbrev pub IsCauseBefore : Exec → Option Held → ℕ → ℕ → Failure → Type 0
+IsCauseBefore e held faults faults_after failure =
+    IsReadCause e.pool limit held faults faults_after failure
+    ⊎ ((source : List ℕ) × IsWhole held e.pool limit source × IsReadCause e.script script_limit held faults faults_after failure)
+    ⊎ ((source script_text : List ℕ) × IsWhole held e.pool limit source × IsWhole held e.script script_limit script_text × IsRunFault source script_text e failure)
+
+-- of `exec`: one of these; else the run was made, and what it leaves was not written
+abbrev pub IsExecCause : Exec → Option Held → Option Held → ℕ → ℕ → Failure → Type 0
+IsExecCause e held after faults faults_after (NotWritten name) =
+    (written text : List ℕ) × IsRunOf held e written text × IsWriteCause e.out held faults faults_after (NotWritten name)
+IsExecCause e held after faults faults_after NoMemory = ⊤
+IsExecCause e held after faults faults_after failure = IsCauseBefore e held faults faults_after failure × (after ≡ held)
 
 -- the failure that an image without a meaning is
 abbrev pub failure_of : MeansFault → Failure

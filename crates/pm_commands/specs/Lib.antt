@@ -1,10 +1,9 @@
-pub mod Words
-pub mod Refusals
 pub mod PoolFiles
 pub mod Lines
-pub mod Asked
 pub mod Statuses
-pub mod Failures
+pub mod Created
+pub mod Checked
 pub mod Executed
+pub mod Failures
 pub mod Answers
 pub mod Saying

@@ -1,35 +1,38 @@
 -- The lines that commands print, each with its line feed: docs/COMMANDS.md.
-use Rattle.std.specs.Prelude.{ℕ, ◌==◌, if◌then◌else◌, List, ◌++◌, codes}
+use Rattle.std.specs.Prelude.{ℕ, ◌==◌, if◌then◌else◌, List, ◌++◌, codes, string_bytes}
 use Rattle.std.specs.Fmt.{decimal}
 use Rattle.pm_layout.specs.Layout.{pool_size}
+use Rattle.pm_layout.specs.Texts.{bad_shape_text}
 use Rattle.pm_pool.specs.Created.{Wanted, root_offset}
+use Rattle.pm_pool.specs.Texts.{create_fault_text}
 use Rattle.pm_image.specs.Texts.{fault_text}
 use Rattle.pm_image.specs.declared.fault.ImageFault.{ImageFault}
-use Rattle.pm_commands.specs.declared.failure.Refusal.{Refusal}
-use Rattle.pm_commands.specs.declared.failure.Refusal.TheVariants.{BadShape, BadId, BadLayout, BadSize}
 use Rattle.pm_commands.specs.declared.failure.Failure.{Failure}
-use Rattle.pm_commands.specs.declared.failure.Failure.TheVariants.{Usage, Refused, Faulty, OtherLayout, FewerLanes, NotRead, TooLong, BadScript, NotWritten, NoMemory}
+use Rattle.pm_commands.specs.declared.failure.Failure.TheVariants.{Usage, BadShape, BadValue, Faulty, Fault, OtherLayout, FewerLanes, NotRead, TooLong, BadScript, NotWritten, NoMemory}
 use Rattle.solo_script.specs.declared.fault.BadLine.{BadLine}
 use Rattle.solo_script.specs.declared.fault.Why.{Why}
 use Rattle.solo_script.specs.declared.fault.Why.TheVariants as why
 use Rattle.pm_commands.specs.declared.status.Status.{Status}
 use Rattle.pm_commands.specs.declared.status.Status.TheVariants as status
 
-abbrev pub refusal_text : Refusal → List ℕ
-refusal_text BadShape = codes "BadShape"
-refusal_text BadId = codes "BadId"
-refusal_text BadLayout = codes "BadLayout"
-refusal_text BadSize = codes "BadSize"
-
 abbrev pub usage_line : List ℕ
 usage_line = codes "usage\n"
 
-abbrev pub refused_line : Refusal → List ℕ
-refused_line refusal = codes "refused " ++ refusal_text refusal ++ codes "\n"
+-- a value, or a pool, is refused, and this text says why
+abbrev pub refused_line : List ℕ → List ℕ
+refused_line text = codes "refused " ++ text ++ codes "\n"
 
--- the image's fault
-abbrev pub faulty_line : ImageFault → List ℕ
-faulty_line found = codes "refused " ++ fault_text found ++ codes "\n"
+-- what `check` prints of a pool without a fault
+abbrev pub consistent_line : List ℕ
+consistent_line = codes "consistent\n"
+
+-- of one with this fault
+abbrev pub fault_line : ImageFault → List ℕ
+fault_line found = codes "fault " ++ fault_text found ++ codes "\n"
+
+-- and of one that was mended
+abbrev pub mended_lines : ImageFault → List ℕ
+mended_lines found = codes "fault " ++ fault_text found ++ codes "\nmended\n"
 
 -- the pool has another layout name than was asked for
 abbrev pub other_layout_line : List ℕ → List ℕ → List ℕ
@@ -69,11 +72,13 @@ write_fault_line name = codes "write fault " ++ name ++ codes "\n"
 abbrev pub no_memory_line : List ℕ
 no_memory_line = codes "no memory\n"
 
--- what is printed where a command ends without its answer
+-- what is printed where a command ends with another status than 0. Of faulty words `clap` says more, and no definition says what
 abbrev pub failure_line : Failure → List ℕ
-failure_line Usage = usage_line
-failure_line (Refused refusal) = refused_line refusal
-failure_line (Faulty found) = faulty_line found
+failure_line (Usage more) = usage_line ++ string_bytes more
+failure_line BadShape = refused_line bad_shape_text
+failure_line (BadValue fault) = refused_line (create_fault_text fault)
+failure_line (Faulty found) = refused_line (fault_text found)
+failure_line (Fault found) = fault_line found
 failure_line (OtherLayout asked kept) = other_layout_line asked.now kept
 failure_line (FewerLanes asked kept) = fewer_lanes_line asked kept
 failure_line (NotRead name) = read_fault_line name.now
@@ -84,9 +89,11 @@ failure_line NoMemory = no_memory_line
 
 -- the status that goes with it
 abbrev pub failure_status : Failure → Status
-failure_status Usage = status.Usage
-failure_status (Refused refusal) = status.Refused
+failure_status (Usage more) = status.Usage
+failure_status BadShape = status.Refused
+failure_status (BadValue fault) = status.Refused
 failure_status (Faulty found) = status.Refused
+failure_status (Fault found) = status.Refused
 failure_status (OtherLayout asked kept) = status.Refused
 failure_status (FewerLanes asked kept) = status.Refused
 failure_status (NotRead name) = status.ReadFault

@@ -1,16 +1,16 @@
 ghost use Rattle.std.specs.Prelude.{◌≡◌, ◌%◌, ◌≤◌, length, IfOk, IfErr, string_bytes};
 ghost use Rattle.pm_words.specs.Words.{bytes_of};
 ghost use Rattle.pm_pool.specs.Created.{created};
-ghost use Rattle.pm_shelf.specs.Outside.{Adds, MayAddPart};
-ghost use Rattle.pm_commands.specs.Refusals.{IsGood};
+ghost use Rattle.pm_options.specs.Asked.{create_asked};
+ghost use Rattle.pm_shelf.specs.Outside.{MayAddPart};
+ghost use Rattle.pm_commands.specs.Created.{HasGoodValues, IsCreated, IsValueCause, pool_bytes};
+ghost use Rattle.pm_commands.specs.Failures.{IsCreateCause};
 ghost use Rattle.pm_commands.specs.Lines.{root_text, created_line, created_line_of};
-ghost use Rattle.pm_commands.specs.Asked.{asked};
-ghost use Rattle.pm_commands.specs.Failures.{IsCauseBefore, IsCauseOf};
 
-use crate::failure::{Failure, Refusal};
+use crate::failure::Failure;
 use crate::image_bytes::image_bytes;
-use crate::options::CreateWords;
 use pm_layout::Shape;
+use pm_options::CreateWords;
 use pm_pool::{CreateFault, create, root_offset};
 use pm_raw::RawImage;
 use pm_shelf::{Shelf, ShelfFault};
@@ -22,12 +22,9 @@ pub fn run_create<'a, S: Shelf>(
     words: &CreateWords<'a>,
     shelf: &mut S,
 ) -> Result<String, Failure<'a>>
-    ensures good { IfOk result (λ line. IsGood (asked words.now).wanted) }
-    ensures line { IfOk result (λ line. string_bytes line ≡ created_line (asked words.now).wanted) }
-    ensures added { IfOk result (λ line. Adds (S.content shelf.old) (S.content shelf.new) words.now.pool.now (bytes_of (created (asked words.now).wanted))) }
-
-    ensures cause { IfErr result (IsCauseOf (asked words.now) (S.content shelf.old) (S.content shelf.new) (S.faults shelf.old) (S.faults shelf.new)) }
-    ensures part { MayAddPart (S.content shelf.old) (S.content shelf.new) words.now.pool.now (bytes_of (created (asked words.now).wanted)) }
+    ensures created { IfOk result (λ line. IsCreated (create_asked words.now) (S.content shelf.old) (S.content shelf.new) (string_bytes line)) }
+    ensures cause { IfErr result (IsCreateCause (create_asked words.now) (S.content shelf.old) (S.content shelf.new) (S.faults shelf.old) (S.faults shelf.new)) }
+    ensures part { MayAddPart (S.content shelf.old) (S.content shelf.new) words.now.pool.now (pool_bytes (create_asked words.now)) }
 {
     let made = match make_pool(alloc, words) {
         Ok(made) => made,
@@ -49,22 +46,22 @@ struct Made {
 
 /// Makes the pool that the words ask for.
 fn make_pool<'a>(alloc: Global, words: &CreateWords<'a>) -> Result<Made, Failure<'a>>
-    ensures good { IfOk result (λ made. IsGood (asked words.now).wanted) }
-    ensures bytes { IfOk result (λ made. made.bytes.items ≡ bytes_of (created (asked words.now).wanted)) }
-    ensures line { IfOk result (λ made. string_bytes made.line ≡ created_line (asked words.now).wanted) }
-    ensures cause { IfErr result (IsCauseBefore (asked words.now)) }
+    ensures good { IfOk result (λ made. HasGoodValues (create_asked words.now).wanted) }
+    ensures bytes { IfOk result (λ made. made.bytes.items ≡ bytes_of (created (create_asked words.now).wanted)) }
+    ensures line { IfOk result (λ made. string_bytes made.line ≡ created_line (create_asked words.now).wanted) }
+    ensures cause { IfErr result (IsValueCause (create_asked words.now).wanted) }
 {
     let Ok(shape) = Shape::new(words.lanes, words.zones) else {
-        return Err(Failure::Refused(Refusal::BadShape));
+        return Err(Failure::BadShape);
     };
     match create(alloc, shape, words.id, words.layout, words.root) {
         Ok(image) => match written_out(alloc, shape, words.root, &image) {
             Ok(made) => Ok(made),
             Err(AllocError) => Err(Failure::NoMemory),
         },
-        Err(CreateFault::BadId) => Err(Failure::Refused(Refusal::BadId)),
-        Err(CreateFault::BadLayout) => Err(Failure::Refused(Refusal::BadLayout)),
-        Err(CreateFault::BadSize) => Err(Failure::Refused(Refusal::BadSize)),
+        Err(CreateFault::BadId) => Err(Failure::BadValue(CreateFault::BadId)),
+        Err(CreateFault::BadLayout) => Err(Failure::BadValue(CreateFault::BadLayout)),
+        Err(CreateFault::BadSize) => Err(Failure::BadValue(CreateFault::BadSize)),
         Err(CreateFault::Memory) => Err(Failure::NoMemory),
     }
 }

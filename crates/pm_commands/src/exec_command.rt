@@ -1,16 +1,18 @@
-ghost use Rattle.std.specs.Prelude.{◌≡◌, ◌^◌, ◌<◌, ◌≤◌, ℕ, List, [], ◌∷◌, length, IfErr, IfOk, OnErr, OnOk};
+ghost use Rattle.std.specs.Prelude.{◌≡◌, ◌^◌, ◌<◌, ◌≤◌, [], ◌∷◌, length, IfErr, IfOk};
 ghost use Rattle.pm_words.specs.Words.{bytes_of};
-ghost use Rattle.pm_shelf.specs.Outside.{Adds, IsWhole, MayAddPart};
+ghost use Rattle.pm_options.specs.Asked.{exec_asked};
 ghost use Rattle.pm_text.specs.Report.{report_text};
-ghost use Rattle.pm_commands.specs.Asked.{asked_run};
-ghost use Rattle.pm_commands.specs.Executed.{IsExecCause, IsReadCause, IsRunFault, IsRunOf, IsRunOver, IsWriteCause, MayAddRun, open_failure};
+ghost use Rattle.pm_commands.specs.Executed.{IsExecuted, IsRunFault, IsRunOf, IsRunOver, MayAddRun, open_failure};
+ghost use Rattle.pm_commands.specs.Failures.{IsCauseBefore, IsExecCause};
 
 use crate::failure::Failure;
 use crate::image_bytes::{bytes_of_words, image_of};
-use crate::options::ExecWords;
+use crate::pool_files::{put, read};
 use pm_image::ImageFault;
 use pm_layout::{MAX_POOL_BYTES, WORD_BYTES};
-use pm_shelf::{Shelf, ShelfFault};
+use pm_options::ExecWords;
+use pm_script::stop_of;
+use pm_shelf::Shelf;
 use pm_text::report_text;
 use solo_exec::{OpenFault, Outcome, exec};
 use solo_script::{ScriptFault, parse};
@@ -25,26 +27,13 @@ pub fn run_exec<'a, S: Shelf>(
     words: &ExecWords<'a>,
     shelf: &mut S,
 ) -> Result<Vec<u8>, Failure<'a>>
-    ensures ran { IfOk result (λ text. (written : List ℕ) × Adds (S.content shelf.old) (S.content shelf.new) words.now.out.now written × IsRunOf (S.content shelf.old) (asked_run words.now) written text.items) }
-    ensures cause { IfErr result (IsExecCause (asked_run words.now) (S.content shelf.old) (S.content shelf.new) (S.faults shelf.old) (S.faults shelf.new)) }
-    ensures part { MayAddRun (S.content shelf.old) (S.content shelf.new) (asked_run words.now) }
+    ensures ran { IfOk result (λ text. IsExecuted (exec_asked words.now) (S.content shelf.old) (S.content shelf.new) text.items) }
+    ensures cause { IfErr result (IsExecCause (exec_asked words.now) (S.content shelf.old) (S.content shelf.new) (S.faults shelf.old) (S.faults shelf.new)) }
+    ensures part { MayAddRun (exec_asked words.now) (S.content shelf.old) (S.content shelf.new) }
 {
     let left = run_files(alloc, words, shelf)?;
     put(words.out, &left.bytes, shelf)?;
     Ok(left.report)
-}
-
-/// Adds a new name with these bytes.
-fn put<'a, S: Shelf>(name: &'a str, bytes: &[u8], shelf: &mut S) -> Result<(), Failure<'a>>
-    ensures added { OnOk result (Adds (S.content shelf.old) (S.content shelf.new) name.now bytes.now) }
-    ensures cause { IfErr result (IsWriteCause name.now (S.content shelf.old) (S.faults shelf.old) (S.faults shelf.new)) }
-    ensures part { OnErr result (MayAddPart (S.content shelf.old) (S.content shelf.new) name.now bytes.now) }
-{
-    match shelf.write(name, bytes) {
-        Ok(()) => Ok(()),
-        Err(ShelfFault::Memory) => Err(Failure::NoMemory),
-        Err(_) => Err(Failure::NotWritten(name)),
-    }
 }
 
 /// What a run leaves, before it is written.
@@ -61,35 +50,13 @@ fn run_files<'a, S: Shelf>(
     shelf: &mut S,
 ) -> Result<Left, Failure<'a>>
     ensures kept { S.content shelf.new ≡ S.content shelf.old }
-    ensures ran { IfOk result (λ left. IsRunOf (S.content shelf.old) (asked_run words.now) left.bytes.items left.report.items) }
-    ensures cause { IfErr result (IsExecCause (asked_run words.now) (S.content shelf.old) (S.content shelf.new) (S.faults shelf.old) (S.faults shelf.new)) }
+    ensures ran { IfOk result (λ left. IsRunOf (S.content shelf.old) (exec_asked words.now) left.bytes.items left.report.items) }
+    ensures cause { IfErr result (IsCauseBefore (exec_asked words.now) (S.content shelf.old) (S.faults shelf.old) (S.faults shelf.new)) }
     ensures faults { S.faults shelf.old ≤ S.faults shelf.new }
 {
     let source = read(alloc, words.pool, MAX_POOL_BYTES, shelf)?;
     let text = read(alloc, words.script, MAX_SCRIPT_BYTES, shelf)?;
     run_script(alloc, words, &source, &text)
-}
-
-/// All bytes of a name, so many at most.
-fn read<'a, S: Shelf>(
-    alloc: Global,
-    name: &'a str,
-    limit: u64,
-    shelf: &mut S,
-) -> Result<Vec<u8>, Failure<'a>>
-    requires { limit < 2 ^ 63 }
-    ensures kept { S.content shelf.new ≡ S.content shelf.old }
-    ensures whole { IfOk result (λ bytes. IsWhole (S.content shelf.old) name.now limit bytes.items) }
-    ensures cause { IfErr result (IsReadCause name.now limit (S.content shelf.old) (S.faults shelf.old) (S.faults shelf.new)) }
-    ensures faults { S.faults shelf.old ≤ S.faults shelf.new }
-{
-    let mut bytes = Vec::new(alloc);
-    match shelf.read(name, limit, &mut bytes) {
-        Ok(()) => Ok(bytes),
-        Err(ShelfFault::Memory) => Err(Failure::NoMemory),
-        Err(ShelfFault::TooLong) => Err(Failure::TooLong(name)),
-        Err(_) => Err(Failure::NotRead(name)),
-    }
 }
 
 /// Runs the script of a text on the pool of some bytes.
@@ -99,8 +66,8 @@ fn run_script<'a>(
     source: &[u8],
     text: &[u8],
 ) -> Result<Left, Failure<'a>>
-    ensures ran { IfOk result (λ left. IsRunOver source.now text.now (asked_run words.now) left.bytes.items left.report.items) }
-    ensures cause { IfErr result (IsRunFault source.now text.now (asked_run words.now)) }
+    ensures ran { IfOk result (λ left. IsRunOver source.now text.now (exec_asked words.now) left.bytes.items left.report.items) }
+    ensures cause { IfErr result (IsRunFault source.now text.now (exec_asked words.now)) }
 {
     let script = match parse(alloc, text) {
         Ok(script) => script,
@@ -114,7 +81,8 @@ fn run_script<'a>(
         Ok(image) => image,
         Err(AllocError) => return Err(Failure::NoMemory),
     };
-    match exec(alloc, image, &script, words.layout, words.stop, words.keep) {
+    let stop = stop_of(0, &words.stops);
+    match exec(alloc, image, &script, words.layout, stop, words.keep) {
         Ok(outcome) => match written_out(alloc, &outcome) {
             Ok(left) => Ok(left),
             Err(AllocError) => Err(Failure::NoMemory),

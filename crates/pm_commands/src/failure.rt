@@ -1,46 +1,30 @@
-ghost use Rattle.std.specs.Prelude.{◌≡◌, ◌++◌, IfOk, codes};
-ghost use Rattle.pm_commands.specs.Lines.{bad_script_line, refusal_text, refused_line, faulty_line, failure_line, failure_status, fewer_lanes_line, other_layout_line, why_text};
+ghost use Rattle.std.specs.Prelude.{◌≡◌, ◌++◌, IfOk, codes, string_bytes};
+ghost use Rattle.pm_image.specs.Texts.{fault_text};
+ghost use Rattle.pm_layout.specs.Texts.{bad_shape_text};
+ghost use Rattle.pm_pool.specs.Texts.{create_fault_text};
+ghost use Rattle.pm_commands.specs.Lines.{bad_script_line, fault_line, failure_line, failure_status, fewer_lanes_line, other_layout_line, refused_line, usage_line, why_text};
 
 use crate::status::Status;
 use pm_image::{ImageFault, text_of_fault};
+use pm_layout::BadShape;
 use pm_objects::Sequence;
+use pm_pool::CreateFault;
 use solo_script::{BadLine, Why};
 use std::alloc::{AllocError, Global};
 
-/// Which value of a command is refused.
-#[derive(Clone, Copy, Debug, PartialEq, Eq)]
-pub enum Refusal {
-    /// Lanes or zones are not 1 to 32.
-    BadShape,
-    /// The pool's id is 0.
-    BadId,
-    /// The layout name is not 1 to 63 bytes of 0x21 to 0x7E.
-    BadLayout,
-    /// The root is to have more than 262,080 bytes.
-    BadSize,
-}
-
-/// The refusal as it is printed.
-pub fn refusal_text(refusal: Refusal) -> &'static str
-    ensures { result.now ≡ refusal_text refusal }
-{
-    match refusal {
-        Refusal::BadShape => "BadShape",
-        Refusal::BadId => "BadId",
-        Refusal::BadLayout => "BadLayout",
-        Refusal::BadSize => "BadSize",
-    }
-}
-
-/// Why a command ended without its answer.
+/// Why a command ended with another status than 0.
 #[derive(Drop)]
 pub enum Failure<'a> {
-    /// The words are no command.
-    Usage,
-    /// A value is refused.
-    Refused(Refusal),
-    /// The image has this fault.
+    /// The words are faulty, and this text says more.
+    Usage(String),
+    /// Lanes or zones are not 1 to 32.
+    BadShape,
+    /// Another value of the new pool is refused.
+    BadValue(CreateFault),
+    /// The pool that a command needs has this fault.
     Faulty(ImageFault),
+    /// The pool that was checked has this fault, and was not mended.
+    Fault(ImageFault),
     /// Another layout name was asked for than the pool has, which is kept.
     OtherLayout { asked: &'a str, kept: Sequence<u8> },
     /// The script is of so many lanes, and fewer run: as many as are kept.
@@ -62,9 +46,11 @@ pub fn failure_line(alloc: Global, failure: &Failure<'_>) -> Result<Vec<u8>, All
     ensures { IfOk result (λ text. text.items ≡ failure_line failure.now) }
 {
     match failure {
-        Failure::Usage => Vec::from_slice(alloc, b"usage\n"),
-        Failure::Refused(refusal) => refused_line(alloc, *refusal),
+        Failure::Usage(more) => usage_lines(alloc, more),
+        Failure::BadShape => bad_shape_line(alloc),
+        Failure::BadValue(fault) => bad_value_line(alloc, *fault),
         Failure::Faulty(found) => faulty_line(alloc, *found),
+        Failure::Fault(found) => fault_line(alloc, *found),
         Failure::OtherLayout { asked, kept } => other_layout_line(alloc, asked, kept.as_slice()),
         Failure::FewerLanes { asked, kept } => fewer_lanes_line(alloc, *asked, *kept),
         Failure::NotRead(name) => named_line(alloc, b"read fault ", name),
@@ -75,17 +61,43 @@ pub fn failure_line(alloc: Global, failure: &Failure<'_>) -> Result<Vec<u8>, All
     }
 }
 
-/// The line of a value that is refused.
-fn refused_line(alloc: Global, refusal: Refusal) -> Result<Vec<u8>, AllocError>
-    ensures { IfOk result (λ text. text.items ≡ refused_line refusal) }
+/// The line of faulty words, and what more is said of them.
+fn usage_lines(alloc: Global, more: &str) -> Result<Vec<u8>, AllocError>
+    ensures { IfOk result (λ text. text.items ≡ usage_line ++ more.now) }
 {
-    let text = format!(in alloc; "refused {}\n", refusal_text(refusal))?;
+    let mut text = Vec::from_slice(alloc, b"usage\n")?;
+    text.extend_from_slice(more.as_bytes())?;
+    Ok(text)
+}
+
+/// The line of a shape that is refused.
+fn bad_shape_line(alloc: Global) -> Result<Vec<u8>, AllocError>
+    ensures { IfOk result (λ text. text.items ≡ refused_line bad_shape_text) }
+{
+    let text = format!(in alloc; "refused {}\n", BadShape)?;
+    Ok(text.into_bytes())
+}
+
+/// The line of another value that is refused.
+fn bad_value_line(alloc: Global, fault: CreateFault) -> Result<Vec<u8>, AllocError>
+    ensures { IfOk result (λ text. text.items ≡ refused_line (create_fault_text fault)) }
+{
+    let text = format!(in alloc; "refused {fault}\n")?;
+    Ok(text.into_bytes())
+}
+
+/// The line of a checked pool's fault.
+fn fault_line(alloc: Global, found: ImageFault) -> Result<Vec<u8>, AllocError>
+    ensures { IfOk result (λ text. text.items ≡ fault_line found) }
+{
+    let fault = text_of_fault(alloc, found)?;
+    let text = format!(in alloc; "fault {fault}\n")?;
     Ok(text.into_bytes())
 }
 
 /// The line that tells of an image's fault.
 fn faulty_line(alloc: Global, found: ImageFault) -> Result<Vec<u8>, AllocError>
-    ensures { IfOk result (λ text. text.items ≡ faulty_line found) }
+    ensures { IfOk result (λ text. text.items ≡ refused_line (fault_text found)) }
 {
     let fault = text_of_fault(alloc, found)?;
     let text = format!(in alloc; "refused {fault}\n")?;
@@ -155,9 +167,11 @@ pub fn failure_status(failure: &Failure<'_>) -> Status
     ensures { result ≡ failure_status failure.now }
 {
     match failure {
-        Failure::Usage => Status::Usage,
-        Failure::Refused(_)
+        Failure::Usage(_) => Status::Usage,
+        Failure::BadShape
+        | Failure::BadValue(_)
         | Failure::Faulty(_)
+        | Failure::Fault(_)
         | Failure::OtherLayout { .. }
         | Failure::FewerLanes { .. } => Status::Refused,
         Failure::NotRead(_) | Failure::TooLong(_) => Status::ReadFault,

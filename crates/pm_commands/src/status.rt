@@ -7,7 +7,7 @@ pub enum Status {
     Done,
     /// The pool has a fault, or a value is refused.
     Refused,
-    /// The words are no command.
+    /// The words are faulty.
     Usage,
     /// A name could not be read.
     ReadFault,

@@ -12,6 +12,25 @@ const DUMP: &str = "pmempool dump p";
 
 const EXEC: &str = "pmempool exec p --script s --out q --layout demo";
 
+const CHECK: &str = "pmempool check p";
+
+const INFO: &str = "pmempool info p";
+
+const FACTS: &str = "\
+version 1
+pool 7
+layout demo
+lanes 1
+zones 1
+bytes 278528
+root 16512
+objects 1
+data 64
+runs 1
+sealed 0
+records 0
+";
+
 const SCRIPT: &str = "lane 0\nset root 8 42\npublish\n";
 
 /// Does what the words of the line say.
@@ -43,13 +62,15 @@ fn answers<S: Shelf>(
     Ok(())
 }
 
-/// A pool is made, run and shown, and a failure is told.
+/// A pool is made, checked, shown and run, and a failure is told.
 #[test]
 fn each_call(rt: HostRuntime) -> Result<(), Fail> {
     let alloc = rt.alloc();
     let mut shelf = MapShelf::new(alloc);
     let made = ("created 278528 root 16512\n", 0);
     answers(&rt, alloc, CREATE, &mut shelf, made)?;
+    answers(&rt, alloc, CHECK, &mut shelf, ("consistent\n", 0))?;
+    answers(&rt, alloc, INFO, &mut shelf, (FACTS, 0))?;
     let shown = ("root 16512\nobject 16512 type 0 size 64\n", 0);
     answers(&rt, alloc, DUMP, &mut shelf, shown)?;
     let script = SCRIPT.as_bytes();
@@ -60,8 +81,12 @@ fn each_call(rt: HostRuntime) -> Result<(), Fail> {
     );
     answers(&rt, alloc, EXEC, &mut shelf, ran)?;
     let mut out = ListSink::new(alloc);
-    let status = say_failure(alloc, &Failure::Usage, &mut out);
-    assert!(rt; status.code() == 2 && out.bytes() == b"usage\n".as_slice());
+    let status = say_failure(
+        alloc,
+        &Failure::Usage(String::from_str(alloc, "why\n")?),
+        &mut out,
+    );
+    assert!(rt; status.code() == 2 && out.bytes() == b"usage\nwhy\n".as_slice());
     Ok(())
 }
 

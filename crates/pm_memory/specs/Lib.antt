@@ -5,3 +5,4 @@ pub mod Keeping
 pub mod Runs
 pub mod Solo
 pub mod Survivors
+pub mod SoloCalls

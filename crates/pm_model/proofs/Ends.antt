@@ -17,7 +17,7 @@ use Rattle.pm_model.specs.Inside.{IsDone, IsRefused, IsReply, Ran, Replies, afte
 use Rattle.pm_model.specs.Outside.{Outside, after_outside, after_reply_outside, is_outside}
 use Rattle.pm_model.specs.CallStep.{CallRun, CallStep, OutsideStep, Runs, RunsOn, State, TransactionStep, is_transaction, outside_of, state_with}
 use Rattle.pm_model.specs.Shown.{error_by, error_of, is_abort}
-use Rattle.pm_model.proofs.Over.{before_after}
+use Rattle.pm_model.proofs.Fitting.{before_after}
 
 -- ---- one next state
 

@@ -1,17 +1,16 @@
 -- A whole call of the model, on a pool without objects.
-use Rattle.std.proofs.Common.{◌≡◌, inl, ℕ, ◌<◌, List, [], ◌∷◌, Bool, true, false, cond, eqb, Option, Some, None, IsSome, refl, sym, lit<}
+use Rattle.std.proofs.Common.{◌≡◌, inl, ℕ, [], Bool, true, false, cond, eqb, Some, None, IsSome, refl, lit<}
 use Rattle.pm_objects.specs.declared.calls.Operation.TheVariants.{Begin, Alloc, Commit}
 use Rattle.pm_objects.specs.declared.calls.Want.{Want}
 use Rattle.pm_objects.specs.declared.history.Value.TheVariants.{Offset}
-use Rattle.pm_model.specs.Items.{all_edited, edited, made_item, new_item}
-use Rattle.pm_model.specs.Blocks.{Block, IsFree}
-use Rattle.pm_model.specs.Pending.{Pending, none_pending}
+use Rattle.pm_model.specs.Items.{all_edited}
+use Rattle.pm_model.specs.Pending.{none_pending}
 use Rattle.pm_model.specs.Places.{CanHold}
 use Rattle.pm_model.specs.Transaction.{Transaction, all_locked, idle}
 use Rattle.pm_model.specs.Refusals.{first_of, is_first_lock}
 use Rattle.pm_model.specs.Inside.{Ran, Replies, after, is_kept}
 use Rattle.pm_model.specs.Parts.{parts_inside}
-use Rattle.pm_model.specs.CallStep.{CallStep, Runs, RunsOn, State, with_pending}
+use Rattle.pm_model.specs.CallStep.{CallStep, Runs, RunsOn, with_pending}
 use Rattle.pm_model.specs.Samples.{after_allocating, allocating, empty, unhindered, idle_lanes, with_one_object}
 use Rattle.pm_model.proofs.Lists.{all_of_each}
 

@@ -19,7 +19,8 @@ use Rattle.pm_model.proofs.Changing as changing
 use Rattle.pm_model.proofs.Lists.{IsIn, each_in, each_weaker}
 use Rattle.pm_model.proofs.Edits.{HasLines, mixed, mixed_in, mixed_out}
 use Rattle.pm_model.proofs.Locking.{list_any_weaker}
-use Rattle.pm_model.proofs.Over.{FitsTx, Within, WithinB, WithinT, transaction_there}
+use Rattle.pm_model.proofs.Fitting.{FitsTx, Within, WithinB, WithinT}
+use Rattle.pm_model.proofs.Over.{transaction_there}
 use Rattle.pm_model.proofs.Beside.{beside}
 
 -- ---- what a call's parts say of objects and lines

@@ -2,7 +2,11 @@ pub mod Lists
 pub mod Changing
 pub mod Edits
 pub mod Locking
+pub mod Fitting
+pub mod OverTests
 pub mod Over
+pub mod BesideTests
+pub mod BesideEdits
 pub mod Beside
 pub mod Frames
 pub mod Ends

@@ -25,7 +25,7 @@ use Rattle.pm_model.proofs.Lists.{Each, NoneApplies, all_of_each, each_left, eac
 use Rattle.pm_model.proofs.Members.{among_inserted, among_taken, once_inserted, once_taken}
 use Rattle.pm_model.proofs.Sounds.{freed_sound, linked_in, list_in, members_in, put_sound, relinked_lengths, relinked_list, relinked_members, relinked_sound, same_under, some_same, with_root}
 use Rattle.pm_model.proofs.SoundTransactions.{TxSound, Unlisted, edits_append, freed_lines, frees_sound, made_sound_in, new_sizes, no_list, no_members, nothing_at, put_sizes, reserved_sound, runs_sound, sets_sound, unlisted}
-use Rattle.pm_model.proofs.Beside.{resized_length}
+use Rattle.pm_model.proofs.BesideTests.{resized_length}
 
 size_is : (b : Bool) → not b ≡ false → b ≡ true
 size_is true e = refl

@@ -22,7 +22,7 @@ use Rattle.pm_model.specs.CallStep.{Runs, RunsOn, is_transaction}
 use Rattle.pm_model.specs.Sound.{IsSound}
 use Rattle.pm_model.proofs.Lists.{Each, NoneApplies, any_append, each_append, each_map, each_weaker, none_applies, none_pass}
 use Rattle.pm_model.proofs.Edits.{put_length}
-use Rattle.pm_model.proofs.Over.{covers_first}
+use Rattle.pm_model.proofs.Fitting.{covers_first}
 use Rattle.pm_model.proofs.Sounds.{covers_same, freed_sound, length_in, list_in, made_sound, members_in, put_sound, same_under}
 
 -- ---- lists of changes

@@ -22,7 +22,7 @@ abbrev rows_in : Option (Text × List Row) → List Row
 rows_in None = []
 rows_in (Some pair) = pair.1
 
-one_given : (words : List Text) (name other : Text) (rows more : List Row) → IsGiven words name rows → IsGiven words other more → (name ≡ other) × (rows ≡ more)
+pub one_given : (words : List Text) (name other : Text) (rows more : List Row) → IsGiven words name rows → IsGiven words other more → (name ≡ other) × (rows ≡ more)
 one_given words name other rows more given also = (ap name_in (sym given.command ∙ also.command), ap rows_in (sym given.command ∙ also.command))
 
 -- the words name a command, and none of the commands has these values for it
@@ -159,7 +159,7 @@ help_asked words kind (command.Info pool) has is = absurd is
 help_asked words kind (command.Dump pool) has is = absurd is
 help_asked words kind (command.Help text) has is = help_kind words kind text has is
 
-nothing_among : (kind : ErrorKind) (kinds : List ErrorKind) → IsAmong kind kinds → kinds ≡ [] → ⊥
+pub nothing_among : (kind : ErrorKind) (kinds : List ErrorKind) → IsAmong kind kinds → kinds ≡ [] → ⊥
 nothing_among kind [] among none = among
 nothing_among kind (k ∷ ks) among none = absurd cc
 

@@ -7,8 +7,10 @@ use pm_header::{Header, Name, encode};
 use pm_layout::{MAX_SIZE, PAGE_WORDS, ROOT_WORD, Shape, VERSION, WORD_BYTES};
 use pm_raw::RawImage;
 use std::alloc::{AllocError, Global};
+use std::error::Error;
+use std::fmt;
 
-/// Why a pool is not made. The first that applies is told, and nothing is made.
+/// Why a pool is not made. The first that applies is told, and nothing is made. Printed by its name.
 #[derive(Clone, Copy, Debug, PartialEq, Eq)]
 pub enum CreateFault {
     /// The id is 0.
@@ -20,6 +22,24 @@ pub enum CreateFault {
     /// There was no memory.
     Memory,
 }
+
+impl fmt::Display for CreateFault {
+    ghost use Rattle.std.specs.Prelude.{Some};
+    ghost use Rattle.pm_pool.specs.Texts.{create_fault_text};
+
+    ghost output = { λ fault. Some (create_fault_text fault) };
+
+    fn fmt<W: fmt::Write>(&self, f: &mut fmt::Formatter<W>) -> fmt::Result {
+        f.write_str(match self {
+            CreateFault::BadId => "BadId",
+            CreateFault::BadLayout => "BadLayout",
+            CreateFault::BadSize => "BadSize",
+            CreateFault::Memory => "out of memory",
+        })
+    }
+}
+
+impl Error for CreateFault {}
 
 /// A new pool of this shape, with this id, 1 or more, this layout name, and a root object of `root`
 /// bytes with type 0, all zero; none where `root` is 0. The words are zero but for both header pairs,

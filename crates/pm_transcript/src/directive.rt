@@ -40,8 +40,8 @@ pub enum Directive<'a> {
         first: &'a str,
         second: &'a str,
     },
-    /// `bytes NAME AT COUNT`: answers with bytes of the file.
-    Bytes {
+    /// `show NAME AT COUNT`: answers with bytes of the file.
+    Show {
         name: &'a str,
         at: usize,
         count: usize,
@@ -54,6 +54,8 @@ pub enum Directive<'a> {
     /// `sink fails N`: in the next command a call of the sink fails, after so many others as are
     /// told here: N - 1.
     SinkFails(u64),
+    /// `first N`: of what the next command prints only the first lines are answered, so many.
+    First(usize),
 }
 
 /// Whether a line begins as a directive does.
@@ -69,9 +71,10 @@ pub fn is_directive(line: &str) -> bool {
                 | "copy"
                 | "remove"
                 | "same"
-                | "bytes"
+                | "show"
                 | "shelf"
                 | "sink"
+                | "first"
         ),
         None => line == "names",
     }
@@ -82,18 +85,19 @@ pub fn directive_of(alloc: Global, line: &str) -> Result<Directive<'_>, Fault> {
     let words: Vec<&str> = line.split(' ').collect(alloc)?;
     match words.as_slice() {
         [word] if *word == "names" => Ok(Directive::Names),
-        [word, name] => about_file(word, name),
+        [word, operand] => about_one(word, operand),
         [word, first, second] => about_two(word, first, second),
         [word, name, first, second] => about_bytes(alloc, word, name, (first, second)),
         _ => Err(Fault::Form),
     }
 }
 
-/// A directive about one file alone.
-fn about_file<'a>(word: &str, name: &'a str) -> Result<Directive<'a>, Fault> {
+/// A directive of one word more.
+fn about_one<'a>(word: &str, operand: &'a str) -> Result<Directive<'a>, Fault> {
     match word {
-        "sums" => Ok(Directive::Sums(name)),
-        "remove" => Ok(Directive::Remove(name)),
+        "sums" => Ok(Directive::Sums(operand)),
+        "remove" => Ok(Directive::Remove(operand)),
+        "first" => Ok(Directive::First(place(operand)?)),
         _ => Err(Fault::Form),
     }
 }
@@ -136,7 +140,7 @@ fn about_bytes<'a>(
             at: place(first)?,
             bytes: bytes(alloc, second)?,
         }),
-        "bytes" => Ok(Directive::Bytes {
+        "show" => Ok(Directive::Show {
             name,
             at: place(first)?,
             count: place(second)?,
@@ -145,7 +149,7 @@ fn about_bytes<'a>(
     }
 }
 
-/// A place in a file, or a count of its bytes.
+/// A place in a file, a count of its bytes, or a count of lines.
 fn place(word: &str) -> Result<usize, Fault> {
     word.parse::<usize>().map_err(|_| Fault::Number)
 }

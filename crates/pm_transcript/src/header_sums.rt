@@ -1,4 +1,7 @@
 //! The sums of a pool's header page: docs/FORMAT.md, "Header page".
+ghost use Rattle.std.specs.Prelude.{◌≡◌, length};
+ghost use Rattle.pm_transcript.specs.HeaderSums.{with_sums};
+
 use pm_layout::{LINE_BYTES, LINE_WORDS, PAGE_BYTES};
 use pm_words::{bytes_of, sum64, words_of};
 
@@ -16,14 +19,22 @@ pub fn make_sums(page: &mut [u8]) -> Option<()> {
     make_pair_sums(page, COPY_AT)
 }
 
-/// Gives the pair at this place its sums: word 6 is the name line's, and word 7 that of the seven
-/// before it.
+/// Gives the pair at this place its sums; `None` where the bytes end before.
 fn make_pair_sums(page: &mut [u8], at: usize) -> Option<()> {
     let pair = page.get_mut(at..)?.get_mut(..PAIR_BYTES)?;
     let mut words = [0; PAIR_WORDS];
     words_of(pair, &mut words);
-    words[6] = sum64(&words[8..16]);
-    words[7] = sum64(&words[0..7]);
+    sum_pair(&mut words);
     bytes_of(&words, pair);
     Some(())
+}
+
+/// Gives the words of a pair their sums: word 6 is the name line's, and word 7 that of the seven
+/// before it.
+fn sum_pair(words: &mut [u64])
+    requires { length words.old ≡ 16 }
+    ensures { words.new ≡ with_sums words.old }
+{
+    words[6] = sum64(&words[8..16]);
+    words[7] = sum64(&words[0..7]);
 }

@@ -12,6 +12,8 @@ mod directive;
 mod fault;
 mod files;
 mod header_sums;
+mod lines;
+mod pieces;
 mod session;
 
 pub use answers::print_answers;

@@ -1,7 +1,11 @@
 //! A transcript line by line: what each line does, and what is printed of it.
+ghost use Rattle.std.specs.Prelude.{◌≡◌, IfOk};
+ghost use Rattle.pm_transcript.specs.Lines.{with_feed};
+
 use crate::directive::{Directive, directive_of, is_directive};
 use crate::fault::Fault;
 use crate::files::Files;
+use crate::lines::{push_first, push_line, push_repeated};
 use pm_commands::top;
 use pm_shelf::FailingSink;
 use std::alloc::{AllocError, Global};
@@ -29,6 +33,8 @@ pub struct Session {
     /// After how many calls of the shelf, and of the sink, one fails in the next command.
     shelf_fails: Option<u64>,
     sink_fails: Option<u64>,
+    /// How many lines are answered of what the next command prints; all where there is no number.
+    first: Option<usize>,
 }
 
 impl Session {
@@ -41,6 +47,7 @@ impl Session {
             is_answered: false,
             shelf_fails: None,
             sink_fails: None,
+            first: None,
         }
     }
 
@@ -79,9 +86,11 @@ impl Session {
     }
 
     /// The line with its line feed.
-    fn copied(&self, line: &str) -> Result<Vec<u8>, AllocError> {
-        let mut text = Vec::from_slice(self.alloc, line.as_bytes())?;
-        text.push(b'\n')?;
+    fn copied(&self, line: &str) -> Result<Vec<u8>, AllocError>
+        ensures { IfOk result (λ text. text.items ≡ with_feed line.now) }
+    {
+        let mut text = Vec::new(self.alloc);
+        push_line(line, &mut text)?;
         Ok(text)
     }
 
@@ -124,18 +133,23 @@ impl Session {
         }
     }
 
-    /// Runs a command, and appends what it prints and its status, which is left out where it is 0.
+    /// Runs a command, and appends what it prints, or the first lines of it, and its status, which
+    /// is left out where it is 0.
     fn run(&mut self, command: &str, text: &mut Vec<u8>) -> Result<bool, Fault> {
         let words = self.words_of(command)?;
-        let mut shelf = self.files.shelf(&words, self.shelf_fails.take())?;
+        let names = self.names_in(&words)?;
+        let mut shelf = self.files.shelf(&names, self.shelf_fails.take())?;
         let mut plan = Vec::new(self.alloc);
         if let Some(call) = self.sink_fails.take() {
             plan.push(call).map_err(|_| Fault::Memory)?;
         }
         let mut out = FailingSink::new(self.alloc, plan);
         let status = top(self.alloc, &words, &mut shelf, &mut out);
-        self.files.take_new(&words, &shelf)?;
-        text.extend_from_slice(out.bytes())?;
+        self.files.take_new(&names, &shelf)?;
+        match self.first.take() {
+            Some(count) => push_first(out.bytes(), count, text)?,
+            None => text.extend_from_slice(out.bytes())?,
+        }
         let code = status.code();
         if code != 0 {
             let line = format!(in self.alloc; "status {code}\n")?;
@@ -156,6 +170,21 @@ impl Session {
         Ok(words)
     }
 
+    /// What may name a file in a command: each word, and the value of an option with `=`.
+    fn names_in(&self, words: &[String]) -> Result<Vec<String>, Fault> {
+        let mut names = Vec::new(self.alloc);
+        for word in words {
+            let word = word.as_str();
+            if let Some((_, value)) = word.split_once('=') {
+                let value = String::from_str(self.alloc, value)?;
+                names.push(value).map_err(|_| Fault::Memory)?;
+            }
+            let name = String::from_str(self.alloc, word)?;
+            names.push(name).map_err(|_| Fault::Memory)?;
+        }
+        Ok(names)
+    }
+
     /// Does what a directive says, and appends its answer, if it has one.
     fn direct(&mut self, directive: Directive<'_>, text: &mut Vec<u8>) -> Result<bool, Fault> {
         match directive {
@@ -171,6 +200,7 @@ impl Session {
             Directive::Remove(name) => self.files.remove(name)?,
             Directive::ShelfFails(call) => self.shelf_fails = Some(call),
             Directive::SinkFails(call) => self.sink_fails = Some(call),
+            Directive::First(count) => self.first = Some(count),
             asking => {
                 self.tell(&asking, text)?;
                 return Ok(true);
@@ -196,7 +226,7 @@ impl Session {
                 let told = if is_same { "same" } else { "differ" };
                 text.extend_from_slice(told.as_bytes())?;
             }
-            Directive::Bytes { name, at, count } => {
+            Directive::Show { name, at, count } => {
                 let bytes = self.files.part(name, *at, *count)?;
                 let digits = hex::encode(self.alloc, bytes)?;
                 text.extend_from_slice(digits.as_bytes())?;
@@ -211,18 +241,11 @@ impl Session {
 /// Appends the lines that a line of a script stands for: `repeat N LINE` is N lines.
 fn add_lines(line: &str, script: &mut Vec<u8>) -> Result<(), Fault> {
     let Some(repeated) = line.strip_prefix("repeat ") else {
-        return add_line(line, script);
+        push_line(line, script)?;
+        return Ok(());
     };
     let (count, line) = repeated.split_once(' ').ok_or(Fault::Form)?;
     let count = count.parse::<u16>().map_err(|_| Fault::Number)?;
-    for _ in 0..count {
-        add_line(line, script)?;
-    }
+    push_repeated(count, line, script)?;
     Ok(())
-}
-
-/// Appends a line with its line feed.
-fn add_line(line: &str, script: &mut Vec<u8>) -> Result<(), Fault> {
-    script.extend_from_slice(line.as_bytes())?;
-    script.push(b'\n').map_err(|_| Fault::Memory)
 }

@@ -47,9 +47,10 @@ pub record View : Type 0 where
   pub seen : List Step
   pub call : List Told
   pub number : Option ℕ
-  -- its entries of the history, the latest first, and its pending actions: what was reserved, is to be freed, or is to be set
+  -- its entries of the history, the latest first, and its pending actions: what was reserved, is to be freed, or is to be set; and those that the open call published
   pub entries : List Numbered
   pub actions : List Told
+  pub published : List Told
 
 -- one lane runs
 abbrev pub runs_one : View → Bool
@@ -70,4 +71,5 @@ idle fixed generation = record {
   number = None;
   entries = [];
   actions = [];
+  published = [];
 }

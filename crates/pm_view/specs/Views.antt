@@ -133,7 +133,7 @@ vacated v at bits = record v {
 
 -- a call begins where none is open
 abbrev pub begun : Phase → View → View
-begun Idle v = record v { log = new_log Open v.log.generation; seen = []; call = []; number = None }
+begun Idle v = record v { log = new_log Open v.log.generation; seen = []; call = []; number = None; published = [] }
 begun phase v = v
 
 -- the call takes its number
@@ -152,6 +152,11 @@ actions_told (SetValue id off value) None actions = actions ++ record { operatio
 actions_told Publish None actions = []
 actions_told Cancel None actions = []
 actions_told operation reply actions = actions
+
+-- what the open call published, after an operation that was answered so with these actions pending
+abbrev pub published_told : Operation → Option Value → List Told → List Told → List Told
+published_told Publish None actions published = published ++ actions
+published_told operation reply actions published = published
 
 -- ---- THE VIEW AFTER A STEP
 
@@ -175,7 +180,11 @@ after v (Draw n) = numbered v n
 after v (NumberSeen n) = with_seen (NumberSeen n) (begun v.log.phase v)
 after v (StopSeen set) = with_seen (StopSeen set) v
 after v SetStop = v
-after v (Tell operation reply) = record v { call = v.call ++ record { operation = operation; reply = reply } ∷ []; actions = actions_told operation reply v.actions }
+after v (Tell operation reply) = record v {
+  call = v.call ++ record { operation = operation; reply = reply } ∷ [];
+  actions = actions_told operation reply v.actions;
+  published = published_told operation reply v.actions v.published;
+}
 
 unfoldable pub after_all : View → List Step → View
 after_all v [] = v

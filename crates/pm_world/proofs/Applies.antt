@@ -1,7 +1,7 @@
 -- AN ENTRY OF A DECIDED CALL IS APPLIED, over bits: its bits come to be the settled ones, and no other bit changes that a meaning looks at.
 use Rattle.std.specs.Prelude.{List}
-use Rattle.std.proofs.Common.{◌≡◌, ℕ, ◌⊎◌, inl, inr, ⊎_elim, Bool, true, false, ◌==◌, refl, sym, ap, ◌∙◌, subst, eq-eqb, Option, None, Some}
-use Rattle.std.proofs.lemmas.Bool.{both_ways, and_parts, and_from, cond-true}
+use Rattle.std.proofs.Common.{◌≡◌, ℕ, ◌⊎◌, inl, inr, ⊎_elim, Bool, true, false, ◌==◌, refl, sym, ap, ◌∙◌, subst, Option, None, Some}
+use Rattle.std.proofs.lemmas.Bool.{both_ways, and_parts, cond-true}
 use Rattle.pm_layout.specs.declared.shape.Shape.{Shape}
 use Rattle.pm_view.specs.Places.{Place, InRun, InHuge, Descr, RootWord, Block, block_of, twin, same_place}
 use Rattle.pm_view.specs.Entries.{Entry, Redo, given_bit, delta, latest, redos, turn, first_of_two}
@@ -9,22 +9,10 @@ use Rattle.pm_view.specs.Log.{Applying}
 use Rattle.pm_world.specs.States.{State, Diff, given, live, read, Cells}
 use Rattle.pm_world.specs.Sights.{Hold, Sight}
 use Rattle.pm_world.specs.Lanes.{Ghost, owns, sees, is_in_making, blank, BitFits, is_size, HoldFits, SightFits, GeoFits}
-use Rattle.pm_world.proofs.Decides.{some_of, first_none, first_left}
+use Rattle.pm_world.proofs.Basics.{and_false, given_cases, some_of, same_place_refl, twin_twin}
+use Rattle.pm_world.proofs.Decides.{first_none, first_left}
 use Rattle.pm_world.proofs.Frame.{is_single, some_first, twin_dead}
-use Rattle.pm_world.proofs.StepDrain.{and_false}
 use Rattle.pm_world.proofs.Stored.{OwnWords}
-
-pub same_place_refl : (p : Place) → same_place p p ≡ true
-same_place_refl (InRun c w) = and_from (c == c) (w == w) (eq-eqb c c refl) (eq-eqb w w refl)
-same_place_refl (InHuge c w) = and_from (c == c) (w == w) (eq-eqb c c refl) (eq-eqb w w refl)
-same_place_refl (Descr c) = eq-eqb c c refl
-same_place_refl RootWord = refl
-
-pub twin_twin : (p : Place) → twin (twin p) ≡ p
-twin_twin (InRun c w) = refl
-twin_twin (InHuge c w) = refl
-twin_twin (Descr c) = refl
-twin_twin RootWord = refl
 
 pub twin_making : (h : Hold) (p : Place) → is_in_making h (twin p) ≡ is_in_making h p
 twin_making h (InRun c w) = refl
@@ -63,10 +51,6 @@ pub record Applied (S : State) (g : Ghost) (cells cells' : Cells) (x : Sight) (e
   pub reach : (p : Place) (b : ℕ) → given (fresh p b) ≡ true → owns g.geo S x.hold p b ≡ true
   pub plain : (p : Place) (b : ℕ) → given (fresh p b) ≡ true → is_in_making x.hold p ≡ false
   pub sizes : (p : Place) (b : ℕ) → is_size g.geo p ≡ true → given (fresh p b) ≡ true → turn (latest x.call.entries) (block_of g.geo p b) ≡ Some true
-
-given_cases : (a c : Option Bool) → given (first_of_two a c) ≡ true → (given a ≡ true) ⊎ (given c ≡ true)
-given_cases None c e = inr e
-given_cases (Some y) c e = inl refl
 
 module _ (sh : Shape) (cells cells' : Cells) (S : State) (flies : ℕ → Diff → Type 0) (g : Ghost) (geo : GeoFits sh S g) (k : ℕ) (x : Sight) (e : Redo) (before after : List Entry)
     (f : SightFits sh cells S flies g k (record x { phase = Applying before })) (left_is : (p : Place) (b : ℕ) → latest (redos before) p b ≡ first_of_two (latest (redos after) p b) (delta e p b)) where

@@ -15,6 +15,7 @@ use Rattle.pm_world.specs.Sights.{is_pictured, is_made, is_recorded, call_in, si
 use Rattle.pm_world.specs.Lanes.{Ghost, own, has, owns, is_size, BornFits, SightFits, GeoFits}
 use Rattle.pm_world.specs.Lawful.{NewBlock}
 use Rattle.pm_world.specs.Memory.{bit}
+use Rattle.pm_world.proofs.Basics.{none_of}
 use Rattle.pm_world.proofs.Geometry.{size_part}
 use Rattle.pm_world.proofs.Frame.{own_has, fresh_given}
 use Rattle.pm_world.proofs.Replays.{over_none}
@@ -28,10 +29,6 @@ option_cases (Some false) = inr (inr refl)
 some_value : (a : Option ℕ) → a ≢ None → (x : ℕ) × (a ≡ Some x)
 some_value None ne = absurd (ne refl)
 some_value (Some x) ne = (x, refl)
-
-pub none_of : (d : Option Bool) → given d ≡ false → d ≡ None
-none_of None e = refl
-none_of (Some y) e = absurd (both_ways true e refl)
 
 both_none : (a c : Option Bool) → given a ≡ false → given c ≡ false → given (first_of_two a c) ≡ false
 both_none None c e u = u

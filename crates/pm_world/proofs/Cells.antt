@@ -38,10 +38,6 @@ pub occ_sort : (at : Occ) (l : Location) → sort l ≢ 2 → sort l ≢ 3 → o
 occ_sort (Run place) l a b e = a (sym (ap sort e))
 occ_sort (Zone zone) l a b e = b (sym (ap sort e))
 
--- memories that agree word by word have the same bits
-pub cells_alike : (sh : Shape) (mem new : Memory) → IsSame mem new → cells_of sh new ≡ cells_of sh mem
-cells_alike sh mem new e = ap (cells_of sh) (λ i l. e l i)
-
 -- a word of a sort became x
 became : (f f' : ℕ → ℕ) (n x : ℕ) → ((m : ℕ) → m ≢ n → f' m ≡ f m) → f' n ≡ x → (m : ℕ) → f' m ≡ put1 f n x m
 became f f' n x else_ here m = ⊎_elim (λ (q : m ≡ n). ap f' q ∙ (here ∙ (sym (put1_here f n x) ∙ ap (put1 f n x) (sym q)))) (λ (ne : m ≢ n). else_ m ne ∙ sym (put1_else f n x m ne)) (cases_eq m n)
@@ -52,19 +48,10 @@ module _ (sh : Shape) (mem new : Memory) where
   cells_counted e = λ i. cells_by sh (λ w. e (PoolWord w) (other_sort (PoolWord w) CommitCounter (λ q. omega arith)) i) (λ l. e (LockWord l) (other_sort (LockWord l) CommitCounter (λ q. omega arith)) i) (λ c. e (RunWord c) (other_sort (RunWord c) CommitCounter (λ q. omega arith)) i)
       (λ z. e (ZoneWord z) (other_sort (ZoneWord z) CommitCounter (λ q. omega arith)) i) (λ z. e (ZoneLock z) (other_sort (ZoneLock z) CommitCounter (λ q. omega arith)) i) (new CommitCounter) (e StopWord (other_sort StopWord CommitCounter (λ q. omega arith)) i)
 
-  -- the stop word alone
-  pub cells_stopped : IsSameBut StopWord mem new → cells_of sh new ≡ record (cells_of sh mem) { stop = new StopWord }
-  cells_stopped e = λ i. cells_by sh (λ w. e (PoolWord w) (other_sort (PoolWord w) StopWord (λ q. omega arith)) i) (λ l. e (LockWord l) (other_sort (LockWord l) StopWord (λ q. omega arith)) i) (λ c. e (RunWord c) (other_sort (RunWord c) StopWord (λ q. omega arith)) i)
-      (λ z. e (ZoneWord z) (other_sort (ZoneWord z) StopWord (λ q. omega arith)) i) (λ z. e (ZoneLock z) (other_sort (ZoneLock z) StopWord (λ q. omega arith)) i) (e CommitCounter (other_sort CommitCounter StopWord (λ q. omega arith)) i) (new StopWord)
-
   -- a word of the pool, a lock word, an occupancy word of a run or a zone, a zone's lock
   pub cells_stored : (w x : ℕ) → Becomes (PoolWord w) x mem new → cells_of sh new ≡ cells_by sh (put1 (λ v. mem (PoolWord v)) w x) (λ l. mem (LockWord l)) (λ c. mem (RunWord c)) (λ z. mem (ZoneWord z)) (λ z. mem (ZoneLock z)) (mem CommitCounter) (mem StopWord)
   cells_stored w x e = λ i. cells_by sh (λ v. became (λ u. mem (PoolWord u)) (λ u. new (PoolWord u)) w x (λ m ne. e.0 (PoolWord m) (other_number (PoolWord m) (PoolWord w) ne)) e.1 v i) (λ l. e.0 (LockWord l) (other_sort (LockWord l) (PoolWord w) (λ q. omega arith)) i) (λ c. e.0 (RunWord c) (other_sort (RunWord c) (PoolWord w) (λ q. omega arith)) i)
       (λ z. e.0 (ZoneWord z) (other_sort (ZoneWord z) (PoolWord w) (λ q. omega arith)) i) (λ z. e.0 (ZoneLock z) (other_sort (ZoneLock z) (PoolWord w) (λ q. omega arith)) i) (e.0 CommitCounter (other_sort CommitCounter (PoolWord w) (λ q. omega arith)) i) (e.0 StopWord (other_sort StopWord (PoolWord w) (λ q. omega arith)) i)
-
-  pub cells_locked : (l x : ℕ) → Becomes (LockWord l) x mem new → cells_of sh new ≡ cells_by sh (λ v. mem (PoolWord v)) (put1 (λ m. mem (LockWord m)) l x) (λ c. mem (RunWord c)) (λ z. mem (ZoneWord z)) (λ z. mem (ZoneLock z)) (mem CommitCounter) (mem StopWord)
-  cells_locked l x e = λ i. cells_by sh (λ v. e.0 (PoolWord v) (other_sort (PoolWord v) (LockWord l) (λ q. omega arith)) i) (λ v. became (λ u. mem (LockWord u)) (λ u. new (LockWord u)) l x (λ m ne. e.0 (LockWord m) (other_number (LockWord m) (LockWord l) ne)) e.1 v i) (λ c. e.0 (RunWord c) (other_sort (RunWord c) (LockWord l) (λ q. omega arith)) i)
-      (λ z. e.0 (ZoneWord z) (other_sort (ZoneWord z) (LockWord l) (λ q. omega arith)) i) (λ z. e.0 (ZoneLock z) (other_sort (ZoneLock z) (LockWord l) (λ q. omega arith)) i) (e.0 CommitCounter (other_sort CommitCounter (LockWord l) (λ q. omega arith)) i) (e.0 StopWord (other_sort StopWord (LockWord l) (λ q. omega arith)) i)
 
   pub cells_run : (c x : ℕ) → Becomes (RunWord c) x mem new → cells_of sh new ≡ cells_by sh (λ v. mem (PoolWord v)) (λ l. mem (LockWord l)) (put1 (λ m. mem (RunWord m)) c x) (λ z. mem (ZoneWord z)) (λ z. mem (ZoneLock z)) (mem CommitCounter) (mem StopWord)
   cells_run c x e = λ i. cells_by sh (λ v. e.0 (PoolWord v) (other_sort (PoolWord v) (RunWord c) (λ q. omega arith)) i) (λ l. e.0 (LockWord l) (other_sort (LockWord l) (RunWord c) (λ q. omega arith)) i) (λ v. became (λ u. mem (RunWord u)) (λ u. new (RunWord u)) c x (λ m ne. e.0 (RunWord m) (other_number (RunWord m) (RunWord c) ne)) e.1 v i)
@@ -73,10 +60,6 @@ module _ (sh : Shape) (mem new : Memory) where
   pub cells_zone : (y x : ℕ) → Becomes (ZoneWord y) x mem new → cells_of sh new ≡ cells_by sh (λ v. mem (PoolWord v)) (λ l. mem (LockWord l)) (λ c. mem (RunWord c)) (put1 (λ m. mem (ZoneWord m)) y x) (λ z. mem (ZoneLock z)) (mem CommitCounter) (mem StopWord)
   cells_zone y x e = λ i. cells_by sh (λ v. e.0 (PoolWord v) (other_sort (PoolWord v) (ZoneWord y) (λ q. omega arith)) i) (λ l. e.0 (LockWord l) (other_sort (LockWord l) (ZoneWord y) (λ q. omega arith)) i) (λ c. e.0 (RunWord c) (other_sort (RunWord c) (ZoneWord y) (λ q. omega arith)) i)
       (λ v. became (λ u. mem (ZoneWord u)) (λ u. new (ZoneWord u)) y x (λ m ne. e.0 (ZoneWord m) (other_number (ZoneWord m) (ZoneWord y) ne)) e.1 v i) (λ z. e.0 (ZoneLock z) (other_sort (ZoneLock z) (ZoneWord y) (λ q. omega arith)) i) (e.0 CommitCounter (other_sort CommitCounter (ZoneWord y) (λ q. omega arith)) i) (e.0 StopWord (other_sort StopWord (ZoneWord y) (λ q. omega arith)) i)
-
-  pub cells_zone_locked : (y x : ℕ) → Becomes (ZoneLock y) x mem new → cells_of sh new ≡ cells_by sh (λ v. mem (PoolWord v)) (λ l. mem (LockWord l)) (λ c. mem (RunWord c)) (λ z. mem (ZoneWord z)) (put1 (λ m. mem (ZoneLock m)) y x) (mem CommitCounter) (mem StopWord)
-  cells_zone_locked y x e = λ i. cells_by sh (λ v. e.0 (PoolWord v) (other_sort (PoolWord v) (ZoneLock y) (λ q. omega arith)) i) (λ l. e.0 (LockWord l) (other_sort (LockWord l) (ZoneLock y) (λ q. omega arith)) i) (λ c. e.0 (RunWord c) (other_sort (RunWord c) (ZoneLock y) (λ q. omega arith)) i)
-      (λ z. e.0 (ZoneWord z) (other_sort (ZoneWord z) (ZoneLock y) (λ q. omega arith)) i) (λ v. became (λ u. mem (ZoneLock u)) (λ u. new (ZoneLock u)) y x (λ m ne. e.0 (ZoneLock m) (other_number (ZoneLock m) (ZoneLock y) ne)) e.1 v i) (e.0 CommitCounter (other_sort CommitCounter (ZoneLock y) (λ q. omega arith)) i) (e.0 StopWord (other_sort StopWord (ZoneLock y) (λ q. omega arith)) i)
 
 -- ---- one word of the pool: the bits of other places stay
 pub bits_else : (sh : Shape) (words : ℕ → ℕ) (w x : ℕ) (p : Place) (b : ℕ) → word_of sh p ≢ w → read (bits_of sh (put1 words w x)) p b ≡ read (bits_of sh words) p b

@@ -28,12 +28,13 @@ use Rattle.pm_world.specs.Lanes.{is_decided, is_in_making, owns, Flies}
 use Rattle.pm_world.specs.Memory.{Memory, bit, cells_of}
 use Rattle.pm_world.specs.World.{Opening, Views, Past, World, settled_words, ghost_of}
 use Rattle.pm_world.specs.Crash.{Survives, NoneTorn}
+use Rattle.pm_world.proofs.Basics.{given_cases, same_place_refl}
 use Rattle.pm_world.proofs.Frame.{is_single, some_first, fresh_given, no_run, small_cases}
 use Rattle.pm_world.proofs.SurvivingWords.{log_fits}
 use Rattle.pm_world.proofs.RecoveredBits.{two_bits, entry_bit, record_bit, of_word, given_small}
 use Rattle.pm_world.proofs.ImageLogs.{redo_at}
 use Rattle.pm_world.proofs.LanesInImages.{Silent, Sealed, Current}
-use Rattle.pm_world.proofs.EntriesAtPlaces.{AllStand, Stands, of_place, same_place_refl}
+use Rattle.pm_world.proofs.EntriesAtPlaces.{AllStand, Stands, of_place}
 use Rattle.pm_world.proofs.WordsApart.{no_area}
 use Rattle.pm_world.proofs.RecordsAtPlaces.{Kind, speaks, speaks_of, old_given}
 use Rattle.pm_world.proofs.ImageSays.{three_cases, bare_bit, sealed_stand}
@@ -109,13 +110,9 @@ mask_below Set x s = omega arith
 mask_below Or x s = s
 mask_below And x s = omega arith
 
-given_cases : (a b : Option Bool) → (given a ≡ true) ⊎ (given b ≡ true) → given (first_of_two a b) ≡ true
-given_cases a b (inl e) = some_first a b e
-given_cases a b (inr e) = fresh_given a b e
-
-cases_given : (a b : Option Bool) → given (first_of_two a b) ≡ true → (given a ≡ true) ⊎ (given b ≡ true)
-cases_given None b e = inr e
-cases_given (Some y) b e = inl refl
+given_either : (a b : Option Bool) → (given a ≡ true) ⊎ (given b ≡ true) → given (first_of_two a b) ≡ true
+given_either a b (inl e) = some_first a b e
+given_either a b (inr e) = fresh_given a b e
 
 max_one : (a b : ℕ) → a < 2 → b < 2 → max a b ≡ 1 → (a ≡ 1) ⊎ (b ≡ 1)
 max_one a b x y e = ⊎_elim (λ (p : a ≡ 0). inr (omega arith)) (λ (p : a ≡ 1). inl p) (two_bits a x)
@@ -125,9 +122,9 @@ masks_give [] w i l s e = absurd (let z = bit_at-zero i in omega (arith, z, e))
 masks_give (d ∷ t) w i l s e = go (eqb d.place (8 * w)) (masks_give t w i l s.1) e
   where
     go : (b : Bool) → (bit_at (bits_of (of_word w t)) i ≡ 1 → given (entry_bit t w i) ≡ true) → bit_at (bits_of (cond b (d ∷ of_word w t) (of_word w t))) i ≡ 1 → given (first_of_two (entry_bit t w i) (cond b (given_bit d.op d.value i) None)) ≡ true
-    go true r q = given_cases (entry_bit t w i) (given_bit d.op d.value i) (⊎_elim (λ (z : bit_at (redo_mask d) i ≡ 1). inr (mask_given d.op d.value i l s.0 z)) (λ z. inl (r z))
+    go true r q = given_either (entry_bit t w i) (given_bit d.op d.value i) (⊎_elim (λ (z : bit_at (redo_mask d) i ≡ 1). inr (mask_given d.op d.value i l s.0 z)) (λ z. inl (r z))
         (max_one (bit_at (redo_mask d) i) (bit_at (bits_of (of_word w t)) i) (bit_at-lt (redo_mask d) i) (bit_at-lt (bits_of (of_word w t)) i) (sym (bit_at_or (redo_mask d) (bits_of (of_word w t)) i) ∙ q)))
-    go false r q = given_cases (entry_bit t w i) None (inl (r q))
+    go false r q = given_either (entry_bit t w i) None (inl (r q))
 
 masks_high : (es : List Redo) (w i : ℕ) → 64 ≤ i → AllSmall es → bit_at (bits_of (of_word w es)) i ≡ 0
 masks_high [] w i l s = bit_at-zero i
@@ -145,7 +142,7 @@ module _ (sh : Shape) (lane : ℕ) (ink : lane < sh.lanes) (w i : ℕ) where
   entered_bit : (es : List Entry) → AllStand sh lane ink es → given (entry_bit (map redo_at es) w i) ≡ true → OfPlace (redos es)
   entered_bit [] s e = absurd (both_ways false refl e)
   entered_bit (e ∷ t) s g = ⊎_elim (λ (y : given (entry_bit (map redo_at t) w i) ≡ true). later e.place (entered_bit t s.1 y)) (λ (y : given (cond (eqb (8 * e.word) (8 * w)) (given_bit e.op e.value i) None) ≡ true). here e.place s.0 (eqb (8 * e.word) (8 * w)) refl y)
-      (cases_given (entry_bit (map redo_at t) w i) (cond (eqb (8 * e.word) (8 * w)) (given_bit e.op e.value i) None) g)
+      (given_cases (entry_bit (map redo_at t) w i) (cond (eqb (8 * e.word) (8 * w)) (given_bit e.op e.value i) None) g)
     where
       later : (d : Option Place) → OfPlace (redos t) → OfPlace (with_redo d e (redos t))
       later None y = y
@@ -181,9 +178,6 @@ module _ (o : Opening) (mem : Memory) (views : Views) (g : Past) (x : World o me
       (λ (e : q ≡ twin p). both_ways (owned k (twin p) b) (away o mem views g x image sv torn j k ne p b a) (subst (λ y. owned k y b ≡ true) e t)) (of_place o.shape k ink p q ip iq w)
 
   module _ (w : ℕ) where
-    abbrev covering : Undo → Bool
-    covering u = covers u (8 * w)
-
     -- a lane that has a record of the word
     recording : (k : ℕ) (ink : k < o.shape.lanes) → given (record_bit (records image k) w 0) ≡ true → Current o mem views g x image sv torn k ink × (is_decided (views k).log.phase ≡ false)
     recording k ink e = ⊎_elim (λ (z : Silent o mem views g x image sv torn k ink). absurd (both_ways false refl (sym (ap given (bare_bit o mem views g x image sv torn k ink z.bare w 0)) ∙ e)))

@@ -80,16 +80,6 @@ soils_applying Clearing c mi lg en e = absurd (both_ways false refl e)
 soils_applying (Retiring n) c mi lg en e = absurd (both_ways false refl e)
 soils_applying Voiding c mi lg en e = absurd (both_ways false refl e)
 
-bitmap_clean : (ph : Phase) (c : ℕ) (mi lg : Bool) (en : Option Bool) → Rattle.pm_world.specs.Lanes.soils ph (InRun c 0) mi lg en ≡ true → given en ≡ true
-bitmap_clean Idle c mi lg en e = absurd (both_ways false refl e)
-bitmap_clean Open c mi lg en e = absurd (both_ways false refl e)
-bitmap_clean (Drawn n) c mi lg en e = absurd (both_ways false refl e)
-bitmap_clean (Sealing n) c mi lg en e = absurd (both_ways false refl e)
-bitmap_clean (Applying t) c mi lg en e = e
-bitmap_clean Clearing c mi lg en e = absurd (both_ways false refl e)
-bitmap_clean (Retiring n) c mi lg en e = absurd (both_ways false refl e)
-bitmap_clean Voiding c mi lg en e = absurd (both_ways false refl e)
-
 nil_parts : (xs ys : List Redo) → xs ++ ys ≡ [] → (xs ≡ []) × (ys ≡ [])
 nil_parts [] ys e = (refl, e)
 nil_parts (a ∷ xs) ys e = absurd (let z = ap length e in omega arith)

@@ -21,11 +21,10 @@ use Rattle.pm_view.specs.Entries.{Entry}
 use Rattle.pm_view.specs.Log.{Phase, Idle, Open, Drawn, Sealing, Applying, Clearing, Retiring, Voiding, Recorded, Log}
 use Rattle.pm_world.specs.Lanes.{is_decided}
 use Rattle.pm_world.specs.Logs.{IsRecordAt, EntryOf, AreWhole, BumpFits, PhaseFits, ends_with, used_slots}
-use Rattle.pm_world.specs.Lawful.{CanRecord}
 use Rattle.pm_world.specs.Memory.{Memory}
 use Rattle.pm_world.specs.Sights.{sight_of}
 use Rattle.pm_world.specs.World.{Opening, Views, Past, World}
-use Rattle.pm_world.specs.Crash.{Survives, NoneTorn}
+use Rattle.pm_world.specs.Crash.{Survives, NoneTorn, IsNextRecord}
 use Rattle.pm_world.proofs.Frame.{is_single}
 use Rattle.pm_world.proofs.SurvivingWords.{log_fits, SealIs, GenerationIs, seal_is, generation_is}
 use Rattle.pm_world.proofs.ImageLogs.{redo_at, redo_again, undo_from}
@@ -145,12 +144,11 @@ module _ (o : Opening) (mem : Memory) (views : Views) (g : Past) (x : World o me
 
     valid_good : (j : ℕ) (u : Undo) → j < 64 → valid_record image k j ≡ Some u → good_record o.shape.lanes o.shape.zones u ≡ true
     valid_good j u a valid = ⊎_elim (λ (z : Silent o mem views g x image sv torn k ink). absurd (z.bare.none_valid j u a valid)) (λ z. ⊎_elim (λ (z : Sealed o mem views g x image sv torn k ink). absurd (z.bare.none_valid j u a valid))
-        (λ (z : Current o mem views g x image sv torn k ink × (is_decided (views k).log.phase ≡ false)). let h = held_now o mem views g x image sv torn k ink z.0 j u a valid in ap (good_record o.shape.lanes o.shape.zones) h.is ∙ by h.held h.most (x.each_lane k z.0.runs).shape h.lawful) z) (three_cases o mem views g x image sv torn k ink)
+        (λ (z : Current o mem views g x image sv torn k ink × (is_decided (views k).log.phase ≡ false)). let h = held_now o mem views g x image sv torn k ink z.0 j u a valid in ap (good_record o.shape.lanes o.shape.zones) h.is ∙ by h.held h.most (x.each_lane k z.0.runs).shape h.raisable h.lawful) z) (three_cases o mem views g x image sv torn k ink)
       where
-        by : (r : Recorded) → length r.old ≤ 4 → (views k).fixed.shape ≡ o.shape → IsRecordAt (views k).log j r ⊎ ((length (views k).log.records ≡ j) × CanRecord (views k) r) → good_record o.shape.lanes o.shape.zones (undo_from o.shape (views k).log.generation r) ≡ true
-        by r most same (inl at) = let l = log_fits o mem views g x k ink in let f = l.records j r at in let low = get_within (views k).log.records j r at in
-            record_good r (data_kind r.place f.4) f.1 most f.5 (l.below (inr (inl (omega arith))))
-        by r most same (inr z) = let can = z.1 in let one = can.some in record_good r (before_kind r.place 0 (can.each 0 (omega arith)).plain) can.some most (λ i l. sym (ap (λ s. is_place s (place_after r.place i)) same) ∙ (can.each i l).place) (let b = can.below in omega arith)
+        by : (r : Recorded) → length r.old ≤ 4 → (views k).fixed.shape ≡ o.shape → (views k).log.generation < 2 ^ 62 → IsRecordAt (views k).log j r ⊎ ((length (views k).log.records ≡ j) × IsNextRecord (views k) r) → good_record o.shape.lanes o.shape.zones (undo_from o.shape (views k).log.generation r) ≡ true
+        by r most same low (inl at) = let f = (log_fits o mem views g x k ink).records j r at in record_good r (data_kind r.place f.4) f.1 most f.5 low
+        by r most same low (inr z) = let can = z.1 in let one = can.some in record_good r (before_kind r.place 0 (can.each 0 (omega arith)).plain) can.some most (λ i l. sym (ap (λ s. is_place s (place_after r.place i)) same) ∙ (can.each i l).place) low
 
     pub slot_good : (j : ℕ) → j < 64 → bad_slot image o.shape.lanes o.shape.zones k j ≡ false
     unfolding bad_slot

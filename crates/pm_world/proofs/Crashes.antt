@@ -8,6 +8,7 @@ use Rattle.pm_view.specs.Log.{Phase, Idle, Open, Drawn, Sealing, Applying, Clear
 use Rattle.pm_world.specs.States.{State, Diff, Call, diff, given, over, after_diff, lit, size_at, bright, shown, bright_huge, live, guards, read, replay, Cells}
 use Rattle.pm_world.specs.Sights.{Hold, Sight}
 use Rattle.pm_world.specs.Lanes.{Ghost, settled, own, owns, is_decided, in_flight, left, open_soils, FlightFits, SightFits, Flies, Bits}
+use Rattle.pm_world.proofs.Basics.{and_false, some_of, none_of}
 use Rattle.pm_world.proofs.Geometry.{huge_line, live_same}
 use Rattle.pm_world.proofs.Replays.{over_none, replay_same, replay_last}
 use Rattle.pm_world.proofs.Frame.{some_first, fresh_given, is_single, no_run, maker_owns, maker_no_run, small_cases, soiled_owned, owns_apart, twin_apart}
@@ -67,23 +68,11 @@ pub record Image (sh : Shape) (pool_lanes : ℕ) (m S : State) (g : Ghost) (sigh
 
 -- ---- one-bit facts
 
-pub some_of : (d : Option Bool) → given d ≡ true → (y : Bool) × (d ≡ Some y)
-some_of None e = absurd (both_ways false refl e)
-some_of (Some y) e = (y, refl)
-
-pub none_of : (d : Option Bool) → given d ≡ false → d ≡ None
-none_of None e = refl
-none_of (Some y) e = absurd (both_ways true e refl)
-
 first_is : (d e : Option Bool) (y : Bool) → d ≡ Some y → first_of_two d e ≡ Some y
 first_is d e y q = ap (λ z. first_of_two z e) q
 
 second_is : (d e : Option Bool) → given d ≡ false → first_of_two d e ≡ e
 second_is d e q = ap (λ z. first_of_two z e) (none_of d q)
-
-and_no : (t : Bool) → (t && false) ≡ false
-and_no true = refl
-and_no false = refl
 
 and_none : (t u : Bool) → t ≡ false → (t && u) ≡ false
 and_none t u e = ap (λ z. z && u) e
@@ -356,7 +345,7 @@ module _ (sh : Shape) (L pool_lanes : ℕ) (some : 1 ≤ L) (within : L ≤ pool
         ⊎_elim (λ (s : given en ≡ true). let v = some_of en s in ap (λ z. over z (im p b)) (n ∙ v.1) ∙ sym ((f.bits p b t).2 dec v.0 v.1))
         (λ (s : given en ≡ false). ap (λ z. over z (im p b)) n ∙ (over_none en (im p b) s ∙ (stays (λ w. both_ways (given en) s (d w)) ∙ (f.bits p b t).0 l'
         (false_from_ne_true (given (left ph p b)) (λ w. let v = some_of (left ph p b) w in both_ways (given en) s (ap given (f.call.todo p b v.0 v.1))))
-        (ap (λ z. (sights k).logged p && not z) dec ∙ and_no ((sights k).logged p))))) (cases_Bool (given en))
+        (ap (λ z. (sights k).logged p && not z) dec ∙ and_false ((sights k).logged p))))) (cases_Bool (given en))
 
     -- the image keeps the call, which was not decided
     kept_call : k < L → (n : ℕ) (ph : Phase) → (sights k).phase ≡ ph → decides ph (stands k) n ≡ true → in_flight ph ≡ true → left ph p b ≡ None → ((sights k).soiled p b ≡ true → ⊥) → is_decided ph ≡ false → Redoes sh (sights k) (spoken k) → Says
@@ -381,12 +370,12 @@ module _ (sh : Shape) (L pool_lanes : ℕ) (some : 1 ≤ L) (within : L ≤ pool
     lane_law ink Open e = settled_lane (never k Open e (λ n. refl)) (restored Open e refl (λ u l' d. dry k p b l' u ((at k Open e).soiled p b d).0) (says k (omega arith) Open e))
     lane_law ink (Drawn n) e = settled_lane (never k (Drawn n) e (λ n. refl)) (restored (Drawn n) e refl (λ u l' d. both_ways false refl ((at k (Drawn n) e).soiled p b d).0) (says k (omega arith) (Drawn n) e))
     lane_law ink (Sealing n) e = ⊎_elim (λ z. kept_call ink n (Sealing n) e (and_from (eqb n n) (stands k) (eq-eqb n n refl) z.1) refl refl (λ d. both_ways false refl ((at k (Sealing n) e).soiled p b d).0) refl z.0)
-        (λ z. settled_lane (never k (Sealing n) e (λ m. ap (λ s. eqb n m && s) z.1 ∙ and_no (eqb n m))) (restored (Sealing n) e refl (λ u l' d. both_ways false refl ((at k (Sealing n) e).soiled p b d).0) z.0)) (says k (omega arith) (Sealing n) e)
+        (λ z. settled_lane (never k (Sealing n) e (λ m. ap (λ s. eqb n m && s) z.1 ∙ and_false (eqb n m))) (restored (Sealing n) e refl (λ u l' d. both_ways false refl ((at k (Sealing n) e).soiled p b d).0) z.0)) (says k (omega arith) (Sealing n) e)
     lane_law ink (Applying r) e = settled_lane (never k (Applying r) e (λ n. refl)) (redone (Applying r) e refl (λ d. ((at k (Applying r) e).soiled p b d).0) (says k (omega arith) (Applying r) e))
     lane_law ink Clearing e = let clean : (sights k).soiled p b ≡ true → ⊥ = λ d. both_ways false refl ((at k Clearing e).soiled p b d).0 in settled_lane (never k Clearing e (λ n. refl))
-        (⊎_elim (λ z. redone Clearing e refl (λ d. absurd (clean d)) z) (λ z. silent Clearing e refl clean z (and_no ((sights k).logged p))) (says k (omega arith) Clearing e))
+        (⊎_elim (λ z. redone Clearing e refl (λ d. absurd (clean d)) z) (λ z. silent Clearing e refl clean z (and_false ((sights k).logged p))) (says k (omega arith) Clearing e))
     lane_law ink (Retiring n) e = ⊎_elim (λ z. kept_call ink n (Retiring n) e (and_from (eqb n n) (stands k) (eq-eqb n n refl) z.1) refl refl (λ d. both_ways false refl ((at k (Retiring n) e).soiled p b d).0) refl z.0)
-        (λ z. settled_lane (never k (Retiring n) e (λ m. ap (λ s. eqb n m && s) z.1 ∙ and_no (eqb n m))) (restored (Retiring n) e refl (λ u l' d. both_ways false refl ((at k (Retiring n) e).soiled p b d).0) z.0)) (says k (omega arith) (Retiring n) e)
+        (λ z. settled_lane (never k (Retiring n) e (λ m. ap (λ s. eqb n m && s) z.1 ∙ and_false (eqb n m))) (restored (Retiring n) e refl (λ u l' d. both_ways false refl ((at k (Retiring n) e).soiled p b d).0) z.0)) (says k (omega arith) (Retiring n) e)
     lane_law ink Voiding e = let clean : (sights k).soiled p b ≡ true → ⊥ = λ d. both_ways false refl ((at k Voiding e).soiled p b d).0 in settled_lane (never k Voiding e (λ n. refl))
         (⊎_elim (λ z. ⊎_elim (λ (w : (sights k).logged p ≡ true) _. ap (λ v. over v (im p b)) (z.0 p b i) ∙ (stays clean ∙ z.1 p b i w)) (λ (w : (sights k).logged p ≡ false). silent Voiding e refl clean z.0 (and_none ((sights k).logged p) true w)) (cases_Bool ((sights k).logged p)))
         (λ z. restored Voiding e refl (λ u l' d. clean d) z) (says k (omega arith) Voiding e))
@@ -397,7 +386,3 @@ module _ (sh : Shape) (L pool_lanes : ℕ) (some : 1 ≤ L) (within : L ≤ pool
       (λ (ink : k < L). y.joins p b k (omega arith) i (λ j ne. unspoken j p b i (apart k j (λ q. ne (sym q)) p b z.1, away k j (λ q. ne (sym q)) p b z.1)) ∙ lane_law k p b i z.1 l ink (sights k).phase refl)
       (λ (out : L ≤ k). absurd (both_ways (owns g.geo (settled o g) (hold_at k) p b) (beyond_owns k out p b) z.1)) (cases_lt k L))
       (λ none_. nobody_law p b i none_ l) (owner p b)
-
-  -- what is decided is kept
-  pub acknowledged : (n : ℕ) → g.decided n ≡ true → keep n ≡ true
-  acknowledged n e = or_left (g.decided n) (decided_by sights stands L n) e

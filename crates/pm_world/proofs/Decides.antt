@@ -1,6 +1,6 @@
 -- A CALL IS DECIDED, over bits: what it makes final is settled, and the blocks that it allocates or frees change hands.
 use Rattle.std.specs.Prelude.{List, [], ◌∷◌}
-use Rattle.std.proofs.Common.{◌≡◌, ◌≢◌, ℕ, zero, suc, ◌+◌, ◌*◌, ◌%◌, ◌<◌, ◌≤◌, ◌⊎◌, inl, inr, ⊎_elim, Bool, true, false, cond, nat_le, nat_lt, ◌&&◌, ◌||◌, not, ◌==◌, refl, sym, ap, ◌∙◌, subst, arith, ne_eqb, Option, None, Some}
+use Rattle.std.proofs.Common.{◌≡◌, ◌≢◌, ℕ, zero, suc, ◌+◌, ◌%◌, ◌<◌, ◌≤◌, ◌⊎◌, inl, inr, ⊎_elim, Bool, true, false, cond, nat_le, nat_lt, ◌&&◌, ◌||◌, not, ◌==◌, refl, sym, ap, ◌∙◌, subst, arith, ne_eqb, Option, None, Some}
 use Rattle.std.proofs.lemmas.Bool.{cases_eq, cases_Bool, cases_lt, eqb-true, le-leb, lt-ltb, ltb-true, both_ways, and_parts, and_from, or_cases, or_left, or_right, false_from_ne_true, true_from_ne_false, cond-false}
 use Rattle.pm_layout.specs.declared.shape.Shape.{Shape}
 use Rattle.pm_view.specs.Places.{Place, InRun, InHuge, Descr, RootWord, Block, Small, Big, Root, block_of, header, in_span, is_data, same_place}
@@ -11,6 +11,7 @@ use Rattle.pm_world.specs.States.{State, Diff, Call, diff, given, over, after_di
 use Rattle.pm_world.specs.Sights.{Hold, Sight}
 use Rattle.pm_world.specs.Lanes.{Ghost, own, rights, owns, sees, has, valid, TurnFlight, TurnAfter, TurnFits, DescrFits, HoldFits, SightFits, settled, Flies, flies_at, is_taken, GeoFits, Bits}
 use Rattle.pm_world.specs.Course.{holder_after}
+use Rattle.pm_world.proofs.Basics.{some_of, none_of, val_alike}
 use Rattle.pm_world.proofs.Frame.{Around, some_first, mine_own, here_own, own_has, found_has, no_run, owned_kept}
 use Rattle.pm_world.proofs.Geometry.{live_same}
 use Rattle.pm_world.proofs.Going.{Turned, goes_on, same_made}
@@ -36,14 +37,6 @@ decided_sight x todo = record x {
 split_bit : (d : Option Bool) → (P : Option Bool → Type 0) → (d ≡ None → P None) → ((y : Bool) → d ≡ Some y → P (Some y)) → P d
 split_bit None P a b = a refl
 split_bit (Some y) P a b = b y refl
-
-pub some_of : (d : Option Bool) → given d ≡ true → (y : Bool) × (d ≡ Some y)
-some_of None e = absurd (both_ways false refl e)
-some_of (Some y) e = (y, refl)
-
-pub none_of : (d : Option Bool) → given d ≡ false → d ≡ None
-none_of None e = refl
-none_of (Some y) e = absurd (both_ways true e refl)
 
 pub first_none : (a d : Option Bool) → given a ≡ false → first_of_two a d ≡ d
 first_none None d e = refl
@@ -83,10 +76,6 @@ some_given d zero = inl (λ b l. absurd (omega arith))
 some_given d (suc n) = ⊎_elim (λ (t : given (d n) ≡ true). inr (n, t))
     (λ (u : given (d n) ≡ false). ⊎_elim (λ (y : (b : ℕ) → b < n → given (d b) ≡ false). inl (λ b l. ⊎_elim (λ (e : b ≡ n). ap (λ i. given (d i)) e ∙ u) (λ (ne : b ≢ n). y b (omega arith)) (cases_eq b n)))
     (λ (y : (b : ℕ) × (given (d b) ≡ true)). inr y) (some_given d n)) (cases_Bool (given (d n)))
-
-val_alike : (w y : ℕ → Bool) (i n : ℕ) → ((b : ℕ) → b < i + n → w b ≡ y b) → val w i n ≡ val y i n
-val_alike w y i zero h = refl
-val_alike w y i (suc n) h = ap (λ t. cond t 1 0 + 2 * val w (suc i) n) (h i (omega arith)) ∙ ap (λ t. cond (y i) 1 0 + 2 * t) (val_alike w y (suc i) n (λ b l. h b (omega arith)))
 
 -- two numbers of chunks, from one chunk on, that are of the same chunks
 in_span_true : (f n c : ℕ) → f ≤ c → c < f + n → in_span f n c ≡ true

@@ -1,7 +1,7 @@
 -- ONE MORE ENTRY of an open call, over bits: what the lane's sight owes, where the entry's bits are of its own blocks, of blocks that it found, or of data
 -- that it may change.
 use Rattle.std.specs.Prelude.{List, [], ◌∷◌, ◌++◌}
-use Rattle.std.proofs.Common.{◌≡◌, ℕ, zero, suc, ◌+◌, ◌*◌, ◌<◌, ◌⊎◌, inl, inr, ⊎_elim, Bool, true, false, cond, ◌&&◌, ◌||◌, refl, sym, ap, ◌∙◌, subst, arith, Option, None, Some}
+use Rattle.std.proofs.Common.{◌≡◌, ℕ, suc, ◌<◌, ◌⊎◌, inl, inr, ⊎_elim, Bool, true, false, ◌&&◌, ◌||◌, refl, sym, ap, ◌∙◌, subst, arith, Option, None, Some}
 use Rattle.std.proofs.lemmas.Bool.{both_ways, and_parts, and_from, or_cases, or_right, cond-true, false_from_ne_true}
 use Rattle.pm_layout.specs.declared.shape.Shape.{Shape}
 use Rattle.pm_view.specs.Changes.{Undrained}
@@ -13,6 +13,7 @@ use Rattle.pm_view.specs.View.{View}
 use Rattle.pm_world.specs.States.{State, Diff, diff, given, over, there, val, Cells}
 use Rattle.pm_world.specs.Sights.{Hold, is_made, is_recorded, is_slot_drained, is_logged_from, call_of, call_in, sight_of}
 use Rattle.pm_world.specs.Lanes.{Ghost, own, has, owns, is_in_making, TurnBefore, DescrFits, is_size, SightFits, GeoFits}
+use Rattle.pm_world.proofs.Basics.{given_cond, given_cases, some_cond, made_turn, val_alike, first_given, second_given}
 use Rattle.pm_world.proofs.BlocksKnown.{first_so, block_so}
 use Rattle.pm_world.proofs.Frame.{mine_own, own_has, some_first, fresh_given, maker_no_run, maker_owns, small_run}
 
@@ -59,34 +60,6 @@ pub logged_recorded : (sh : Shape) (lane : ℕ) (changes : List Undrained) (j : 
 logged_recorded sh lane changes j [] p e = e
 logged_recorded sh lane changes j (r ∷ rs) p e = ⊎_elim (λ (t : (given (old_in r p) && is_slot_drained sh lane changes j) ≡ true). first_given (old_in r p) (old_of rs p) (and_parts (given (old_in r p)) (is_slot_drained sh lane changes j) t).0)
     (λ (t : is_logged_from sh lane changes (suc j) rs p ≡ true). second_given (old_in r p) (old_of rs p) (logged_recorded sh lane changes (suc j) rs p t)) (or_cases (given (old_in r p) && is_slot_drained sh lane changes j) (is_logged_from sh lane changes (suc j) rs p) e)
-  where
-    first_given : (a c : Option ℕ) → given a ≡ true → given (first_of_two a c) ≡ true
-    first_given None c t = absurd (both_ways false refl t)
-    first_given (Some y) c t = refl
-
-    second_given : (a c : Option ℕ) → given c ≡ true → given (first_of_two a c) ≡ true
-    second_given None c t = t
-    second_given (Some y) c t = refl
-
-given_cond : (t : Bool) (y : Option Bool) → given (cond t y None) ≡ true → (t ≡ true) × (given y ≡ true)
-given_cond true y e = (refl, e)
-given_cond false y e = absurd (both_ways false refl e)
-
-some_cond : (t : Bool) (y : Option Bool) (z : Bool) → cond t y None ≡ Some z → y ≡ Some z
-some_cond true y z e = e
-some_cond false y z e = absurd (both_ways false refl (ap given e))
-
-made_turn : (a : Option Bool) → is_made a ≡ true → a ≡ Some true
-made_turn None e = absurd (both_ways false refl e)
-made_turn (Some y) e = ap (λ t. Some t) e
-
-given_cases : (a c : Option Bool) → given (first_of_two a c) ≡ true → (given a ≡ true) ⊎ (given c ≡ true)
-given_cases None c e = inr e
-given_cases (Some y) c e = inl refl
-
-pub val_alike : (w y : ℕ → Bool) (i n : ℕ) → ((b : ℕ) → b < i + n → w b ≡ y b) → val w i n ≡ val y i n
-val_alike w y i zero h = refl
-val_alike w y i (suc n) h = ap (λ t. cond t 1 0 + 2 * val w (suc i) n) (h i (omega arith)) ∙ ap (λ t. cond (y i) 1 0 + 2 * t) (val_alike w y (suc i) n (λ b l. h b (omega arith)))
 
 -- a descriptor that is told by its bits below 64
 descr_alike : (a : Option Bool) (f n : ℕ) (d d' : ℕ → Option Bool) → given a ≡ true → ((b : ℕ) → b < 64 → d' b ≡ d b) → DescrFits a f n d → DescrFits a f n d'

@@ -1,6 +1,6 @@
 -- A lane's entries as an image has them, of words, say of each place what they say of places: a word has no entry in its other use that gives the bit.
 use Rattle.std.proofs.Common.{◌≡◌, ◌≢◌, ℕ, zero, suc, ◌+◌, ◌*◌, ◌<◌, ◌⊎◌, inl, inr, ⊎_elim, Bool, true, false, cond, eqb, All, List, [], ◌∷◌, ◌++◌, map, slice_get, IfSome, refl, sym, ap, ◌∙◌, subst, arith, eq-eqb, ne_eqb, Option, None, Some}
-use Rattle.std.proofs.lemmas.Bool.{cases_eq, cases_Bool, both_ways, eqb-true, and_parts, and_from}
+use Rattle.std.proofs.lemmas.Bool.{cases_eq, cases_Bool, both_ways}
 use Rattle.std.proofs.lemmas.List.Elements.{All-head, All-tail}
 use Rattle.std.proofs.lemmas.Option.{none-some, same_Some}
 use Rattle.pm_record.specs.declared.redo.Op.{Op}
@@ -13,37 +13,14 @@ use Rattle.pm_view.specs.Entries.{Entry, Redo, given_bit, op_bit, first_of_two, 
 use Rattle.pm_view.specs.Log.{Log}
 use Rattle.pm_world.specs.States.{given, cell}
 use Rattle.pm_world.specs.Logs.{IsEntryAt, EntryOf, AreWhole, ends_with}
+use Rattle.pm_world.proofs.PlacesAt.{same_place_true}
+use Rattle.pm_world.proofs.Basics.{none_of, same_place_refl}
 use Rattle.pm_world.proofs.WordsApart.{one_cell, no_area}
-use Rattle.pm_world.proofs.Crashes.{none_of}
 use Rattle.pm_world.proofs.Frame.{some_first, fresh_given}
 use Rattle.pm_world.proofs.RecoveredBits.{entry_bit, of_word, SetsWord, given_small}
 use Rattle.pm_world.proofs.ImageLogs.{redo_at}
 
 -- ---- the two uses of a word
-
-pub same_place_refl : (p : Place) → same_place p p ≡ true
-same_place_refl (InRun c w) = and_from (eqb c c) (eqb w w) (eq-eqb c c refl) (eq-eqb w w refl)
-same_place_refl (InHuge c w) = and_from (eqb c c) (eqb w w) (eq-eqb c c refl) (eq-eqb w w refl)
-same_place_refl (Descr c) = eq-eqb c c refl
-same_place_refl RootWord = refl
-
-pub same_place_is : (p q : Place) → same_place p q ≡ true → p ≡ q
-same_place_is (InRun c w) (InRun d v) e = let t = and_parts (eqb c d) (eqb w v) e in ap (λ z. InRun z w) (eqb-true c d t.0) ∙ ap (λ z. InRun d z) (eqb-true w v t.1)
-same_place_is (InRun c w) (InHuge d v) e = absurd (both_ways false refl e)
-same_place_is (InRun c w) (Descr d) e = absurd (both_ways false refl e)
-same_place_is (InRun c w) RootWord e = absurd (both_ways false refl e)
-same_place_is (InHuge c w) (InRun d v) e = absurd (both_ways false refl e)
-same_place_is (InHuge c w) (InHuge d v) e = let t = and_parts (eqb c d) (eqb w v) e in ap (λ z. InHuge z w) (eqb-true c d t.0) ∙ ap (λ z. InHuge d z) (eqb-true w v t.1)
-same_place_is (InHuge c w) (Descr d) e = absurd (both_ways false refl e)
-same_place_is (InHuge c w) RootWord e = absurd (both_ways false refl e)
-same_place_is (Descr c) (InRun d v) e = absurd (both_ways false refl e)
-same_place_is (Descr c) (InHuge d v) e = absurd (both_ways false refl e)
-same_place_is (Descr c) (Descr d) e = ap (λ z. Descr z) (eqb-true c d e)
-same_place_is (Descr c) RootWord e = absurd (both_ways false refl e)
-same_place_is RootWord (InRun d v) e = absurd (both_ways false refl e)
-same_place_is RootWord (InHuge d v) e = absurd (both_ways false refl e)
-same_place_is RootWord (Descr d) e = absurd (both_ways false refl e)
-same_place_is RootWord RootWord e = refl
 
 abbrev kind : Place → ℕ
 kind (InRun c w) = 0
@@ -125,7 +102,7 @@ module _ (sh : Shape) (lane : ℕ) (ink : lane < sh.lanes) where
       nothing None = refl
       nothing (Some z) = refl
   one_bit p b e rest (Some r) a s h x q = ap (λ y. first_of_two y (cond (eqb (8 * e.word) (8 * word_of sh p)) (given_bit e.op e.value b) None)) q ∙ ap (first_of_two (latest rest p b)) (⊎_elim
-      (λ (z : same_place r p ≡ true). let is = same_place_is r p z in ap (λ t. cond t (given_bit e.op e.value b) None) (eq-eqb (8 * e.word) (8 * word_of sh p) (ap (λ n. 8 * n) (sym s.1 ∙ ap (word_of sh) is)) ∙ sym z))
+      (λ (z : same_place r p ≡ true). let is = same_place_true r p z in ap (λ t. cond t (given_bit e.op e.value b) None) (eq-eqb (8 * e.word) (8 * word_of sh p) (ap (λ n. 8 * n) (sym s.1 ∙ ap (word_of sh) is)) ∙ sym z))
       (λ (z : same_place r p ≡ false). ⊎_elim (λ (w : e.word ≡ word_of sh p). twin_case z (of_place p r a s.0 (s.1 ∙ w)) h)
       (λ (w : e.word ≢ word_of sh p). ap (λ t. cond t (given_bit e.op e.value b) None) (same_words e.word (word_of sh p) w ∙ sym z)) (cases_eq e.word (word_of sh p))) (cases_Bool (same_place r p)))
     where

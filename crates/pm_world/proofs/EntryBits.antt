@@ -19,7 +19,8 @@ use Rattle.pm_world.specs.Sights.{sight_of}
 use Rattle.pm_world.specs.Lanes.{Ghost, own, has, owns, is_in_making, TurnBefore, DescrFits, is_size, SightFits, GeoFits}
 use Rattle.pm_world.specs.Lawful.{offset_in, is_guarded, HoldsRoot, MayChangeAt, IsOwnData, EntersAt, EntersDescriptor}
 use Rattle.pm_world.specs.Memory.{bit}
-use Rattle.pm_world.proofs.Entering.{added, Enters, block_known, huge_known, val_alike}
+use Rattle.pm_world.proofs.Basics.{given_cond, some_of, val_alike}
+use Rattle.pm_world.proofs.Entering.{added, Enters, block_known, huge_known}
 use Rattle.pm_world.proofs.Frame.{mine_own, here_own, own_has, making_own, big_valid, maker_no_run, small_run}
 use Rattle.pm_world.proofs.PlacesAt.{HasUse, same_place_true}
 use Rattle.pm_world.proofs.Values.{val_from}
@@ -39,14 +40,6 @@ turn_from : (m h : Bool) (y : Option Bool) → ((z : Bool) → y ≡ Some z → 
 turn_from m h None f = tt
 turn_from m h (Some true) f = (f true refl).0 refl
 turn_from m h (Some false) f = (f false refl).1 refl
-
-some_of : (y : Option Bool) → given y ≡ true → (z : Bool) × (y ≡ Some z)
-some_of None e = absurd (both_ways false refl e)
-some_of (Some z) e = (z, refl)
-
-given_cond : (t : Bool) (y : Option Bool) → given (cond t y None) ≡ true → (t ≡ true) × (given y ≡ true)
-given_cond true y e = (refl, e)
-given_cond false y e = absurd (both_ways false refl e)
 
 line_of : (n cl : ℕ) → n % cl ≡ 0 → cl * (n / cl) ≡ n
 line_of n cl e = let a = mod-eq-sub-mul-div n cl in let b = mul-div-le n cl in omega arith

@@ -33,7 +33,7 @@ applying Clearing p b l m h a e s f u = absurd (both_ways false refl e)
 applying (Retiring n) p b l m h a e s f u = absurd (both_ways false refl e)
 applying Voiding p b l m h a e s f u = absurd (both_ways false refl e)
 
-early_unapplied : (ph : Phase) → is_early ph ≡ true → (p : Place) (b : ℕ) → given (left ph p b) ≡ false
+pub early_unapplied : (ph : Phase) → is_early ph ≡ true → (p : Place) (b : ℕ) → given (left ph p b) ≡ false
 early_unapplied Idle e p b = refl
 early_unapplied Open e p b = refl
 early_unapplied (Drawn n) e p b = refl
@@ -61,10 +61,10 @@ module _ (sh : Shape) (L : ℕ) (o : State) (cells : Cells) (sights : ℕ → Si
   fit j = x.each_lane j
 
   -- a word that says which blocks are allocated is under no record
-  unlogged : (j : ℕ) (p : Place) (b : ℕ) → is_pictured p ≡ false → ((sights j).logged p && not (is_decided (sights j).phase)) ≡ false
+  pub unlogged : (j : ℕ) (p : Place) (b : ℕ) → is_pictured p ≡ false → ((sights j).logged p && not (is_decided (sights j).phase)) ≡ false
   unlogged j p b e = not_true ((sights j).logged p) (is_decided (sights j).phase) (λ l u. both_ways (given ((sights j).call.fresh p b)) (plain j p b e) ((fit j).stored p b u l))
 
-  owner_of : (B : Block) → ((j : ℕ) × (own (sights j).hold B ≡ true)) ⊎ ((j : ℕ) → own (sights j).hold B ≡ false)
+  pub owner_of : (B : Block) → ((j : ℕ) × (own (sights j).hold B ≡ true)) ⊎ ((j : ℕ) → own (sights j).hold B ≡ false)
   owner_of B = ⊎_elim (λ (y : (j : ℕ) × (own (sights j).hold B ≡ true)). inl y)
       (λ (y : (j : ℕ) → j < L → own (sights j).hold B ≡ false). inr (λ j. ⊎_elim (λ (l : j < L). y j l) (λ (l : L ≤ j). (x.beyond j l B).0) (cases_lt j L))) (some_lane (λ j. own (sights j).hold B) L)
 

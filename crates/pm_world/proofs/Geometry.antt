@@ -1,6 +1,6 @@
 -- Blocks and their bits: an allocated block's bit is its own, and living bits depend on their block's bits alone.
-use Rattle.std.proofs.Common.{◌≡◌, ℕ, ◌≤◌, ◌+◌, ◌-◌, ◌*◌, ◌/◌, ◌%◌, nat_le, nat_lt, Bool, true, false, ◌&&◌, ◌||◌, eqb, refl, sym, ap, ◌∙◌, arith, eq-eqb, ne_eqb}
-use Rattle.std.proofs.lemmas.Bool.{eqb-true, both_ways, and_parts, and_from, cond-false}
+use Rattle.std.proofs.Common.{◌≡◌, ℕ, ◌≤◌, ◌+◌, ◌-◌, ◌*◌, ◌/◌, ◌%◌, nat_le, nat_lt, Bool, true, false, ◌&&◌, ◌||◌, eqb, refl, sym, ap, ◌∙◌, arith, ne_eqb}
+use Rattle.std.proofs.lemmas.Bool.{eqb-true, both_ways, and_parts, cond-false}
 use Rattle.std.proofs.Math.Nat.{mul_comm}
 use lib.Arith.{digits_div}
 use Rattle.pm_view.specs.Places.{Place, InRun, InHuge, Descr, RootWord, Block, Small, Big, Root, Geometry, part, block_of, place_of, bit_of, same}
@@ -17,11 +17,6 @@ same_true (Big f) Root e = absurd (both_ways false refl e)
 same_true Root (Small c i) e = absurd (both_ways false refl e)
 same_true Root (Big f) e = absurd (both_ways false refl e)
 same_true Root Root e = refl
-
-pub same_refl : (B : Block) → same B B ≡ true
-same_refl (Small c i) = and_from (eqb c c) (eqb i i) (eq-eqb c c refl) (eq-eqb i i refl)
-same_refl (Big f) = eq-eqb f f refl
-same_refl Root = refl
 
 -- a block's allocation bit is its own
 pub alloc_block : (g : Ghost) (B : Block) → valid g B ≡ true → block_of g.geo (place_of B) (bit_of B) ≡ B

@@ -31,15 +31,15 @@ pub begins : HistoryBegins
 begins o g was ghosts e = record { finds = λ keep d n l. absurd (omega arith) }
 
 -- ---- STEPS OTHER THAN THE DRAW: the entries stay, and the decided calls only grow
-record Grows (g g' : Past) : Type 0 where
-  drew : g'.drew ≡ g.drew
-  length : g'.length ≡ g.length
-  decided : (m : ℕ) → g.decided m ≡ true → g'.decided m ≡ true
+pub record Grows (g g' : Past) : Type 0 where
+  pub drew : g'.drew ≡ g.drew
+  pub length : g'.length ≡ g.length
+  pub decided : (m : ℕ) → g.decided m ≡ true → g'.decided m ≡ true
 
-stays : (g : Past) → Grows g g
+pub stays : (g : Past) → Grows g g
 stays g = record { drew = refl; length = refl; decided = λ m e. e }
 
-stored_grows : (ph : Phase) (q : Part) (n : ℕ) (g : Past) → Grows g (past_stored ph q n g)
+pub stored_grows : (ph : Phase) (q : Part) (n : ℕ) (g : Past) → Grows g (past_stored ph q n g)
 stored_grows Open GenerationPart n g = stays g
 stored_grows Open SealPart n g = stays g
 stored_grows Open EntryPart n g = stays g
@@ -74,7 +74,7 @@ drained_grows (Retiring n) v g left =
     record { drew = refl; length = refl; decided = λ m e. still_true (m == n) (g.decided m) e }
 drained_grows Voiding v g left = record { drew = refl; length = refl; decided = λ m e. e }
 
-drain_grows : (g : Past) (v : View) (left : List Undrained) → Grows g (past_drained g v left)
+pub drain_grows : (g : Past) (v : View) (left : List Undrained) → Grows g (past_drained g v left)
 drain_grows g v [] = drained_grows v.log.phase v g []
 drain_grows g v (u ∷ left) = record { drew = refl; length = refl; decided = λ m e. e }
 
@@ -96,7 +96,7 @@ keeps o g g' was ghosts w h = record { finds = finds }
         (h.finds keep (λ m t y. d m (omega arith) (w.decided m y)) n (omega arith) p b)
 
 -- ---- THE DRAW
-at_flight : (ph : Phase) (n : ℕ) (d : Diff) (P : ℕ → Diff → Type 0)
+pub at_flight : (ph : Phase) (n : ℕ) (d : Diff) (P : ℕ → Diff → Type 0)
     → flies_at ph n → FlightFits P ph d → P n d
 at_flight Idle n d P e f = absurd e
 at_flight Open n d P e f = absurd e

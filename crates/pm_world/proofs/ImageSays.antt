@@ -1,5 +1,5 @@
 -- What each lane's log gives each place's bits in a crash image, by how far its call has come.
-use Rattle.std.proofs.Common.{◌≡◌, ℕ, ◌+◌, ◌*◌, ◌<◌, ◌≤◌, ◌⊎◌, inl, inr, ⊎_elim, nat_lt, Bool, true, false, cond, not, ◌==◌, List, [], refl, sym, ap, ◌∙◌, subst, arith, eq-eqb, ne_eqb, Option, None, Some}
+use Rattle.std.proofs.Common.{◌≡◌, ℕ, ◌+◌, ◌*◌, ◌<◌, ◌≤◌, ◌⊎◌, inl, inr, ⊎_elim, nat_lt, Bool, false, cond, not, ◌==◌, List, [], refl, sym, ap, ◌∙◌, subst, arith, eq-eqb, ne_eqb, Option, None, Some}
 use Rattle.std.specs.Int.{bit_at}
 use Rattle.std.specs.List.{find}
 use Rattle.std.specs.Option.{option_map}
@@ -16,6 +16,7 @@ use Rattle.pm_world.specs.Logs.{PhaseFits}
 use Rattle.pm_world.specs.Memory.{Memory, bit, cells_of}
 use Rattle.pm_world.specs.World.{Opening, Views, Past, World, settled_words, ghost_of}
 use Rattle.pm_world.specs.Crash.{Survives, NoneTorn}
+use Rattle.pm_world.proofs.Basics.{some_of}
 use Rattle.pm_world.proofs.Crashes.{Restores, Redoes, IsSilent, IsPutBack, PhaseSays}
 use Rattle.pm_world.proofs.RecoveredBits.{record_bit, entry_bit, log_bit}
 use Rattle.pm_world.proofs.SurvivingWords.{log_fits}
@@ -32,10 +33,6 @@ stands_in image k before phase = false
 
 no_log : (rs : List Recorded) (sh : Rattle.pm_layout.specs.declared.shape.Shape.Shape) (lane : ℕ) (changes : List Rattle.pm_view.specs.Changes.Undrained) (p : Place) → rs ≡ [] → is_logged sh lane changes rs p ≡ false
 no_log rs sh lane changes p e = ap (λ r. is_logged sh lane changes r p) e
-
-given_value : (d : Option ℕ) → given d ≡ true → (y : ℕ) × (d ≡ Some y)
-given_value None e = absurd (both_ways false refl e)
-given_value (Some y) e = (y, refl)
 
 module _ (o : Opening) (mem : Memory) (views : Views) (g : Past) (x : World o mem views g) (image : List ℕ) (sv : Survives o mem views image) (torn : NoneTorn o views image) where
   -- what lane k's log gives, of the pool's lanes
@@ -79,7 +76,7 @@ module _ (o : Opening) (mem : Memory) (views : Views) (g : Past) (x : World o me
 
     -- an aborted call has put back what is under its records
     put_back : (views k).log.phase ≡ Voiding → IsPutBack o.shape (read (cells_of o.shape mem).pool) (settled_words o g) (sight_of (views k))
-    put_back e p b i lg = let z = logged_record (views k).fixed.shape (views k).fixed.lane (views k).changes (views k).log.records p 0 lg in let y = given_value (old_of (views k).log.records p) (old_given p (views k).log.records z.slot z.held z.at z.has_) in
+    put_back e p b i lg = let z = logged_record (views k).fixed.shape (views k).fixed.lane (views k).changes (views k).log.records p 0 lg in let y = some_of (old_of (views k).log.records p) (old_given p (views k).log.records z.slot z.held z.at z.has_) in
         let olds = (log_fits o mem views g x k ink).olds p y.0 y.1 b in let f = x.bits.each_lane k in
         (f.bits p b olds.0).3 (bit_at y.0 b == 1) ((phase_fits Voiding e).3 p y.0 b y.1) ∙ sym (olds.1 (ap is_decided e))
 

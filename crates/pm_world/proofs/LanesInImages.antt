@@ -6,7 +6,7 @@ use Rattle.std.proofs.lemmas.Option.{none-some, same_Some}
 use Rattle.std.proofs.lemmas.List.Elements.{All-contains}
 use Rattle.std.proofs.lemmas.List.Folds.{list_any_at}
 use Rattle.pm_layout.specs.declared.shape.Shape.{Shape}
-use Rattle.pm_layout.specs.Areas.{word_of_generation, word_of_entry, line_of_slot}
+use Rattle.pm_layout.specs.Areas.{greatest_generation, word_of_generation, word_of_entry, line_of_slot}
 use Rattle.pm_layout.specs.Chunks.{words_of}
 use Rattle.pm_record.specs.Redo.{redo_of}
 use Rattle.pm_record.specs.Undo.{undo_of}
@@ -22,10 +22,9 @@ use Rattle.pm_view.specs.Log.{Phase, Idle, Open, Drawn, Sealing, Applying, Clear
 use Rattle.pm_world.specs.States.{Diff}
 use Rattle.pm_world.specs.Sights.{is_slot_drained}
 use Rattle.pm_world.specs.Logs.{AreaChange, AreWhole, IsRecordAt, IsEntryAt, PhaseFits, ends_with, slot_list, spelled, used_slots}
-use Rattle.pm_world.specs.Lawful.{CanRecord}
 use Rattle.pm_world.specs.Memory.{Memory, PoolWord, cells_of}
 use Rattle.pm_world.specs.World.{Opening, Views, Past, AreaFits, World}
-use Rattle.pm_world.specs.Crash.{Survives, NoneTorn}
+use Rattle.pm_world.specs.Crash.{Survives, NoneTorn, IsNextRecord}
 use Rattle.pm_world.proofs.SurvivingWords.{entry_part, slot_part, log_fits, AreaTaken, area_left, SealIs, GenerationIs, seal_is, generation_is}
 use Rattle.pm_world.proofs.ImageLogs.{eight, slots_alike, slice_eight, redo_at, redo_again, read_all, undo_from, spelled_long, undo_spelled, valid_from, valid_parts}
 
@@ -227,9 +226,10 @@ module _ (o : Opening) (mem : Memory) (views : Views) (g : Past) (x : World o me
   -- a valid record of the log's generation is the log's, or one that could be written there now
   pub record Held (j : ℕ) (u : Undo) : Type 0 where
     pub held : Recorded
-    pub lawful : IsRecordAt (views k).log j held ⊎ ((length (views k).log.records ≡ j) × CanRecord (views k) held)
+    pub lawful : IsRecordAt (views k).log j held ⊎ ((length (views k).log.records ≡ j) × IsNextRecord (views k) held)
     pub is : u ≡ undo_from o.shape (views k).log.generation held
     pub most : length held.old ≤ 4
+    pub raisable : (views k).log.generation < greatest_generation o.shape
 
   module _ (c : Current) where
     lane_is : (views k).fixed.lane ≡ k
@@ -243,13 +243,13 @@ module _ (o : Opening) (mem : Memory) (views : Views) (g : Past) (x : World o me
         both_ways (is_slot_drained (views k).fixed.shape (views k).fixed.lane (views k).changes j) (ap not (list_any_at (is_in_line (line_of_slot (views k).fixed.shape (views k).fixed.lane j)) (views k).changes there.0 t.seen there.1
         (ap (is_in_line (line_of_slot (views k).fixed.shape (views k).fixed.lane j)) there.2 ∙ eq-eqb (t.seen.word / 8) (line_of_slot (views k).fixed.shape (views k).fixed.lane j) (omega arith)))) e)
 
-    -- the slot that is being written, where the log has no record yet, is the next
-    next_slot : (j : ℕ) → j < 64 → (is_slot_drained (views k).fixed.shape (views k).fixed.lane (views k).changes j ≡ false) ⊎ ((length (views k).log.records ≤ j) × (j < used_slots (views k).log)) → length (views k).log.records ≤ j → length (views k).log.records ≡ j
-    next_slot j a b low = let most = used_most (views k).log in ⊎_elim (λ (d : is_slot_drained (views k).fixed.shape (views k).fixed.lane (views k).changes j ≡ false).
+    -- a slot that is being written is one that has words of this generation
+    slot_used : (j : ℕ) → j < 64 → (is_slot_drained (views k).fixed.shape (views k).fixed.lane (views k).changes j ≡ false) ⊎ ((length (views k).log.records ≤ j) × (j < used_slots (views k).log)) → j < used_slots (views k).log
+    slot_used j a b = ⊎_elim (λ (d : is_slot_drained (views k).fixed.shape (views k).fixed.lane (views k).changes j ≡ false).
         let y = any_at (is_in_line (line_of_slot (views k).fixed.shape (views k).fixed.lane j)) (views k).changes (not-false (list_any (is_in_line (line_of_slot (views k).fixed.shape (views k).fixed.lane j)) (views k).changes) d) in
         let n = lane_is in let line = eqb-true (y.0.word / 8) (line_of_slot (views k).fixed.shape (views k).fixed.lane j) y.2 in
         let z = All-contains (λ (c : Undrained). part_of o.shape k c.word ≡ SlotPart → c.word < 8 * line_of_slot o.shape k (used_slots (views k).log)) (views k).changes y.0 fits.slot_changes y.1 (slot_part o.shape k y.0.word (omega arith) (omega arith)) in omega arith)
-        (λ (z : (length (views k).log.records ≤ j) × (j < used_slots (views k).log)). let y = z.1 in omega arith) b
+        (λ (z : (length (views k).log.records ≤ j) × (j < used_slots (views k).log)). z.1) b
       where
         not-false : (t : Bool) → not t ≡ false → t ≡ true
         not-false true e = refl
@@ -258,15 +258,15 @@ module _ (o : Opening) (mem : Memory) (views : Views) (g : Past) (x : World o me
     pub held_now : (j : ℕ) (u : Undo) → j < 64 → valid_record image k j ≡ Some u → Held j u
     held_now j u a valid = let p = valid_parts image k j u valid in ⊎_elim
         (λ (d : is_slot_drained (views k).fixed.shape (views k).fixed.lane (views k).changes j ≡ true). let st : undo_of (slot_list ((cells_of o.shape mem).slot k j)) ≡ Some u = sym (ap undo_of (drained_slot j a d)) ∙ p.0 in
-        ⊎_elim (λ (l : j < length (views k).log.records). let r = get_some (views k).log.records j l in record { held = r.0; lawful = inl r.1; is = sym (same_Some (undo_from o.shape (views k).log.generation r.0) u (sym (slot_held j r.0 r.1) ∙ st)); most = (fits.records j r.0 r.1).2 })
+        ⊎_elim (λ (l : j < length (views k).log.records). let r = get_some (views k).log.records j l in record { held = r.0; lawful = inl r.1; is = sym (same_Some (undo_from o.shape (views k).log.generation r.0) u (sym (slot_held j r.0 r.1) ∙ st)); most = (fits.records j r.0 r.1).2; raisable = fits.below (inr (inl (omega arith))) })
         (λ (l : length (views k).log.records ≤ j). ⊎_elim (λ (z : j < used_slots (views k).log). written (inr (l, z))) (λ (z : used_slots (views k).log ≤ j). let q = p.1 in let b = c.present in let y = fits.stale j u z a st in absurd (omega arith)) (cases_lt j (used_slots (views k).log)))
         (cases_lt j (length (views k).log.records)))
         (λ (d : is_slot_drained (views k).fixed.shape (views k).fixed.lane (views k).changes j ≡ false). written (inl d)) (cases_Bool (is_slot_drained (views k).fixed.shape (views k).fixed.lane (views k).changes j))
       where
         written : (is_slot_drained (views k).fixed.shape (views k).fixed.lane (views k).changes j ≡ false) ⊎ ((length (views k).log.records ≤ j) × (j < used_slots (views k).log)) → Held j u
         written b = let t = torn k j u c.runs a b valid in let sp : undo_slot image k j ≡ spelled o.shape (views k).log.generation t.held = ap (λ n. undo_slot image n j) (sym lane_is) ∙ (t.spells ∙ ap (λ s. spelled s (views k).log.generation t.held) shape_is) in
-            let most : length t.held.old ≤ 4 = ⊎_elim (λ at. (fits.records j t.held at).2) (λ (z : (length (views k).log.records ≤ j) × CanRecord (views k) t.held). z.1.most) t.lawful in
-            record { held = t.held; lawful = ⊎_elim (λ at. inl at) (λ (z : (length (views k).log.records ≤ j) × CanRecord (views k) t.held). inr (next_slot j a b z.0, z.1)) t.lawful; most = most; is = same_Some u (undo_from o.shape (views k).log.generation t.held) (sym (valid_parts image k j u valid).0 ∙ (ap undo_of sp ∙ undo_spelled o.shape (views k).log.generation t.held most)) }
+            let used = slot_used j a b in let near = used_most (views k).log in let most : length t.held.old ≤ 4 = ⊎_elim (λ at. (fits.records j t.held at).2) (λ (z : (length (views k).log.records ≤ j) × IsNextRecord (views k) t.held). z.1.most) t.lawful in
+            record { held = t.held; lawful = ⊎_elim (λ at. inl at) (λ (z : (length (views k).log.records ≤ j) × IsNextRecord (views k) t.held). inr ((let low = z.0 in omega arith), z.1)) t.lawful; most = most; raisable = fits.below (inr (inl (omega arith))); is = same_Some u (undo_from o.shape (views k).log.generation t.held) (sym (valid_parts image k j u valid).0 ∙ (ap undo_of sp ∙ undo_spelled o.shape (views k).log.generation t.held most)) }
 
     -- and a drained record of the log is valid
     pub valid_now : (j : ℕ) (r : Recorded) → IsRecordAt (views k).log j r → is_slot_drained (views k).fixed.shape (views k).fixed.lane (views k).changes j ≡ true → (j < 64) × (valid_record image k j ≡ Some (undo_from o.shape (views k).log.generation r))
@@ -287,10 +287,6 @@ module _ (o : Opening) (mem : Memory) (views : Views) (g : Past) (x : World o me
 
   at_work : (ph : Phase) → (views k).log.phase ≡ ph → (ph ≡ Idle → ⊥) → k < o.lanes
   at_work ph e n = ⊎_elim (λ (l : k < o.lanes). l) (λ (out : o.lanes ≤ k). absurd (n (sym e ∙ (x.idle_beyond k out).1))) (cases_lt k o.lanes)
-
-  not_idle : Phase → Bool
-  not_idle Idle = false
-  not_idle ph = true
 
   sealed_now : HasSealed (views k).log.phase → HasSettled (views k).log.phase → seal_word image k ≡ length (views k).log.entries → Sealed
   sealed_now s d full = record { bare = bare_next d (generation_read s full); all_sealed = entries_read s full; whole = whole s full; full = full; read = pair_read s full }

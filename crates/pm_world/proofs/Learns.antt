@@ -1,5 +1,5 @@
 -- A load of a word that a lane has, or found, before its number is drawn: its picture grows by what memory has.
-use Rattle.std.proofs.Common.{◌≡◌, ℕ, ◌<◌, ◌⊎◌, inl, inr, ⊎_elim, Bool, true, false, ◌||◌, refl, sym, subst, Option, None, Some}
+use Rattle.std.proofs.Common.{◌≡◌, ℕ, ◌<◌, ◌⊎◌, inl, inr, ⊎_elim, Bool, true, false, ◌||◌, refl, sym, subst, Some}
 use Rattle.std.proofs.lemmas.Bool.{both_ways, or_left, or_right}
 use Rattle.pm_layout.specs.declared.shape.Shape.{Shape}
 use Rattle.pm_view.specs.Places.{Place, Descr, Big, block_of}
@@ -8,13 +8,10 @@ use Rattle.pm_view.specs.Log.{Phase, Idle, Open, Drawn, Sealing, Applying, Clear
 use Rattle.pm_world.specs.States.{State, Diff, diff, given, read, Cells}
 use Rattle.pm_world.specs.Sights.{Sight}
 use Rattle.pm_world.specs.Lanes.{Ghost, owns, sees, in_flight, is_in_making, settled, DescrFits, FlightFits, Flies, Bits}
+use Rattle.pm_world.proofs.Basics.{given_cases}
 use Rattle.pm_world.proofs.Frame.{some_first, fresh_given}
 use Rattle.pm_world.proofs.Going.{Turned, own_fits, unchanged}
 use Rattle.pm_world.proofs.Locks.{early_grounded}
-
-given_cases : (a c : Option Bool) → given (first_of_two a c) ≡ true → (given a ≡ true) ⊎ (given c ≡ true)
-given_cases None c e = inr e
-given_cases (Some y) c e = inl refl
 
 early_flight : (flies : ℕ → Diff → Type 0) (ph : Phase) (d : Diff) → is_early ph ≡ true → FlightFits flies ph d
 early_flight flies Idle d e = tt

@@ -1,3 +1,4 @@
+pub mod Basics
 pub mod Geometry
 pub mod Frame
 pub mod Replays
@@ -77,8 +78,20 @@ pub mod OpenChunks
 pub mod OpenGeometry
 pub mod OpenTaken
 pub mod OpenFaults
+pub mod Reopens
 pub mod EveryStep
 pub mod Histories
 pub mod BlockLines
 pub mod WrongSteps
 pub mod RunsKept
+pub mod SoloMoves
+pub mod SoloWorlds
+pub mod OwnedWords
+pub mod ClaimCounts
+pub mod ZonesFilled
+pub mod LockHolders
+pub mod OverlappingCalls
+pub mod Missed
+pub mod CausesKept
+pub mod OccupancyShown
+pub mod SoloStands

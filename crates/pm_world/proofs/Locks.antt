@@ -9,21 +9,12 @@ use Rattle.pm_view.specs.Log.{Phase, Idle, Open, Drawn, Sealing, Applying, Clear
 use Rattle.pm_view.specs.Claims.{making_of}
 use Rattle.pm_world.specs.States.{State, Diff, diff, given, live, val, root_line, read, Cells}
 use Rattle.pm_world.specs.Sights.{Hold, Sight}
-use Rattle.pm_world.specs.Lanes.{Ghost, own, owns, sees, all_held, has, blank, is_decided, in_flight, left, settled, TurnFits, DescrFits, HoldFits, SightFits, Flies, Alone, Bits}
+use Rattle.pm_world.specs.Lanes.{Ghost, own, owns, sees, all_held, has, blank, is_decided, in_flight, left, settled, TurnFits, DescrFits, HoldFits, SightFits, Flies, Alone, Bits, TurnBefore}
+use Rattle.pm_world.proofs.Basics.{more3, early_undecided, early_cases}
 use Rattle.pm_world.proofs.Frame.{own_cases, here_own, making_own, found_apart, root_rights, lock_apart}
 use Rattle.pm_world.proofs.Going.{Turned, goes_on, own_fits, same_made, still_flying}
 
 -- ---- phases before the number
-
-pub early_undecided : (ph : Phase) → is_early ph ≡ true → is_decided ph ≡ false
-early_undecided Idle e = refl
-early_undecided Open e = refl
-early_undecided (Drawn n) e = refl
-early_undecided (Sealing n) e = refl
-early_undecided (Applying t) e = absurd (both_ways false refl e)
-early_undecided Clearing e = absurd (both_ways false refl e)
-early_undecided (Retiring n) e = refl
-early_undecided Voiding e = refl
 
 pub early_grounded : (ph : Phase) → is_early ph ≡ true → in_flight ph ≡ false
 early_grounded Idle e = refl
@@ -35,27 +26,18 @@ early_grounded Clearing e = refl
 early_grounded (Retiring n) e = absurd (both_ways false refl e)
 early_grounded Voiding e = refl
 
+turn_open : (l l' m h h' : Bool) (a : Option Bool) → (a ≡ Some false → h ≡ true → h' ≡ true) → TurnBefore l m h a → TurnBefore l' m h' a
+turn_open l l' m h h' None u f = tt
+turn_open l l' m h h' (Some true) u f = f
+turn_open l l' m h h' (Some false) u f = u refl f
+
 turn_early : (ph : Phase) (l l' m h h' : Bool) (a : Option Bool) → is_early ph ≡ true → (a ≡ Some false → h ≡ true → h' ≡ true) → TurnFits ph l m h a → TurnFits ph l' m h' a
-turn_early Idle l l' m h h' a e u f = f
-turn_early Open l l' m h h' None e u f = tt
-turn_early Open l l' m h h' (Some true) e u f = f
-turn_early Open l l' m h h' (Some false) e u f = u refl f
-turn_early (Drawn n) l l' m h h' a e u f = absurd (both_ways false refl e)
-turn_early (Sealing n) l l' m h h' a e u f = absurd (both_ways false refl e)
-turn_early (Applying t) l l' m h h' a e u f = absurd (both_ways false refl e)
-turn_early Clearing l l' m h h' a e u f = absurd (both_ways false refl e)
-turn_early (Retiring n) l l' m h h' a e u f = absurd (both_ways false refl e)
-turn_early Voiding l l' m h h' a e u f = absurd (both_ways false refl e)
+turn_early ph l l' m h h' a e u f = early_cases (λ p. TurnFits p l m h a → TurnFits p l' m h' a) (λ y. y) (turn_open l l' m h h' a u) ph e f
 
 descr_same : (a : Option Bool) (f n n' : ℕ) (d : ℕ → Option Bool) → (a ≡ None) ⊎ (n' ≡ n) → DescrFits a f n d → DescrFits a f n' d
 descr_same a f n n' d e = ⊎_elim (λ (q : a ≡ None). subst (λ z. DescrFits z f n d → DescrFits z f n' d) (sym q) (λ y. y)) (λ (q : n' ≡ n). subst (λ z. DescrFits a f n d → DescrFits a f z d) (sym q) (λ y. y)) e
 
 -- ---- rights that grow
-
-pub more3 : (m h h' y : Bool) → (h ≡ true → h' ≡ true) → (m || (h || y)) ≡ true → (m || (h' || y)) ≡ true
-more3 true h h' y u e = refl
-more3 false true h' y u e = or_left h' y (u refl)
-more3 false false h' y u e = or_right h' y e
 
 more2 : (a t t' : Bool) → (t ≡ true → t' ≡ true) → (a || t) ≡ true → (a || t') ≡ true
 more2 true t t' u e = refl
@@ -106,7 +88,7 @@ module _ (sh : Shape) (L : ℕ) (o : State) (cells : Cells) (sights : ℕ → Si
 
   pub reclaims : (writer' reader' : ℕ → ℕ → Bool) (n : Hold) (pc : Diff) (so : Place → ℕ → Bool) → Reclaims writer' reader' n pc so → (sights' : ℕ → Sight) → Turned sights sights' k (sighted n pc so)
       → Bits sh L o (record cells { writer = writer'; reader = reader' }) sights' g
-  reclaims writer' reader' n pc so r sights' t = let f = own_fits sh L o cells sights g x k ink in let q = sights k in let undecided = early_undecided q.phase r.early in
+  reclaims writer' reader' n pc so r sights' t = let f = own_fits sh L o cells sights g x k ink in let q = sights k in let undecided = (early_undecided q.phase r.early).0 in
       goes_on sh L o cells sights g x k ink (settled o g) (record cells { writer = writer'; reader = reader' }) (sighted n pc so) g sights' refl
       record { writer = r.writers; reader = r.readers; pool = λ p b u w. refl; set = λ p b u. refl; descr = λ c u. refl; up = λ c n e. e; runs = λ c u. refl; holder = λ B j ne e. e; holder_back = λ B j ne e. e; class = λ c u. refl; first = λ c j ne. inl refl; flies = λ j n d ne w y. y }
       record {
@@ -410,14 +392,7 @@ module _ (sh : Shape) (L : ℕ) (o : State) (cells : Cells) (sights : ℕ → Si
       } sights' t
     where
       unapplied : (ph : Phase) → is_early ph ≡ true → (p : Place) (b : ℕ) → given (left ph p b) ≡ false
-      unapplied Idle e p b = refl
-      unapplied Open e p b = refl
-      unapplied (Drawn n) e p b = refl
-      unapplied (Sealing n) e p b = refl
-      unapplied (Applying t) e p b = absurd (both_ways false refl e)
-      unapplied Clearing e p b = refl
-      unapplied (Retiring n) e p b = refl
-      unapplied Voiding e p b = refl
+      unapplied ph e p b = early_cases (λ h. given (left h p b) ≡ false) refl refl ph e
 
       gave_bit : (bits has : ℕ → Bool) → bits l ≡ false → ((m : ℕ) → m ≢ l → bits m ≡ has m) → (m : ℕ) → bits m ≡ (not (l == m) && has m)
       gave_bit bits has e else_ m = ⊎_elim (λ (q : m ≡ l). subst (λ a. bits a ≡ (not (l == a) && has a)) (sym q) (e ∙ sym (ap (λ t. not t && has l) (eq-eqb l l refl))))

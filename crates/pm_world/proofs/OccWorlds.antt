@@ -21,31 +21,15 @@ use Rattle.pm_world.specs.Logs.{slot_list, PhaseFits}
 use Rattle.pm_world.specs.Memory.{Location, PoolWord, ZoneLock, CommitCounter, StopWord, Memory, Becomes, occ_at, cells_of}
 use Rattle.pm_world.specs.World.{Opening, Views, Past, origin, ghost_of, settled_words, is_at_page, may_draw, may_draw_count, World}
 use Rattle.pm_world.specs.Laws.{Turn}
+use Rattle.pm_world.proofs.Basics.{early_undecided, early_cases}
 use Rattle.pm_world.proofs.Cells.{sort, occ_sort}
 use Rattle.pm_world.proofs.Counting.{count_same}
 use Rattle.pm_world.proofs.Frame.{Around, here_own}
-use Rattle.pm_world.proofs.Worlds.{world_after, stops_stay}
-
-pub early_undecided : (ph : Phase) → is_early ph ≡ true → (is_decided ph ≡ false) × (in_flight ph ≡ false)
-early_undecided Idle e = (refl, refl)
-early_undecided Open e = (refl, refl)
-early_undecided (Drawn n) e = absurd (both_ways false refl e)
-early_undecided (Sealing n) e = absurd (both_ways false refl e)
-early_undecided (Applying todo) e = absurd (both_ways false refl e)
-early_undecided Clearing e = absurd (both_ways false refl e)
-early_undecided (Retiring n) e = absurd (both_ways false refl e)
-early_undecided Voiding e = absurd (both_ways false refl e)
+use Rattle.pm_world.proofs.Worlds.{world_after, stops_stay, log_again, log_moved}
 
 -- before its number is drawn the log says nothing of what the lane has a picture of
-early_phase : (sh : Shape) (lane : ℕ) (d d' : Diff) (l : Log) (changes : List Undrained) (ph : Phase) → is_early ph ≡ true → PhaseFits sh lane d l changes ph → PhaseFits sh lane d' l changes ph
-early_phase sh lane d d' l changes Idle e f = f
-early_phase sh lane d d' l changes Open e f = f
-early_phase sh lane d d' l changes (Drawn n) e f = f
-early_phase sh lane d d' l changes (Sealing n) e f = f
-early_phase sh lane d d' l changes (Applying todo) e f = f
-early_phase sh lane d d' l changes Clearing e f = f
-early_phase sh lane d d' l changes (Retiring n) e f = f
-early_phase sh lane d d' l changes Voiding e f = absurd (both_ways false refl e)
+pub early_phase : (sh : Shape) (lane : ℕ) (d d' : Diff) (l : Log) (changes : List Undrained) (ph : Phase) → is_early ph ≡ true → PhaseFits sh lane d l changes ph → PhaseFits sh lane d' l changes ph
+early_phase sh lane d d' l changes = early_cases (λ ph. PhaseFits sh lane d l changes ph → PhaseFits sh lane d' l changes ph) (λ f. f) (λ f. f)
 
 -- data of a block that is found under its write lock is the lane's to change
 pub data_owned : (h : Hold) (G : Geometry) (S : State) (p : Place) (c : ℕ) → is_data p ≡ true → h.here (block_of G p c) ≡ true → owns G S h p c ≡ true
@@ -95,26 +79,10 @@ module _ (o : Opening) (mem new : Memory) (views views' : Views) (g : Past) (x :
         lane = f.lane;
         shape = f.shape;
         lanes = f.lanes;
-        log = record {
-          first = l.first;
-          last = l.last;
-          below = l.below;
-          stored = word (word_of_generation o.shape k) ∙ l.stored;
-          bump = l.bump;
-          sealed = word (word_of_seal o.shape k) ∙ l.sealed;
-          entries_most = l.entries_most;
-          records_most = l.records_most;
-          pairs = λ i e q. let z = l.pairs i e q in (word (word_of_entry o.shape k i + 0) ∙ z.0, word (word_of_entry o.shape k i + 1) ∙ z.1, z.2, z.3);
-          pair_part = λ i q. word (word_of_entry o.shape k (length (views k).log.entries) + i) ∙ l.pair_part i q;
-          records = λ i r q. let z = l.records i r q in (λ m n. slot i m ∙ z.0 m n, z.1, z.2, z.3, z.4, z.5);
-          once = l.once;
-          olds = λ p m q c. let z = l.olds p m q c in (w.olds p c (ap Rattle.pm_world.specs.States.given q) z.0, z.1);
-          slot_part = λ i q. slot (length (views k).log.records) i ∙ l.slot_part i q;
-          stale = λ i u q z r. l.stale i u q z (sym (ap undo_of (ap slot_list (λ m n. slot i n m))) ∙ r);
-          slot_changes = l.slot_changes;
-          area_changes = l.area_changes;
-          phase = early_phase o.shape k (sight_of (views k)).picture (sight_of v').picture (views k).log (views k).changes (views k).log.phase w.early l.phase;
-        };
+        log = log_again ((views k).log.phase) (log_moved o.shape k (λ v. mem (PoolWord v)) (λ v. new (PoolWord v)) word l) f.log.bump (((log_moved o.shape k (λ v. mem (PoolWord v)) (λ v. new (PoolWord v)) word l)).sealed) (λ p m q c. let z = l.olds p m q c in (w.olds p c (ap Rattle.pm_world.specs.States.given q) z.0, z.1))
+            l.slot_changes
+            l.area_changes
+            (early_phase o.shape k (sight_of (views k)).picture (sight_of v').picture (views k).log (views k).changes (views k).log.phase w.early l.phase);
         made = λ t. absurd (both_ways (Rattle.pm_world.specs.Lanes.is_decided (views k).log.phase) (early_undecided (views k).log.phase w.early).0 t);
         recorded = λ u p q. let z = f.recorded u p q in (z.0, λ c. let r = z.1 c in w.recorded p c z.0 r.0 r.1);
         number = f.number;

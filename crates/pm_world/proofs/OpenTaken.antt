@@ -59,5 +59,5 @@ module _ (o : Opening) (views : Views) (small : (w : ℕ) → slice_index o.word
 
 -- A WORLD OPENS where each descriptor is one of the table
 pub opens_taken : (o : Opening) (mem : Memory) (fixed : ℕ → Constants) (generation : ℕ → ℕ) → IsOpening o mem fixed generation → ((c : ℕ) → c < chunks_of o.shape → InTable o c)
-    → ((a : Block) → is_occupancy o.shape a ≡ true → (cells_of o.shape mem).occ a ≡ takes o a) → (g : Past) × World o mem (idle_views fixed generation) g
-opens_taken o mem fixed generation x table occ = (opened o (idle_views fixed generation) (first_of o), opens_in_table o mem fixed generation x table (λ a e. occ a e ∙ taken_is o (idle_views fixed generation) x.small table a e))
+    → ((a : Block) → is_occupancy o.shape a ≡ true → (cells_of o.shape mem).occ a ≡ takes o a) → (g : Past) × World o mem (idle_views fixed generation) g × (g.length ≡ 0)
+opens_taken o mem fixed generation x table occ = (opened o (idle_views fixed generation) (first_of o), opens_in_table o mem fixed generation x table (λ a e. occ a e ∙ taken_is o (idle_views fixed generation) x.small table a e), refl)

@@ -1,4 +1,5 @@
 -- A world opens, where the geometry of its huge blocks and runs fits its words.
+use Rattle.pm_world.proofs.Basics.{and_false}
 use Rattle.std.specs.Prelude.{[], slice_index}
 use Rattle.std.proofs.Common.{◌≡◌, ℕ, zero, suc, ◌+◌, ◌*◌, ◌/◌, ◌^◌, ◌<◌, ◌≤◌, inl, ⊎_elim, nat_lt, Bool, true, false, cond, not, ◌==◌, ◌&&◌, ◌||◌, refl, sym, ap, ◌∙◌, subst, arith, ne_eqb, Option, None}
 use Rattle.std.proofs.lemmas.Bool.{both_ways, and_parts, or_right}
@@ -17,7 +18,6 @@ use Rattle.pm_world.specs.Logs.{slot_list}
 use Rattle.pm_world.specs.Memory.{Memory, PoolWord, LockWord, bit, run_told, bits_of, cells_of}
 use Rattle.pm_world.specs.Opens.{IsOpening, idle_views, descriptor}
 use Rattle.pm_world.specs.World.{Opening, Views, Past, origin, ghost_of, was_run, AreaFits, may_draw_count, World}
-use Rattle.pm_world.proofs.StepDrain.{and_false}
 
 -- the ghosts of a world that opens: no call, the runs that descriptors tell, each of its class, and nothing held; the first chunks of huge blocks are given
 abbrev pub opened : Opening → Views → (ℕ → ℕ) → Past
@@ -70,7 +70,7 @@ module _ (o : Opening) (mem : Memory) (fixed : ℕ → Constants) (generation : 
       go d t y e = ap (λ s. given (cond (d && (Rattle.pm_world.specs.Sights.is_made s || false)) y None)) e ∙ ap (λ s. given (cond s y None)) (and_false d)
 
   clear_lock : (l i : ℕ) → bit (mem (LockWord l)) i ≡ false
-  clear_lock l i = ap (λ y. bit y i) (x.locks l) ∙ ap (λ y. y == 1) (bit_at-zero i)
+  clear_lock l i = ap (λ y. bit y i) (x.start.locks l) ∙ ap (λ y. y == 1) (bit_at-zero i)
 
   no : {A : Type 0} → false ≡ true → A
   no e = absurd (both_ways false refl e)
@@ -110,10 +110,10 @@ module _ (o : Opening) (mem : Memory) (fixed : ℕ → Constants) (generation : 
 
   -- ---- the bits at places
   same_word : (w : ℕ) → bit (mem (PoolWord w)) ≡ bit (slice_index o.words w)
-  same_word w = ap bit (x.words w)
+  same_word w = ap bit (x.start.words w)
 
   pool_is : (p : Place) (b : ℕ) → (cells_of o.shape mem).pool p b ≡ bits_of o.shape (slice_index o.words) p b
-  pool_is p b = ap (λ f. bits_of o.shape f p b) (λ i w. x.words w i)
+  pool_is p b = ap (λ f. bits_of o.shape f p b) (λ i w. x.start.words w i)
 
   both_true : (a : Bool) (y : Bool) → a ≡ true → y ≡ (a && y)
   both_true a y e = sym (ap (λ t. t && y) e)
@@ -126,7 +126,7 @@ module _ (o : Opening) (mem : Memory) (fixed : ℕ → Constants) (generation : 
   unowned RootWord b l = pool_is RootWord b
 
   descr_is : (c : ℕ) → (cells_of o.shape mem).descr c ≡ cond (g.runs c) (g.geo.class c) 0
-  descr_is c = ap (λ y. cond (is_place o.shape (Descr c)) (run_told y) 0) (x.words (word_of_descriptor o.shape c)) ∙ go (is_place o.shape (Descr c)) (is_run (descriptor o c))
+  descr_is c = ap (λ y. cond (is_place o.shape (Descr c)) (run_told y) 0) (x.start.words (word_of_descriptor o.shape c)) ∙ go (is_place o.shape (Descr c)) (is_run (descriptor o c))
     where
       go : (a t : Bool) → cond a (cond t (descriptor o c / 256) 0) 0 ≡ cond (a && t) (descriptor o c / 256) 0
       go true t = refl
@@ -143,7 +143,7 @@ module _ (o : Opening) (mem : Memory) (fixed : ℕ → Constants) (generation : 
       occ = occ;
       geo = geo;
       alone = λ l j e. absurd (both_ways (bit (mem (LockWord l)) (32 + j)) (clear_lock l (32 + j)) e);
-      counter = x.counter;
+      counter = x.start.counter;
       flying = λ n l d. absurd (omega arith);
     }
 
@@ -152,9 +152,9 @@ module _ (o : Opening) (mem : Memory) (fixed : ℕ → Constants) (generation : 
       first = r.first;
       last = r.last;
       below = λ q. ⊎_elim (λ (e : false ≡ true). no e) (λ q. ⊎_elim (λ (e : 1 ≤ 0). absurd (omega arith)) (λ (e : 1 ≤ 0). absurd (omega arith)) q) q;
-      stored = x.words (word_of_generation o.shape k) ∙ r.stored;
+      stored = x.start.words (word_of_generation o.shape k) ∙ r.stored;
       bump = refl;
-      sealed = x.words (word_of_seal o.shape k) ∙ r.unsealed;
+      sealed = x.start.words (word_of_seal o.shape k) ∙ r.unsealed;
       entries_most = omega arith;
       records_most = omega arith;
       pairs = λ i e q. no (ap given q);
@@ -163,7 +163,7 @@ module _ (o : Opening) (mem : Memory) (fixed : ℕ → Constants) (generation : 
       once = λ j m d q p y z e. no (ap given e);
       olds = λ p y e. no (ap given e);
       slot_part = λ i q. absurd (omega arith);
-      stale = λ j u q m e. r.stale j u m (sym (ap (λ (f : ℕ → ℕ). undo_of (slot_list (λ i. f (8 * line_of_slot o.shape k j + i)))) (λ i w. x.words w i)) ∙ e);
+      stale = λ j u q m e. r.stale j u m (sym (ap (λ (f : ℕ → ℕ). undo_of (slot_list (λ i. f (8 * line_of_slot o.shape k j + i)))) (λ i w. x.start.words w i)) ∙ e);
       slot_changes = λ i d q. absurd (omega arith);
       area_changes = λ i d q. absurd (omega arith);
       phase = (refl, refl, refl, refl);
@@ -176,20 +176,20 @@ module _ (o : Opening) (mem : Memory) (fixed : ℕ → Constants) (generation : 
     -- THE WORLD OPENS
     pub opens : World o mem (idle_views fixed generation) (opened o (idle_views fixed generation) first)
     opens = record {
-      some_lanes = x.some_lanes;
-      most_lanes = x.most_lanes;
-      few_lanes = x.few_lanes;
+      some_lanes = x.start.some_lanes;
+      most_lanes = x.start.most_lanes;
+      few_lanes = x.start.few_lanes;
       size = x.size;
       bits = bits;
       each_lane = λ k ink. record {
-        lane = x.lane k;
-        shape = x.shape k;
-        lanes = x.lanes k;
-        log = area k (let most = x.most_lanes in omega arith);
+        lane = x.start.lane k;
+        shape = x.start.shape k;
+        lanes = x.start.lanes k;
+        log = area k (let most = x.start.most_lanes in omega arith);
         made = λ e. no e;
         recorded = λ d p e. no e;
         number = tt;
-        zones = λ z. ap (λ y. y == suc k) (x.zone_locks z) ∙ ne_eqb 0 (suc k) (λ e. absurd (omega arith));
+        zones = λ z. ap (λ y. y == suc k) (x.start.zone_locks z) ∙ ne_eqb 0 (suc k) (λ e. absurd (omega arith));
         masks = λ i d q. absurd (omega arith);
         room = omega arith;
         within = λ y q. omega arith;
@@ -199,9 +199,9 @@ module _ (o : Opening) (mem : Memory) (fixed : ℕ → Constants) (generation : 
       idle_beyond = λ k l. (refl, refl, refl);
       logs_beyond = λ k l ink. area k ink;
       of_lanes = λ n l. absurd (omega arith);
-      small = λ w. subst (λ y. y < 2 ^ 64) (sym (x.words w)) (x.small w);
-      header = λ w e. x.words w;
-      zone_locks = λ z. let e = x.zone_locks z in omega arith;
-      counter_room = let e = x.counter in let d = none_draw o.lanes in omega arith;
-      stop_word = inl x.stop;
+      small = λ w. subst (λ y. y < 2 ^ 64) (sym (x.start.words w)) (x.small w);
+      header = λ w e. x.start.words w;
+      zone_locks = λ z. let e = x.start.zone_locks z in omega arith;
+      counter_room = let e = x.start.counter in let d = none_draw o.lanes in omega arith;
+      stop_word = inl x.start.stop;
     }

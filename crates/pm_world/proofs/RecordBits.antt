@@ -1,7 +1,7 @@
 -- What a lane records of a word is what is settled of it: the word is in a line that its object has, and no record of it is drained.
 use Rattle.std.specs.Option.{option_map}
-use Rattle.std.proofs.Common.{◌≡◌, ℕ, ◌+◌, ◌-◌, ◌*◌, ◌/◌, ◌%◌, ◌^◌, ◌<◌, ◌≤◌, nat_le, nat_lt, Bool, true, false, cond, ◌==◌, ◌&&◌, ◌||◌, refl, sym, ap, ◌∙◌, subst, arith, eq-eqb, ne_eqb, Option, None, Some}
-use Rattle.std.proofs.lemmas.Bool.{leb-true, ltb-true, le-leb, lt-ltb, both_ways, and_from, or_right, cond-true, cond-false, false_from_ne_true}
+use Rattle.std.proofs.Common.{◌≡◌, ℕ, ◌+◌, ◌-◌, ◌*◌, ◌/◌, ◌%◌, ◌^◌, ◌<◌, ◌≤◌, nat_le, nat_lt, true, false, ◌==◌, ◌&&◌, ◌||◌, refl, sym, ap, ◌∙◌, subst, arith, eq-eqb, ne_eqb, None, Some}
+use Rattle.std.proofs.lemmas.Bool.{leb-true, ltb-true, le-leb, lt-ltb, and_from, or_right, cond-true, cond-false, false_from_ne_true}
 use Rattle.std.proofs.Math.Nat.{mod-eq-sub-mul-div, mul-div-le, mul-mod_right}
 use Rattle.pm_layout.specs.declared.shape.Shape.{Shape}
 use Rattle.pm_view.specs.Claims.{class, first, pictured, geometry}
@@ -15,18 +15,11 @@ use Rattle.pm_world.specs.Sights.{Sight, is_pictured, call_in, sight_of}
 use Rattle.pm_world.specs.Lanes.{Ghost, own, owns, TurnBefore, is_size, SightFits, GeoFits}
 use Rattle.pm_world.specs.Lawful.{offset_in, size_in}
 use Rattle.pm_world.specs.Memory.{bit}
+use Rattle.pm_world.proofs.Basics.{some_cond}
 use Rattle.pm_world.proofs.Entering.{huge_known, not_both}
 use Rattle.pm_world.proofs.Frame.{here_own, own_has, small_run}
 use Rattle.pm_world.proofs.Geometry.{size_part}
 use Rattle.pm_world.proofs.Values.{val_word}
-
-some_num : (t : Bool) (y : Option ℕ) (z : ℕ) → cond t y None ≡ Some z → y ≡ Some z
-some_num true y z e = e
-some_num false y z e = absurd (both_ways false refl (ap is_some e))
-  where
-    is_some : Option ℕ → Bool
-    is_some None = false
-    is_some (Some y) = true
 
 in_line : (n cl : ℕ) → n ≡ cl * (n / cl) + n % cl
 in_line n cl = let a = mod-eq-sub-mul-div n cl in let b = mul-div-le n cl in omega arith
@@ -38,7 +31,7 @@ module _ (sh : Shape) (cells : Cells) (S : State) (flies : ℕ → Diff → Type
 
   told : (p : Place) (y : ℕ) → is_pictured p ≡ true → knows v (word_of v.fixed.shape p) ≡ Some y → (b : ℕ) → (sight_of v).picture p b ≡ Some (bit y b)
   told p y t e b = cond-true (is_pictured p) (option_map (λ z. bit z b) (pictured v.fixed.shape v.claims (word_of v.fixed.shape p))) None t
-      ∙ ap (option_map (λ z. bit z b)) (some_num (Rattle.pm_view.specs.View.runs_one v || Rattle.pm_view.specs.Claims.is_held v.fixed.shape v.claims (word_of v.fixed.shape p)) (pictured v.fixed.shape v.claims (word_of v.fixed.shape p)) y e)
+      ∙ ap (option_map (λ z. bit z b)) (some_cond (Rattle.pm_view.specs.View.runs_one v || Rattle.pm_view.specs.Claims.is_held v.fixed.shape v.claims (word_of v.fixed.shape p)) (pictured v.fixed.shape v.claims (word_of v.fixed.shape p)) y e)
 
   -- of a living word that the lane owns and knows, under no drained record, the settled value is the known one
   pub settled_known : (p : Place) (y : ℕ) → is_pictured p ≡ true → knows v (word_of v.fixed.shape p) ≡ Some y → live S g.geo g.runs p ≡ true → (sight_of v).logged p ≡ false → (b : ℕ) → owns g.geo S (sight_of v).hold p b ≡ true → (S p b ≡ bit y b) × (read cells.pool p b ≡ bit y b)

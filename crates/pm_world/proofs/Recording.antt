@@ -14,6 +14,7 @@ use Rattle.pm_view.specs.View.{View}
 use Rattle.pm_world.specs.States.{State, Diff, diff, given, Cells}
 use Rattle.pm_world.specs.Sights.{is_made, is_recorded, is_slot_drained, is_logged_from, call_of, call_in, sight_of}
 use Rattle.pm_world.specs.Lanes.{Ghost, owns, is_in_making, is_size, SightFits}
+use Rattle.pm_world.proofs.Basics.{given_cond, some_cond}
 use Rattle.pm_world.proofs.Frame.{some_first, fresh_given}
 
 given_first : {A : Type 0} → (a c : Option A) → given a ≡ true → given (first_of_two a c) ≡ true
@@ -27,14 +28,6 @@ given_second (Some y) c t = refl
 given_either : {A : Type 0} → (a c : Option A) → given (first_of_two a c) ≡ true → (given a ≡ true) ⊎ (given c ≡ true)
 given_either None c e = inr e
 given_either (Some y) c e = inl refl
-
-given_cond : (t : Bool) (y : Option Bool) → given (cond t y None) ≡ true → (t ≡ true) × (given y ≡ true)
-given_cond true y e = (refl, e)
-given_cond false y e = absurd (both_ways false refl e)
-
-some_cond : (t : Bool) (y : Option Bool) (z : Bool) → cond t y None ≡ Some z → y ≡ Some z
-some_cond true y z e = e
-some_cond false y z e = absurd (both_ways false refl (ap given e))
 
 -- ---- lists of records
 pub recorded_cases : (rs : List Recorded) (r : Recorded) (p : Place) → is_recorded (rs ++ r ∷ []) p ≡ true → (is_recorded rs p ≡ true) ⊎ (given (old_in r p) ≡ true)

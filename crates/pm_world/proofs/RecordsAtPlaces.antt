@@ -21,10 +21,12 @@ use Rattle.pm_world.specs.States.{Diff, given, live}
 use Rattle.pm_world.specs.Sights.{is_pictured, is_recorded, is_logged, is_logged_from, is_slot_drained, sight_of}
 use Rattle.pm_world.specs.Lanes.{is_decided, is_in_making, left, own, owns, SightFits, Flies}
 use Rattle.pm_world.specs.Logs.{IsRecordAt}
-use Rattle.pm_world.specs.Lawful.{CanRecord, MayChangeAt}
+use Rattle.pm_world.specs.Lawful.{MayChangeAt}
 use Rattle.pm_world.specs.Memory.{Memory, bit, cells_of}
 use Rattle.pm_world.specs.World.{Opening, Views, Past, RecordedFits, World, settled_words, ghost_of}
-use Rattle.pm_world.specs.Crash.{Survives, NoneTorn}
+use Rattle.pm_world.specs.Crash.{Survives, NoneTorn, IsNextRecord}
+use Rattle.pm_world.proofs.Basics.{some_cond}
+use Rattle.pm_world.proofs.BlocksKnown.{first_so}
 use Rattle.pm_world.proofs.Frame.{is_single, here_own, own_has, maker_owns, maker_no_run}
 use Rattle.pm_world.proofs.Crashes.{Restores}
 use Rattle.pm_world.proofs.RecoveredBits.{record_bit, entry_bit, log_bit}
@@ -158,10 +160,6 @@ data_pictured sh (InHuge c w) e i = (and_parts (nat_lt c (chunks_of sh)) (nat_lt
 data_pictured sh (Descr c) e i = absurd (both_ways false refl e)
 data_pictured sh RootWord e i = refl
 
-pub known_pictured : (t : Bool) (y : Option ℕ) (x : ℕ) → cond t y None ≡ Some x → y ≡ Some x
-known_pictured true y x e = e
-known_pictured false y x e = absurd (none-some x e)
-
 pub twin_single : (p : Place) → is_single (twin p) ≡ is_single p
 twin_single (InRun c w) = refl
 twin_single (InHuge c w) = refl
@@ -193,7 +191,7 @@ module _ (o : Opening) (mem : Memory) (views : Views) (g : Past) (x : World o me
       let own_ = here_own (sight_of (views k)).hold (Small d i) h in let same = f.hold.class d i (own_has (sight_of (views k)).hold (Small d i) own_) in
       ap (λ n. own (sight_of (views k)).hold (Small d n)) (cond-false (w == 0) b ((w / 8 - 1) / g.geo.class d) z ∙ ap (λ n. (w / 8 - 1) / n) (sym same)) ∙ own_
   changes_own (InHuge d w) b e may = let y = first (views k).fixed.shape (views k).claims d in let own_ = here_own (sight_of (views k)).hold (Big y) may.0 in
-      let same = eqb-true (g.geo.first d) y (f.hold.span y (own_has (sight_of (views k)).hold (Big y) own_) d ∙ may.2) in ap (λ n. own (sight_of (views k)).hold (Big n)) same ∙ own_
+      let same = sym (first_so o.shape (cells_of o.shape mem) (settled_words o g) (Flies (ghost_of g) k) (ghost_of g) x.bits.geo k (views k) (views k).log.phase f d (own_has (sight_of (views k)).hold (Big y) own_)) in ap (λ n. own (sight_of (views k)).hold (Big n)) same ∙ own_
   changes_own (Descr d) b e may = absurd may
   changes_own RootWord b e may = absurd (both_ways false refl e)
 
@@ -204,7 +202,7 @@ module _ (o : Opening) (mem : Memory) (views : Views) (g : Past) (x : World o me
       false_from_ne_true ((sight_of (views k)).hold.making d) (λ t. both_ways (g.runs d) (maker_no_run o.shape (cells_of o.shape mem) (settled_words o g) (Flies (ghost_of g) k) (ghost_of g) x.bits.geo k (sight_of (views k)) f d t)
       (and_parts (g.runs d) (nat_lt i (Rattle.pm_layout.specs.Sizes.blocks_of (g.geo.class d))) (f.hold.found (Small d i) (f.hold.here (Small d i) h).1).1).0)
   changes_unmade (InHuge d w) e may = let y = first (views k).fixed.shape (views k).claims d in let own_ = here_own (sight_of (views k)).hold (Big y) may.0 in
-      let same = eqb-true (g.geo.first d) y (f.hold.span y (own_has (sight_of (views k)).hold (Big y) own_) d ∙ may.2) in
+      let same = sym (first_so o.shape (cells_of o.shape mem) (settled_words o g) (Flies (ghost_of g) k) (ghost_of g) x.bits.geo k (views k) (views k).log.phase f d (own_has (sight_of (views k)).hold (Big y) own_)) in
       false_from_ne_true ((sight_of (views k)).hold.making d) (λ t. let z = (maker_owns o.shape (cells_of o.shape mem) (settled_words o g) (Flies (ghost_of g) k) (ghost_of g) x.bits.geo k (sight_of (views k)) f d t).1 in
       both_ways (settled_words o g (Descr d) 1) (f.hold.mine (Big d) (f.hold.making d t).0).2 (ap (λ n. settled_words o g (Descr n) 1) (sym z ∙ same) ∙ (f.hold.found (Big y) (f.hold.here (Big y) may.0).1).2))
   changes_unmade (Descr d) e may = absurd may
@@ -236,7 +234,7 @@ module _ (o : Opening) (mem : Memory) (views : Views) (g : Past) (x : World o me
   speaks j w u a valid cov = let h = held_now o mem views g x image sv torn k ink c j u a valid in
       let r = covered o.shape (views k).log.generation h.held w (subst (λ z. covers z (8 * w) ≡ true) h.is cov) in
       let old_is : old_word u (8 * w) ≡ slice_index h.held.old (w - word_of o.shape h.held.place) = ap (λ (z : Undo). old_word z (8 * w)) h.is ∙ old_from o.shape (views k).log.generation h.held w r.0 r.1 in
-      ⊎_elim (λ (at : IsRecordAt (views k).log j h.held). recorded h.held at r old_is) (λ (z : (length (views k).log.records ≡ j) × CanRecord (views k) h.held). making h.held z.0 z.1 r old_is) h.lawful
+      ⊎_elim (λ (at : IsRecordAt (views k).log j h.held). recorded h.held at r old_is) (λ (z : (length (views k).log.records ≡ j) × IsNextRecord (views k) h.held). making h.held z.0 z.1 r old_is) h.lawful
     where
       recorded : (q : Recorded) → IsRecordAt (views k).log j q → (word_of o.shape q.place ≤ w) × (w < word_of o.shape q.place + length q.old) → old_word u (8 * w) ≡ slice_index q.old (w - word_of o.shape q.place) → (s : Speaks w u) × Kind j s.place
       recorded q at r old_is = let fits = log_fits o mem views g x k ink in let n : ℕ = w - word_of o.shape q.place in let low = r.0 in let high = r.1 in let inside : n < length q.old = omega arith in
@@ -245,10 +243,10 @@ module _ (o : Opening) (mem : Memory) (views : Views) (g : Past) (x : World o me
           let olds = fits.olds p (slice_index q.old n) has_ in
           (record { place = p; is_there = rec.5 n inside; chunk = data_chunk p (after_data q.place n rec.4); of_word = after_word o.shape q.place w ch low; unmade = changes_found p ((x.each_lane k c.runs).recorded und p (ap given has_)); own_ = λ b l. (olds b).0; old = λ b l _. ap (λ z. bit z b) old_is ∙ sym ((olds b).1 und) }, inl (q, slice_index q.old n, at, after_old q.place q.old n ch inside))
 
-      making : (q : Recorded) → length (views k).log.records ≡ j → CanRecord (views k) q → (word_of o.shape q.place ≤ w) × (w < word_of o.shape q.place + length q.old) → old_word u (8 * w) ≡ slice_index q.old (w - word_of o.shape q.place) → (s : Speaks w u) × Kind j s.place
+      making : (q : Recorded) → length (views k).log.records ≡ j → IsNextRecord (views k) q → (word_of o.shape q.place ≤ w) × (w < word_of o.shape q.place + length q.old) → old_word u (8 * w) ≡ slice_index q.old (w - word_of o.shape q.place) → (s : Speaks w u) × Kind j s.place
       making q last can r old_is = let n : ℕ = w - word_of o.shape q.place in let low = r.0 in let high = r.1 in let inside : n < length q.old = omega arith in let each = can.each n inside in let p = place_after q.place n in
           let ch = after_chunk q.place n each.plain in let own_ : (b : ℕ) → owns g.geo (settled_words o g) (sight_of (views k)).hold p b ≡ true = λ b. changes_own p b each.plain each.own in
-          let pic : pictured (views k).fixed.shape (views k).claims (word_of (views k).fixed.shape p) ≡ Some (slice_index q.old n) = known_pictured (runs_one (views k) || is_held (views k).fixed.shape (views k).claims (word_of (views k).fixed.shape p))
+          let pic : pictured (views k).fixed.shape (views k).claims (word_of (views k).fixed.shape p) ≡ Some (slice_index q.old n) = some_cond (runs_one (views k) || is_held (views k).fixed.shape (views k).claims (word_of (views k).fixed.shape p))
           (pictured (views k).fixed.shape (views k).claims (word_of (views k).fixed.shape p)) (slice_index q.old n) each.present in
           let seen : (b : ℕ) → (sight_of (views k)).picture p b ≡ Some (bit (slice_index q.old n) b) = λ b. cond-true (is_pictured p) _ _ (data_pictured (views k).fixed.shape p each.plain each.place) ∙ ap (option_map (λ z. bit_at z b == 1)) pic in
           let lg = unrecorded (views k).fixed.shape (views k).fixed.lane (views k).changes (views k).log.records p each.new in (

@@ -1,4 +1,5 @@
 -- The bits of a recovered word: what the sealed entries of all lanes make of each, or an old word; and where one lane's log alone gives it.
+use Rattle.pm_world.proofs.Basics.{none_of}
 use Rattle.std.proofs.Common.{◌≡◌, ◌≢◌, ℕ, zero, suc, ◌+◌, ◌*◌, ◌<◌, ◌≤◌, ◌⊎◌, inl, inr, ⊎_elim, min, max, Bool, true, false, cond, not, ◌&&◌, eqb, List, [], ◌∷◌, ◌++◌, slice_index, refl, sym, ap, ◌∙◌, arith, bit_and, bit_or, Option, None, Some}
 use Rattle.std.specs.Int.{bit_at}
 use Rattle.std.specs.List.{filter, find, flat_map, range_with_len}
@@ -16,7 +17,6 @@ use Rattle.pm_view.specs.Claims.{is_run}
 use Rattle.pm_view.specs.Entries.{op_bit, given_bit, first_of_two}
 use Rattle.pm_world.specs.States.{given, over}
 use Rattle.pm_world.specs.Memory.{bit, huge_told}
-use Rattle.pm_world.proofs.Crashes.{none_of}
 
 -- what entries make of bit b of word w: the last that gives it does
 abbrev pub entry_bit : List Redo → ℕ → ℕ → Option Bool

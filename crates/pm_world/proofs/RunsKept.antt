@@ -1,12 +1,11 @@
 -- Runs of lawful steps lead from worlds to worlds.
 use Rattle.std.specs.Prelude.{List, [], ◌∷◌}
-use Rattle.std.proofs.Common.{◌≡◌, sym, subst}
+use Rattle.std.proofs.Common.{sym, subst}
 use Rattle.pm_world.specs.Runs.{LaneStep, Moment, Leads, IsRun, IsWorld}
-use Rattle.pm_world.specs.Course.{past_after}
 use Rattle.pm_world.specs.World.{Opening, Past, World}
 use Rattle.pm_world.proofs.EveryStep.{every_step}
 
-next_world : (o : Opening) (t : LaneStep) (old new : Moment) → IsWorld o old → Leads o old t new → IsWorld o new
+pub next_world : (o : Opening) (t : LaneStep) (old new : Moment) → IsWorld o old → Leads o old t new → IsWorld o new
 next_world o t old new x l = subst (λ (g : Past). World o new.mem new.views g) (sym l.past)
     (every_step t.step o old.mem new.mem old.views new.views old.past t.lane x l.runs l.lawful l.moves l.view).0
 

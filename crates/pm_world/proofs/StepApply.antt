@@ -15,11 +15,12 @@ use Rattle.pm_view.specs.Places.{Place, InRun, InHuge, Descr, RootWord, twin, sa
 use Rattle.pm_world.specs.States.{given, over, cell, read, put1}
 use Rattle.pm_world.specs.Logs.{EntryOf}
 use Rattle.pm_world.specs.Memory.{bit, huge_told, bits_of}
+use Rattle.pm_world.proofs.Basics.{and_false}
 use Rattle.pm_world.proofs.Applies.{AppliedAt}
 use Rattle.pm_world.proofs.Cells.{bits_else}
 use Rattle.pm_world.proofs.PlacesAt.{same_place_true}
 use Rattle.pm_world.proofs.Replays.{put1_here}
-use Rattle.pm_world.proofs.StepDrain.{high_bit, and_false}
+use Rattle.pm_world.proofs.StepDrain.{high_bit}
 use Rattle.pm_world.proofs.WordsApart.{one_cell}
 
 -- ---- words

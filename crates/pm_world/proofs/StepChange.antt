@@ -25,11 +25,11 @@ use Rattle.pm_world.specs.Laws.{KeepsAt, Turn}
 use Rattle.pm_world.specs.Memory.{Memory, PoolWord, Becomes, cells_of}
 use Rattle.pm_world.specs.World.{Opening, Views, Past, origin, ghost_of, settled_words, LaneFits, World}
 use Rattle.pm_world.specs.Course.{past_stored}
+use Rattle.pm_world.proofs.Basics.{and_false}
 use Rattle.pm_world.proofs.AfterStore.{after_store}
 use Rattle.pm_world.proofs.Going.{at_phase}
 use Rattle.pm_world.proofs.Replays.{put1_here, put1_else}
 use Rattle.pm_world.proofs.StepDraw.{all_cons}
-use Rattle.pm_world.proofs.StepDrain.{and_false}
 use Rattle.pm_world.proofs.StoreArea.{area_apart, undrained_by, sight_logged, apart_in, Logged, area_world}
 
 -- ---- which words these are
@@ -117,9 +117,6 @@ module _ (o : Opening) (mem new : Memory) (views views' : Views) (g : Past) (x :
 
   -- the seal is stored
   module _ (at : w ≡ word_of_generation o.shape k + 1) where
-    abbrev Apart : Place → Type 0
-    Apart p = w ≢ word_of (views k).fixed.shape p
-
     apart : (p : Place) → w ≢ word_of (views k).fixed.shape p
     apart = apart_in o mem new views views' g x k ink w n 1 at (omega arith) m due b
 

@@ -22,6 +22,7 @@ use Rattle.pm_world.specs.Course.{past_after}
 use Rattle.pm_world.specs.Memory.{Memory, RunWord, ZoneWord, bit, occupancy_bit, cells_of}
 use Rattle.pm_world.specs.World.{Opening, Views, Past, origin, ghost_of, settled_words, LaneFits, World}
 use Rattle.pm_world.specs.Laws.{Turn, Keeps}
+use Rattle.pm_world.proofs.Basics.{some_else, early_undecided}
 use Rattle.pm_world.proofs.Cells.{cells_zone}
 use Rattle.pm_world.proofs.Frame.{Around, fresh_given, own_has, small_cases, maker_owns, big_valid}
 use Rattle.pm_world.proofs.Going.{Turned}
@@ -29,14 +30,10 @@ use Rattle.pm_world.proofs.Replays.{put1_here, put1_else}
 use Rattle.pm_world.proofs.Worlds.{turned}
 use Rattle.pm_world.proofs.Frame.{turn_stays}
 use Rattle.pm_world.proofs.Occupies.{with_claim, ghost_with_claim, chunks_of_new, none_in, none_f, free_chunk, blocks_stay, owns_more, PicturedClaim, occupies_chunks}
-use Rattle.pm_world.proofs.OccWorlds.{data_owned, early_undecided, occ_world}
+use Rattle.pm_world.proofs.OccWorlds.{data_owned, occ_world}
 use Rattle.pm_world.proofs.WordPlaces.{chunk_part, no_part, or_bit, clear_bit}
 use Rattle.pm_world.proofs.RowBits.{lowest_row, ones_row, row_bit, zone_row}
-use Rattle.pm_world.proofs.StepOccupies.{occupy_lost, occupy_run_keeps, less_known, none_known, same_known, known_less, none_some, occ_known, if_some}
-
--- a class that is not known: the word is a huge block's
-class_cases : (n : ℕ) → (n ≡ 0) ⊎ (n ≢ 0)
-class_cases n = cases_eq n 0
+use Rattle.pm_world.proofs.StepOccupies.{occupy_lost, occupy_run_keeps, less_known, none_known, same_known, none_some, occ_known, if_some}
 
 module _ (o : Opening) (mem new : Memory) (views views' : Views) (g : Past) (x : World o mem views g) (k : ℕ) (ink : k < o.lanes) (zone bits : ℕ) (law : IsLawful (views k) (Occupy (Zone zone) bits true)) (moves : Moves k (Occupy (Zone zone) bits true) mem new)
     (t : Turn views views' k (after (views k) (Occupy (Zone zone) bits true))) where
@@ -301,7 +298,7 @@ module _ (o : Opening) (mem new : Memory) (views views' : Views) (g : Past) (x :
               early = law.allowed.early;
               olds = λ p b q a. subst (λ z. owns (claimed g.geo f₀ n) S z.hold p b ≡ true) (sym sight_is) (owns_more o.shape o.lanes (origin o) cells sights (ghost_of g) x.bits k ink f₀ n some_ got got_is found first_now first_in first_out p b a);
               recorded = λ p b q y z. (subst (λ B. (sights k).hold.here B ≡ true) (sym (blocks_stay o.shape o.lanes (origin o) cells sights (ghost_of g) x.bits k ink f₀ n some_ got got_is found first_now first_in first_out p b (data_owned (sights k).hold g.geo S p b q y))) y, ap given (pic.else_ p b (data_owned (sights k).hold g.geo S p b q y)) ∙ z);
-              words = λ w z e. known_less (is_new_by (views k).fixed.shape (views k).claims (Zone zone) bits w) (pictured (views k).fixed.shape (views k).claims w) z e;
+              words = λ w z e. some_else (is_new_by (views k).fixed.shape (views k).claims (Zone zone) bits w) (pictured (views k).fixed.shape (views k).claims w) z e;
               occs = λ one other z e. occ_known (Zone zone) (λ m. bit_or m bits) mem new refl moves.0 (views k).occupancy (fl.alone one).occupancy other z e;
               draws = refl;
             }

@@ -3,38 +3,27 @@ use Rattle.std.specs.Prelude.{List, length}
 use Rattle.std.specs.List.{list_any}
 use Rattle.std.proofs.Common.{◌≡◌, ◌≢◌, ℕ, suc, ◌+◌, ◌*◌, ◌^◌, ◌<◌, inl, inr, ⊎_elim, true, false, ◌==◌, refl, sym, ap, ◌∙◌, subst, arith, Some}
 use Rattle.std.proofs.lemmas.Bool.{cases_eq, both_ways}
-use Rattle.pm_layout.specs.declared.shape.Shape.{Shape}
 use Rattle.pm_layout.specs.Areas.{greatest_generation, word_of_generation, word_of_seal, word_of_entry, line_of_slot}
 use Rattle.pm_record.specs.Undo.{undo_of}
-use Rattle.pm_view.specs.Changes.{Undrained}
 use Rattle.pm_view.specs.Counts.{IsAtStop}
 use Rattle.pm_view.specs.Places.{Place, Block, block_of, is_data}
-use Rattle.pm_view.specs.Log.{Phase, Idle, Open, Drawn, Sealing, Applying, Clearing, Retiring, Voiding, Log, is_early}
+use Rattle.pm_view.specs.Log.{is_early}
 use Rattle.pm_view.specs.Claims.{Claim, making, pictured}
 use Rattle.pm_view.specs.Steps.{Step}
 use Rattle.pm_view.specs.View.{View, Seen}
-use Rattle.pm_world.specs.States.{Diff, Cells, given}
+use Rattle.pm_world.specs.States.{Cells, given}
 use Rattle.pm_world.specs.Sights.{is_recorded, picture, sight_of}
 use Rattle.pm_world.specs.Lanes.{owns, is_decided, Bits}
 use Rattle.pm_world.specs.Logs.{slot_list, PhaseFits}
 use Rattle.pm_world.specs.Memory.{Memory, PoolWord, LockWord, RunWord, ZoneWord, ZoneLock, CommitCounter, StopWord, occ_at, IsSameBut, cells_by, cells_of}
 use Rattle.pm_world.specs.World.{Opening, Views, Past, origin, ghost_of, settled_words, AloneFits, RecordedFits, LaneFits, may_draw, may_draw_count, World}
 use Rattle.pm_world.specs.Laws.{Turn}
-use Rattle.pm_world.proofs.OccWorlds.{early_undecided}
+use Rattle.pm_world.proofs.OccWorlds.{early_phase}
+use Rattle.pm_world.proofs.Basics.{early_undecided}
 use Rattle.pm_world.proofs.Cells.{other_sort, occ_sort}
 use Rattle.pm_world.proofs.Counting.{count_same}
 use Rattle.pm_world.proofs.Frame.{Around}
-use Rattle.pm_world.proofs.Worlds.{world_after}
-
-phase_early : (sh : Shape) (lane : ℕ) (pc pc' : Diff) (l : Log) (changes : List Undrained) (ph : Phase) → is_early ph ≡ true → PhaseFits sh lane pc l changes ph → PhaseFits sh lane pc' l changes ph
-phase_early sh lane pc pc' l changes Idle e f = f
-phase_early sh lane pc pc' l changes Open e f = f
-phase_early sh lane pc pc' l changes (Drawn n) e f = f
-phase_early sh lane pc pc' l changes (Sealing n) e f = f
-phase_early sh lane pc pc' l changes (Applying t) e f = f
-phase_early sh lane pc pc' l changes Clearing e f = f
-phase_early sh lane pc pc' l changes (Retiring n) e f = f
-phase_early sh lane pc pc' l changes Voiding e f = absurd (both_ways false refl e)
+use Rattle.pm_world.proofs.Worlds.{world_after, log_again, log_moved}
 
 -- A LANE'S FACTS beside its sight, where the words of the pool stay, and of its view its claims and what it saw of zones and occupancy words may change
 pub lane_again : (o : Opening) (mem new : Memory) (g : Past) (k : ℕ) (v : View) → LaneFits o mem g k v → ((w : ℕ) → new (PoolWord w) ≡ mem (PoolWord w)) → (claims' : List Claim) (seen' : List Step) (zones' : List ℕ) (occupancy' : List Seen)
@@ -48,26 +37,10 @@ lane_again o mem new g k v f pools claims' seen' zones' occupancy' phase owned m
   lane = f.lane;
   shape = f.shape;
   lanes = f.lanes;
-  log = record {
-    first = q.first;
-    last = q.last;
-    below = q.below;
-    stored = pools (word_of_generation o.shape k) ∙ q.stored;
-    bump = q.bump;
-    sealed = pools (word_of_seal o.shape k) ∙ q.sealed;
-    entries_most = q.entries_most;
-    records_most = q.records_most;
-    pairs = λ i y e. let z = q.pairs i y e in (pools (word_of_entry o.shape k i + 0) ∙ z.0, pools (word_of_entry o.shape k i + 1) ∙ z.1, z.2, z.3);
-    pair_part = λ i e. pools (word_of_entry o.shape k (length v.log.entries) + i) ∙ q.pair_part i e;
-    records = λ j r e. let z = q.records j r e in (λ i a. pools (8 * line_of_slot o.shape k j + i) ∙ z.0 i a, z.1, z.2, z.3, z.4, z.5);
-    once = q.once;
-    olds = λ p y e b. let z = q.olds p y e b in (owned p b (ap given e) z.0, z.1);
-    slot_part = λ i e. pools (8 * line_of_slot o.shape k (length v.log.records) + i) ∙ q.slot_part i e;
-    stale = λ j u e a z. q.stale j u e a (sym (ap (λ s. undo_of (slot_list s)) (λ i n. pools (8 * line_of_slot o.shape k j + n) i)) ∙ z);
-    slot_changes = q.slot_changes;
-    area_changes = q.area_changes;
-    phase = phase;
-  };
+  log = log_again v.log.phase (log_moved o.shape k (λ u. mem (PoolWord u)) (λ u. new (PoolWord u)) pools q) f.log.bump (((log_moved o.shape k (λ u. mem (PoolWord u)) (λ u. new (PoolWord u)) pools q)).sealed) (λ p y e b. let z = q.olds p y e b in (owned p b (ap given e) z.0, z.1))
+      q.slot_changes
+      q.area_changes
+      phase;
   made = made;
   recorded = recorded;
   number = f.number;
@@ -104,7 +77,7 @@ module _ (o : Opening) (mem new : Memory) (views views' : Views) (g : Past) (x :
       → ((p : Place) (b : ℕ) → is_recorded (views k).log.records p ≡ true → is_data p ≡ true → given ((sight_of (views k)).picture p b) ≡ true → given ((sight_of claimed_view).picture p b) ≡ true)
       → (o.lanes ≡ 1 → (w y : ℕ) → pictured (views k).fixed.shape claims' w ≡ Some y → mem (PoolWord w) ≡ y) → LaneFits o new g k claimed_view
   lane_after early owned heres seen known = let f = x.each_lane k ink in lane_again o mem new g k (views k) f pool_word claims' seen' (views k).zones (views k).occupancy
-      (phase_early o.shape k (sight_of (views k)).picture (sight_of claimed_view).picture (views k).log (views k).changes (views k).log.phase early f.log.phase) owned (λ t. absurd (both_ways (is_decided (views k).log.phase) (early_undecided (views k).log.phase early).0 t))
+      (early_phase o.shape k (sight_of (views k)).picture (sight_of claimed_view).picture (views k).log (views k).changes (views k).log.phase early f.log.phase) owned (λ t. absurd (both_ways (is_decided (views k).log.phase) (early_undecided (views k).log.phase early).0 t))
       (λ u p q. let y = f.recorded u p q in (y.0, λ b. let z = y.1 b in (heres p q (block_of g.geo p b) z.0, seen p b q y.0 z.1))) (λ z. ap (λ n. n == suc k) (zone_lock z) ∙ f.zones z)
       (λ one. record { words = λ w y e. pool_word w ∙ known one w y e; occupancy = λ at y e. let z = (f.alone one).occupancy at y e in (same (occ_at at) (occ_sort at (LockWord l) (λ q. omega arith) (λ q. omega arith)) ∙ z.0, z.1) })
 

@@ -2,7 +2,7 @@
 use Rattle.std.specs.Prelude.{List, [], ◌∷◌, ◌++◌, length, slice_get, slice_index, Contains}
 use Rattle.pm_layout.specs.Areas.{greatest_generation}
 use Rattle.std.proofs.Common.{◌≡◌, ◌≢◌, ℕ, suc, ◌+◌, ◌*◌, ◌^◌, ◌<◌, ◌≤◌, inl, inr, ⊎_elim, Bool, true, false, cond, not, ◌&&◌, ◌||◌, ◌==◌, refl, sym, ap, ◌∙◌, subst, arith, eq-eqb, ne_eqb, Option, None, Some}
-use Rattle.std.proofs.lemmas.Bool.{cond-true, cond-false, cases_Bool, cases_lt, both_ways, and_parts, or_cases}
+use Rattle.std.proofs.lemmas.Bool.{cond-true, cond-false, cases_Bool, cases_lt, both_ways}
 use Rattle.std.proofs.lemmas.Option.{slice_get-get_or}
 use Rattle.std.proofs.lemmas.Nat.Bits.{bit_at_above}
 use Rattle.pm_layout.specs.declared.shape.Shape.{Shape}
@@ -10,8 +10,8 @@ use Rattle.pm_record.specs.Undo.{is_record, undo_in, undo_of}
 use Rattle.pm_record.specs.declared.undo.Undo.{Undo}
 use Rattle.pm_view.specs.Changes.{Undrained, drained}
 use Rattle.pm_view.specs.Places.{Place, Descr, RootWord, Block, Small, Big, Root, block_of, header, is_data, is_place}
-use Rattle.pm_view.specs.Entries.{Entry, latest, redos, turn, first_of_two}
-use Rattle.pm_view.specs.Log.{Phase, Idle, Open, Drawn, Sealing, Applying, Clearing, Retiring, Voiding, Recorded, Log, old_in, old_of, next_log, log_drained}
+use Rattle.pm_view.specs.Entries.{Entry, latest, redos, turn}
+use Rattle.pm_view.specs.Log.{Phase, Idle, Open, Drawn, Sealing, Applying, Clearing, Retiring, Voiding, Log, old_of, next_log, log_drained}
 use Rattle.pm_view.specs.Claims.{Claim, Decided, Drained, class, making, locked, found, here, header_in, found_after, pictured}
 use Rattle.pm_view.specs.View.{View}
 use Rattle.pm_view.specs.Steps.Step.{Drain}
@@ -19,13 +19,15 @@ use Rattle.pm_view.specs.Views.{decided_by, drained_to}
 use Rattle.pm_view.specs.Counts.{IsAtStop}
 use Rattle.pm_view.specs.Counts.{MayCount}
 use Rattle.pm_world.specs.States.{State, Diff, given, live, read, put1, Cells}
-use Rattle.pm_world.specs.Sights.{Sight, is_use, is_soiled, is_recorded, is_slot_drained, is_logged_from, fresh, is_made, sight_of}
+use Rattle.pm_world.specs.Sights.{Sight, is_use, is_soiled, is_recorded, fresh, is_made, sight_of}
 use Rattle.pm_world.specs.Lanes.{Ghost, owns, left, is_decided, TurnFlight, SightFits, settled, Flies, flies_at, Bits}
 use Rattle.pm_world.specs.Logs.{slot_list, ends_with, used_slots, seal_in, BumpFits, PhaseFits, AreWhole, LogFits}
 use Rattle.pm_world.specs.Memory.{Memory, PoolWord, CommitCounter, StopWord, bit, cells_of}
 use Rattle.pm_world.specs.World.{Opening, Views, Past, origin, ghost_of, settled_words, NumberFits, AreaFits, LaneFits, World}
 use Rattle.pm_world.specs.Course.{holder_after, past_made, past_decided, past_drained}
 use Rattle.pm_world.specs.Laws.{Turn, Keeps}
+use Rattle.pm_world.proofs.Entering.{logged_recorded}
+use Rattle.pm_world.proofs.Basics.{and_false, some_of}
 use Rattle.pm_world.proofs.StepDrops.{dropped_world}
 use Rattle.pm_world.proofs.Counting.{count_same}
 use Rattle.pm_world.proofs.Decides.{decided_ghost, decided_sight, over_idle, over_open, owned_now, around, decides}
@@ -33,15 +35,11 @@ use Rattle.pm_world.proofs.Frame.{Around, mine_own, own_has}
 use Rattle.pm_world.proofs.Going.{at_phase, unchanged}
 use Rattle.pm_world.proofs.StepPlain.{plain_step}
 use Rattle.pm_world.proofs.Stores.{drops, Drops, goes_on_to, GoesOnAt}
-use Rattle.pm_world.proofs.Worlds.{turned, world_after, stops_stay}
+use Rattle.pm_world.proofs.Worlds.{turned, world_after, stops_stay, log_again}
 
 -- ---- numbers
 pub high_bit : (x b : ℕ) → x < 2 ^ 64 → 64 ≤ b → bit x b ≡ false
 high_bit x b l q = ap (λ d. d == 1) (bit_at_above x 64 b l q)
-
-pub and_false : (t : Bool) → (t && false) ≡ false
-and_false true = refl
-and_false false = refl
 
 -- ---- THE LOG OF THE NEXT GENERATION
 generation_of : (slot : List ℕ) (u : Undo) → undo_of slot ≡ Some u → u.generation ≡ slice_index slot 0
@@ -89,26 +87,10 @@ module _ (sh : Shape) (lane generation seal : ℕ) (entry slot : ℕ → ℕ →
 
   -- its entries are to be applied
   pub sealed_log : (n : ℕ) → l.phase ≡ Sealing n → ((p : Place) (b : ℕ) → owned p b ≡ true → owned' p b ≡ true) → LogFits sh lane generation seal entry slot S' owned' picture (record l { phase = Applying l.entries }) changes
-  sealed_log n e to = let bump : l.bumped ≡ false = subst (λ ph. BumpFits ph l.bumped) e f.bump in let phase = subst (λ ph. PhaseFits sh lane picture l changes ph) e f.phase in record {
-    first = f.first;
-    last = f.last;
-    below = f.below;
-    stored = f.stored;
-    bump = tt;
-    sealed = f.sealed ∙ ap (λ ph. seal_in ph (length l.entries)) e;
-    entries_most = f.entries_most;
-    records_most = f.records_most;
-    pairs = f.pairs;
-    pair_part = f.pair_part;
-    records = f.records;
-    once = f.once;
-    olds = λ p y q b. (to p b (f.olds p y q b).0, λ u. absurd (both_ways true u refl));
-    slot_part = f.slot_part;
-    stale = f.stale;
-    slot_changes = λ i d q. let z = ap length clean in absurd (omega arith);
-    area_changes = λ i d q. let z = ap length clean in absurd (omega arith);
-    phase = (whole phase.0, record { done = []; are = refl; ends = λ b. absurd (both_ways l.bumped bump b); to_end = λ _. last_of phase.0 }, phase.1, phase.2);
-  }
+  sealed_log n e to = let bump : l.bumped ≡ false = subst (λ ph. BumpFits ph l.bumped) e f.bump in let phase = subst (λ ph. PhaseFits sh lane picture l changes ph) e f.phase in log_again (Applying l.entries) f tt (f.sealed ∙ ap (λ ph. seal_in ph (length l.entries)) e) (λ p y q b. (to p b (f.olds p y q b).0, λ u. absurd (both_ways true u refl)))
+      (λ i d q. let z = ap length clean in absurd (omega arith))
+      (λ i d q. let z = ap length clean in absurd (omega arith))
+      ((whole phase.0, record { done = []; are = refl; ends = λ b. absurd (both_ways l.bumped bump b); to_end = λ _. last_of phase.0 }, phase.1, phase.2))
     where
       whole : AreWhole sh lane l → AreWhole sh lane (record l { phase = Applying l.entries })
       whole w = record { front = w.front; are = w.are; placed = w.placed }
@@ -119,24 +101,6 @@ module _ (sh : Shape) (lane generation seal : ℕ) (entry slot : ℕ → ℕ →
           at_end : (xs : List Entry) (y : Entry) → Contains (xs ++ y ∷ []) y
           at_end [] y = (0, omega arith, refl)
           at_end (e ∷ xs) y = let z = at_end xs y in (suc z.0, omega arith, z.2)
-
--- ---- A RECORD whose slot is drained is one
-logged_recorded : (sh : Shape) (lane : ℕ) (changes : List Undrained) (j : ℕ) (rs : List Recorded) (p : Place) → is_logged_from sh lane changes j rs p ≡ true → given (old_of rs p) ≡ true
-logged_recorded sh lane changes j [] p e = absurd (both_ways false refl e)
-logged_recorded sh lane changes j (r ∷ rs) p e = ⊎_elim (λ (t : (given (old_in r p) && is_slot_drained sh lane changes j) ≡ true). first (old_in r p) (old_of rs p) (and_parts (given (old_in r p)) (is_slot_drained sh lane changes j) t).0)
-    (λ (t : is_logged_from sh lane changes (suc j) rs p ≡ true). second (old_in r p) (old_of rs p) (logged_recorded sh lane changes (suc j) rs p t)) (or_cases (given (old_in r p) && is_slot_drained sh lane changes j) (is_logged_from sh lane changes (suc j) rs p) e)
-  where
-    first : (a c : Option ℕ) → given a ≡ true → given (first_of_two a c) ≡ true
-    first None c t = absurd (both_ways false refl t)
-    first (Some y) c t = refl
-
-    second : (a c : Option ℕ) → given c ≡ true → given (first_of_two a c) ≡ true
-    second None c t = t
-    second (Some y) c t = refl
-
-pub old_some : (d : Option ℕ) → given d ≡ true → (y : ℕ) × (d ≡ Some y)
-old_some None e = absurd (both_ways false refl e)
-old_some (Some y) e = (y, refl)
 
 module _ (sh : Shape) (L : ℕ) (b : State) (cells : Cells) (sights : ℕ → Sight) (g : Ghost) (x : Bits sh L b cells sights g) (k : ℕ) (ink : k < L) where
   pub around_same : Around k (sights k).hold (λ j. (sights j).hold) cells cells (settled b g) (settled b g) g g
@@ -244,7 +208,7 @@ module _ (o : Opening) (mem : Memory) (views new : Views) (g : Past) (k : ℕ) (
   -- AN ABORTED CALL'S RECORDS ARE VOIDED: each recorded word has its old value again, which is the settled one
   restored_bit : (views k).log.phase ≡ Voiding → (p : Place) (b : ℕ) → owns g.geo (settled_words o g) (sight_of (views k)).hold p b ≡ true → live (settled_words o g) g.geo g.runs p ≡ true → read (cells_of o.shape mem).pool p b ≡ settled_words o g p b
   restored_bit e p b t al = let l = log_in Voiding e in let z = (at_phase o.shape o.lanes (origin o) (cells_of o.shape mem) (λ j. sight_of (views j)) (ghost_of g) x.bits k ink Voiding e).bits p b t in
-      ⊎_elim (λ (q : (sight_of (views k)).logged p ≡ true). let r = old_some (old_of (views k).log.records p) (logged_recorded (views k).fixed.shape (views k).fixed.lane (views k).changes 0 (views k).log.records p q) in
+      ⊎_elim (λ (q : (sight_of (views k)).logged p ≡ true). let r = some_of (old_of (views k).log.records p) (logged_recorded (views k).fixed.shape (views k).fixed.lane (views k).changes 0 (views k).log.records p q) in
       z.3 (bit r.0 b) (l.phase.3 p r.0 b r.1) ∙ sym ((l.olds p r.0 r.1 b).1 refl))
       (λ (q : (sight_of (views k)).logged p ≡ false). z.0 al refl (ap (λ y. y && true) q)) (cases_Bool ((sight_of (views k)).logged p))
 

@@ -24,6 +24,7 @@ use Rattle.pm_world.specs.World.{Opening, Views, Past, origin, ghost_of, settled
 use Rattle.pm_world.specs.Lawful.{HoldsRoot, KeepsRoot, NewBlock, FilledChange, HasDrained, MayDraw}
 use Rattle.pm_world.specs.Course.{is_idle, past_drawn}
 use Rattle.pm_world.specs.Laws.{Turn, Keeps}
+use Rattle.pm_world.proofs.Basics.{and_false, val_alike}
 use Rattle.pm_world.proofs.Births.{born}
 use Rattle.pm_world.proofs.Cells.{cells_counted}
 use Rattle.pm_world.proofs.Counting.{count_less}
@@ -32,22 +33,13 @@ use Rattle.pm_world.proofs.Frame.{mine_own, own_has}
 use Rattle.pm_world.proofs.Going.{Turned, at_phase}
 use Rattle.pm_world.proofs.Replays.{put1_here, put1_else}
 use Rattle.pm_world.proofs.Values.{val_word}
-use Rattle.pm_world.proofs.Worlds.{Aside, turned, world_after}
+use Rattle.pm_world.proofs.Worlds.{Aside, turned, world_after, log_again, log_again}
 
 -- ---- what is to be decided
 drawn_cases : (rs : List Recorded) (es : List Entry) → ((rs ≡ []) × (es ≡ [])) ⊎ ((n : ℕ) → phase_drawn n rs es ≡ Drawn n)
 drawn_cases [] [] = inl (refl, refl)
 drawn_cases [] (e ∷ es) = inr (λ n. refl)
 drawn_cases (r ∷ rs) es = inr (λ n. refl)
-
-and_false : (t : Bool) → (t && false) ≡ false
-and_false true = refl
-and_false false = refl
-
--- ---- entries of the root word
-val_alike : (w y : ℕ → Bool) (i n : ℕ) → ((b : ℕ) → b < i + n → w b ≡ y b) → val w i n ≡ val y i n
-val_alike w y i zero h = refl
-val_alike w y i (suc n) h = ap (λ t. cond t 1 0 + 2 * val w (suc i) n) (h i (omega arith)) ∙ ap (λ t. cond (y i) 1 0 + 2 * t) (val_alike w y (suc i) n (λ b l. h b (omega arith)))
 
 abbrev RootEntries : View → (ℕ → Option Bool) → Type 0
 RootEntries v d = ((b : ℕ) → d b ≡ None) ⊎ ((x : ℕ) × (x < 2 ^ 64) × HoldsRoot v x × ((b : ℕ) → b < 64 → d b ≡ Some (bit x b)))
@@ -180,26 +172,10 @@ module _ (o : Opening) (mem new : Memory) (views views' : Views) (g : Past) (x :
   open_log = subst (λ ph. Logged (record (views k).log { phase = ph })) a.is_open f.log
 
   log_drawn : (views k).changes ≡ [] → Logged (record (views k).log { phase = Drawn g.length })
-  log_drawn e = let l = open_log in record {
-    first = l.first;
-    last = l.last;
-    below = l.below;
-    stored = l.stored;
-    bump = l.bump;
-    sealed = l.sealed;
-    entries_most = l.entries_most;
-    records_most = l.records_most;
-    pairs = l.pairs;
-    pair_part = l.pair_part;
-    records = l.records;
-    once = l.once;
-    olds = l.olds;
-    slot_part = l.slot_part;
-    stale = l.stale;
-    slot_changes = λ i d q. let z = ap length e in absurd (omega arith);
-    area_changes = λ i d q. let z = ap length e in absurd (omega arith);
-    phase = (e, a.whole.0, a.whole.1);
-  }
+  log_drawn e = let l = open_log in log_again (Drawn g.length) l l.bump l.sealed l.olds
+      (λ i d q. let z = ap length e in absurd (omega arith))
+      (λ i d q. let z = ap length e in absurd (omega arith))
+      ((e, a.whole.0, a.whole.1))
 
   chunk_change : (p : Rattle.pm_view.specs.Parts.Part) (c : Undrained) → Rattle.pm_world.specs.Lawful.is_chunk_part p ≡ true → AreaChange Idle (length (views k).log.entries) (views k).log.generation p c
   chunk_change Rattle.pm_view.specs.Parts.GenerationPart c e = both_ways false refl e
@@ -212,30 +188,14 @@ module _ (o : Opening) (mem new : Memory) (views views' : Views) (g : Past) (x :
   chunk_change Rattle.pm_view.specs.Parts.OtherPart c e = both_ways false refl e
 
   log_idle : (views k).log.records ≡ [] → (views k).log.entries ≡ [] → Logged (record (views k).log { phase = Idle })
-  log_idle er ee = let l = open_log in record {
-    first = l.first;
-    last = l.last;
-    below = l.below;
-    stored = l.stored;
-    bump = l.bump;
-    sealed = l.sealed;
-    entries_most = l.entries_most;
-    records_most = l.records_most;
-    pairs = l.pairs;
-    pair_part = l.pair_part;
-    records = l.records;
-    once = l.once;
-    olds = l.olds;
-    slot_part = l.slot_part;
-    stale = l.stale;
-    slot_changes = ⊎_elim (λ (e : (views k).changes ≡ []). λ i d q. let z = ap length e in absurd (omega arith))
-        (λ (e : ((views k).log.records ≡ []) × ((views k).log.entries ≡ []) × All (FilledChange (views k)) (views k).changes). λ i d q s. let c = Rattle.std.specs.Prelude.slice_index_or (views k).changes i d in
-        absurd (both_ways true (sym (subst (λ n. Rattle.pm_world.specs.Lawful.is_chunk_part (Rattle.pm_view.specs.Parts.part_of o.shape n c.word) ≡ true) f.lane (subst (λ t. Rattle.pm_world.specs.Lawful.is_chunk_part (Rattle.pm_view.specs.Parts.part_of t (views k).fixed.lane c.word) ≡ true) f.shape (e.2 i d q).0)) ∙ ap Rattle.pm_world.specs.Lawful.is_chunk_part s) refl)) a.drained;
-    area_changes = ⊎_elim (λ (e : (views k).changes ≡ []). λ i d q. let z = ap length e in absurd (omega arith))
-        (λ (e : ((views k).log.records ≡ []) × ((views k).log.entries ≡ []) × All (FilledChange (views k)) (views k).changes). λ i d q. let c = Rattle.std.specs.Prelude.slice_index_or (views k).changes i d in
-        chunk_change (Rattle.pm_view.specs.Parts.part_of o.shape k c.word) c (subst (λ n. Rattle.pm_world.specs.Lawful.is_chunk_part (Rattle.pm_view.specs.Parts.part_of o.shape n c.word) ≡ true) f.lane (subst (λ s. Rattle.pm_world.specs.Lawful.is_chunk_part (Rattle.pm_view.specs.Parts.part_of s (views k).fixed.lane c.word) ≡ true) f.shape (e.2 i d q).0))) a.drained;
-    phase = (er, ee, a.whole.0, a.whole.1);
-  }
+  log_idle er ee = let l = open_log in log_again Idle l l.bump l.sealed l.olds
+      (⊎_elim (λ (e : (views k).changes ≡ []). λ i d q. let z = ap length e in absurd (omega arith))
+      (λ (e : ((views k).log.records ≡ []) × ((views k).log.entries ≡ []) × All (FilledChange (views k)) (views k).changes). λ i d q s. let c = Rattle.std.specs.Prelude.slice_index_or (views k).changes i d in
+      absurd (both_ways true (sym (subst (λ n. Rattle.pm_world.specs.Lawful.is_chunk_part (Rattle.pm_view.specs.Parts.part_of o.shape n c.word) ≡ true) f.lane (subst (λ t. Rattle.pm_world.specs.Lawful.is_chunk_part (Rattle.pm_view.specs.Parts.part_of t (views k).fixed.lane c.word) ≡ true) f.shape (e.2 i d q).0)) ∙ ap Rattle.pm_world.specs.Lawful.is_chunk_part s) refl)) a.drained)
+      (⊎_elim (λ (e : (views k).changes ≡ []). λ i d q. let z = ap length e in absurd (omega arith))
+      (λ (e : ((views k).log.records ≡ []) × ((views k).log.entries ≡ []) × All (FilledChange (views k)) (views k).changes). λ i d q. let c = Rattle.std.specs.Prelude.slice_index_or (views k).changes i d in
+      chunk_change (Rattle.pm_view.specs.Parts.part_of o.shape k c.word) c (subst (λ n. Rattle.pm_world.specs.Lawful.is_chunk_part (Rattle.pm_view.specs.Parts.part_of o.shape n c.word) ≡ true) f.lane (subst (λ s. Rattle.pm_world.specs.Lawful.is_chunk_part (Rattle.pm_view.specs.Parts.part_of s (views k).fixed.lane c.word) ≡ true) f.shape (e.2 i d q).0))) a.drained)
+      ((er, ee, a.whole.0, a.whole.1))
 
   alike : (w : ℕ) → new (PoolWord w) ≡ mem (PoolWord w)
   alike w = same (PoolWord w) (Rattle.pm_world.proofs.Cells.other_sort (PoolWord w) CommitCounter (λ q. omega arith))

@@ -12,8 +12,8 @@ use Rattle.std.specs.Int.{bit_at}
 use Rattle.pm_view.specs.Changes.{Undrained, is_in_line, is_dirty, is_dirty_bit, drained}
 use Rattle.pm_view.specs.Counts.{MayCount, IsAtStop}
 use Rattle.pm_view.specs.Places.{Place, InRun, InHuge, Descr, RootWord, Block, Small, Big, Root, block_of, is_data, word_of}
-use Rattle.pm_view.specs.Entries.{latest, redos, turn, first_of_two}
-use Rattle.pm_view.specs.Log.{Phase, Idle, Open, Drawn, Sealing, Applying, Clearing, Retiring, Voiding, Log, Recorded, old_in, old_of}
+use Rattle.pm_view.specs.Entries.{latest, redos, turn}
+use Rattle.pm_view.specs.Log.{Phase, Idle, Open, Drawn, Sealing, Applying, Clearing, Retiring, Voiding, Log, Recorded, old_in}
 use Rattle.pm_view.specs.Claims.{Drained, mine, geometry}
 use Rattle.pm_world.specs.States.{State, Diff, given, there, Cells}
 use Rattle.pm_world.specs.Sights.{Sight, hold_of, is_made, is_recorded, is_slot_drained, is_logged_from, is_logged, is_use, is_soiled, sight_of}
@@ -23,10 +23,12 @@ use Rattle.pm_world.specs.Course.{holder_made, past_made}
 use Rattle.pm_world.specs.Memory.{Memory, CommitCounter, cells_of}
 use Rattle.pm_world.specs.World.{Opening, Views, Past, origin, ghost_of, settled_words, LaneFits, World}
 use Rattle.pm_world.specs.Laws.{Turn}
+use Rattle.pm_world.proofs.Entering.{logged_recorded}
+use Rattle.pm_world.proofs.Basics.{and_false}
 use Rattle.pm_world.proofs.Counting.{count_same}
 use Rattle.pm_world.proofs.Frame.{Around, maker_no_run}
 use Rattle.pm_world.proofs.Going.{Turned}
-use Rattle.pm_world.proofs.Worlds.{turned, world_after, stops_stay}
+use Rattle.pm_world.proofs.Worlds.{turned, world_after, stops_stay, log_again}
 use Rattle.pm_world.proofs.OccWorlds.{data_owned}
 use Rattle.pm_world.proofs.Runs.{mine_made, with_runs, holder_with_runs, ghost_with_runs, dropped, Drains, makes_runs}
 use Rattle.pm_world.proofs.Stores.{drops}
@@ -55,22 +57,6 @@ more_logged sh lane changes j (r ∷ rs) p e = let m = given (old_in r p) in ⊎
     (not_from_false (list_any (is_in_line (line_of_slot sh lane j)) (drained changes)) (false_from_ne_true (list_any (is_in_line (line_of_slot sh lane j)) (drained changes)) (λ z. both_ways (list_any (is_in_line (line_of_slot sh lane j)) changes) (not-true (list_any (is_in_line (line_of_slot sh lane j)) changes) y.1) (any_less (is_in_line (line_of_slot sh lane j)) (λ (c : Undrained). not c.flushed) changes z))))))
     (λ (a : is_logged_from sh lane changes (suc j) rs p ≡ true). or_right (m && is_slot_drained sh lane (drained changes) j) (is_logged_from sh lane (drained changes) (suc j) rs p) (more_logged sh lane changes (suc j) rs p a)) (or_cases (m && is_slot_drained sh lane changes j) (is_logged_from sh lane changes (suc j) rs p) e)
 
-logged_recorded : (sh : Shape) (lane : ℕ) (changes : List Undrained) (j : ℕ) (rs : List Recorded) (p : Place) → is_logged_from sh lane changes j rs p ≡ true → is_recorded rs p ≡ true
-logged_recorded sh lane changes j [] p e = absurd (both_ways false refl e)
-logged_recorded sh lane changes j (r ∷ rs) p e = ⊎_elim (λ (a : (given_n (old_in r p) && is_slot_drained sh lane changes j) ≡ true). one (old_in r p) (old_of rs p) (and_parts (given_n (old_in r p)) (is_slot_drained sh lane changes j) a).0)
-    (λ (a : is_logged_from sh lane changes (suc j) rs p ≡ true). other (old_in r p) (old_of rs p) (logged_recorded sh lane changes (suc j) rs p a)) (or_cases (given (old_in r p) && is_slot_drained sh lane changes j) (is_logged_from sh lane changes (suc j) rs p) e)
-  where
-    given_n : Option ℕ → Bool
-    given_n a = given a
-
-    one : (a b : Option ℕ) → given a ≡ true → given (first_of_two a b) ≡ true
-    one None b t = absurd (both_ways false refl t)
-    one (Some y) b t = refl
-
-    other : (a b : Option ℕ) → given b ≡ true → given (first_of_two a b) ≡ true
-    other None b t = t
-    other (Some y) b t = refl
-
 drained_phase : (sh : Shape) (lane : ℕ) (d : Diff) (l : Log) (changes : List Undrained) (ph : Phase) → PhaseFits sh lane d l changes ph → PhaseFits sh lane d l (drained changes) ph
 drained_phase sh lane d l changes Idle f = f
 drained_phase sh lane d l changes Open f = f
@@ -84,10 +70,6 @@ drained_phase sh lane d l changes Voiding f = f
 stop_more : (a : Option ℕ) (n : ℕ) → IsSomeAnd a (λ s. s ≤ n) → IsSomeAnd a (λ s. s ≤ n + 1)
 stop_more None n e = e
 stop_more (Some s) n e = omega arith
-
-none_of : (t : Bool) → (t && false) ≡ false
-none_of true = refl
-none_of false = refl
 
 module _ (o : Opening) (mem : Memory) (views views' : Views) (g : Past) (x : World o mem views g) (k : ℕ) (ink : k < o.lanes) (may : MayCount (views k)) (t : Turn views views' k (drops (views k))) where
   abbrev sights : ℕ → Sight
@@ -187,27 +169,11 @@ module _ (o : Opening) (mem : Memory) (views views' : Views) (g : Past) (x : Wor
         lane = fl.lane;
         shape = fl.shape;
         lanes = fl.lanes;
-        log = record {
-          first = l.first;
-          last = l.last;
-          below = l.below;
-          stored = l.stored;
-          bump = l.bump;
-          sealed = l.sealed;
-          entries_most = l.entries_most;
-          records_most = l.records_most;
-          pairs = l.pairs;
-          pair_part = l.pair_part;
-          records = l.records;
-          once = l.once;
-          olds = λ p m q b. let y = l.olds p m q b in let z = kept_of p b (ap given q) y.0 in (subst (λ w. owns g.geo S w.hold p b ≡ true) (sym sight_is) (dropped o.shape o.lanes (origin o) cells sights (ghost_of g) x.bits k ink dirty p b z.0 z.1), y.1);
-          slot_part = l.slot_part;
-          stale = l.stale;
-          slot_changes = All-filter (λ (c : Undrained). not c.flushed) (λ (c : Undrained). Rattle.pm_view.specs.Parts.part_of o.shape k c.word ≡ Rattle.pm_view.specs.Parts.SlotPart → c.word < 8 * Rattle.pm_layout.specs.Areas.line_of_slot o.shape k (Rattle.pm_world.specs.Logs.used_slots (views k).log)) (views k).changes l.slot_changes;
-          area_changes = All-filter (λ (c : Undrained). not c.flushed) (λ (c : Undrained). Rattle.pm_world.specs.Logs.AreaChange (views k).log.phase (length (views k).log.entries) (views k).log.generation (Rattle.pm_view.specs.Parts.part_of o.shape k c.word) c) (views k).changes l.area_changes;
-          phase = drained_phase o.shape k (sights k).picture (views k).log (views k).changes (views k).log.phase l.phase;
-        };
-        made = λ u c. ap (λ m. dirty c && m) (fl.made u c) ∙ none_of (dirty c);
+        log = log_again ((views k).log.phase) l l.bump l.sealed (λ p m q b. let y = l.olds p m q b in let z = kept_of p b (ap given q) y.0 in (subst (λ w. owns g.geo S w.hold p b ≡ true) (sym sight_is) (dropped o.shape o.lanes (origin o) cells sights (ghost_of g) x.bits k ink dirty p b z.0 z.1), y.1))
+            (All-filter (λ (c : Undrained). not c.flushed) (λ (c : Undrained). Rattle.pm_view.specs.Parts.part_of o.shape k c.word ≡ Rattle.pm_view.specs.Parts.SlotPart → c.word < 8 * Rattle.pm_layout.specs.Areas.line_of_slot o.shape k (Rattle.pm_world.specs.Logs.used_slots (views k).log)) (views k).changes l.slot_changes)
+            (All-filter (λ (c : Undrained). not c.flushed) (λ (c : Undrained). Rattle.pm_world.specs.Logs.AreaChange (views k).log.phase (length (views k).log.entries) (views k).log.generation (Rattle.pm_view.specs.Parts.part_of o.shape k c.word) c) (views k).changes l.area_changes)
+            (drained_phase o.shape k (sights k).picture (views k).log (views k).changes (views k).log.phase l.phase);
+        made = λ u c. ap (λ m. dirty c && m) (fl.made u c) ∙ and_false (dirty c);
         recorded = fl.recorded;
         number = fl.number;
         zones = fl.zones;

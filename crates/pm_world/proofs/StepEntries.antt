@@ -3,8 +3,8 @@ use Rattle.std.specs.Prelude.{List, [], ◌∷◌, ◌++◌, All, Contains, leng
 use Rattle.std.specs.List.{list_any}
 use Rattle.std.specs.Int.{bit_at, bit_not, w64}
 use Rattle.std.specs.Option.{option_map}
-use Rattle.std.proofs.Common.{◌≡◌, ◌≢◌, ℕ, zero, suc, ◌+◌, ◌*◌, ◌-◌, ◌/◌, ◌^◌, ◌<◌, ◌⊎◌, inl, inr, ⊎_elim, nat_le, nat_lt, Bool, true, false, cond, not, ◌==◌, ◌&&◌, ◌||◌, eqb, refl, sym, ap, ◌∙◌, subst, arith, eq-eqb, ne_eqb, Option, None, Some, if◌then◌else◌, append_assoc}
-use Rattle.std.proofs.lemmas.Bool.{cases_eq, cases_Bool, both_ways, and_parts, and_from, or_cases, eqb-true, ltb-true, leb-true, lt-ltb, cond-true, cond-false, false_from_ne_true}
+use Rattle.std.proofs.Common.{◌≡◌, ◌≢◌, ℕ, zero, suc, ◌+◌, ◌*◌, ◌-◌, ◌/◌, ◌^◌, ◌<◌, ◌⊎◌, inl, inr, ⊎_elim, nat_le, nat_lt, Bool, true, false, cond, not, ◌==◌, ◌&&◌, ◌||◌, refl, sym, ap, ◌∙◌, subst, arith, eq-eqb, ne_eqb, Option, None, Some, if◌then◌else◌, append_assoc}
+use Rattle.std.proofs.lemmas.Bool.{cases_eq, cases_Bool, both_ways, and_parts, and_from, or_cases, eqb-true, ltb-true, lt-ltb, cond-true, cond-false, false_from_ne_true}
 use Rattle.pm_layout.specs.declared.shape.Shape.{Shape}
 use Rattle.std.proofs.lemmas.Option.{slice_get_within}
 use Rattle.pm_layout.specs.Areas.{undo_slots, word_of_generation, word_of_seal, word_of_entry, line_of_slot}
@@ -29,6 +29,7 @@ use Rattle.pm_world.specs.Logs.{AreaChange, IsEntryAt, EntryOf, ends_with, LogFi
 use Rattle.pm_world.specs.Memory.{Memory, PoolWord, LockWord, RunWord, ZoneWord, ZoneLock, CommitCounter, StopWord, occ_at, Becomes, bit, run_told, cells_by, cells_of}
 use Rattle.pm_world.specs.World.{Opening, Views, Past, origin, ghost_of, settled_words, AloneFits, LaneFits, is_header, World}
 use Rattle.pm_world.specs.Laws.{Turn}
+use Rattle.pm_world.proofs.Basics.{given_cond, some_of, made_turn, same_place_refl, twin_twin}
 use Rattle.pm_world.proofs.SlotWords.{slot_range}
 use Rattle.pm_world.proofs.AfterStore.{counts_on, stop_stays}
 use Rattle.pm_world.proofs.Counting.{count_same}
@@ -36,18 +37,13 @@ use Rattle.pm_world.proofs.Replays.{put1_else}
 use Rattle.pm_world.proofs.StepDraw.{all_cons}
 use Rattle.pm_world.proofs.WordsApart.{no_area}
 use Rattle.pm_world.proofs.Worlds.{turned, world_with, stops_stay}
-use Rattle.pm_world.proofs.Applies.{same_place_refl, twin_twin, twin_making, Applied, delta_given, given_here, own_here, plain_here, applied_fits}
+use Rattle.pm_world.proofs.Applies.{twin_making, Applied, delta_given, given_here, own_here, plain_here, applied_fits}
 use Rattle.pm_world.proofs.Cells.{cells_stored, descriptor_else, other_number, other_sort, occ_sort}
 use Rattle.pm_world.proofs.Frame.{here_own, own_has, found_has, no_run, maker_owns, small_cases, disjoint, fresh_given}
 use Rattle.pm_world.proofs.Going.{at_phase}
 use Rattle.pm_world.proofs.Stored.{OwnWords, around_own, stored}
 use Rattle.pm_world.proofs.StepApply.{made_word, mask_of, mask_given, OneWord, is_descr, read_in, new_words, one_word, word_now, read_else, applied_at}
-use Rattle.pm_world.proofs.StepDrain.{old_some}
 use Rattle.pm_world.proofs.StepChange.{tag, last_one, entry_at, stores_at}
-
-given_cond : (t : Bool) (y : Option Bool) → given (cond t y None) ≡ true → (t ≡ true) × (given y ≡ true)
-given_cond true y e = (refl, e)
-given_cond false y e = absurd (both_ways false refl e)
 
 some_cond : (t : Bool) (y : Option Bool) (z : Bool) → cond t y None ≡ Some z → (t ≡ true) × (y ≡ Some z)
 some_cond true y z e = (refl, e)
@@ -59,18 +55,6 @@ some_same a c e = ap value e
     value : Option Bool → Bool
     value None = false
     value (Some y) = y
-
-made_turn : (a : Option Bool) → is_made a ≡ true → a ≡ Some true
-made_turn None e = absurd (both_ways false refl e)
-made_turn (Some y) e = ap (λ t. Some t) e
-
--- data and sizes, whatever the bit
-data_bits : (S : State) (g : Ghost) (h : Hold) (p : Place) (b c : ℕ) → is_data p ≡ true → owns g.geo S h p b ≡ true → owns g.geo S h p c ≡ true
-data_bits S g h (InRun d u) b c t o = let z : eqb u 0 ≡ false = let l = leb-true 8 u t in ne_eqb u 0 (λ q. omega arith) in
-    subst (λ i. own h (Small d i) ≡ true) (cond-false (u == 0) b ((u / 8 - 1) / g.geo.class d) z ∙ sym (cond-false (u == 0) c ((u / 8 - 1) / g.geo.class d) z)) o
-data_bits S g h (InHuge d u) b c t o = o
-data_bits S g h (Descr d) b c t o = absurd (both_ways false refl t)
-data_bits S g h RootWord b c t o = absurd (both_ways false refl t)
 
 -- a place of a word of the pool, in a chunk's 512 words, is the pool's
 module _ (sh : Shape) (w : ℕ) (inside : w < words_of sh) where
@@ -274,7 +258,7 @@ module _ (o : Opening) (mem : Memory) (views : Views) (g : Past) (x : World o me
   fresh_owned : (p : Place) (b : ℕ) → given (fresh' p b) ≡ true → owns g.geo S h p b ≡ true
   fresh_owned p b t = let z = fresh_parts p b t in let B = block_of (geometry v.fixed.shape v.claims) p b in let a = turn (latest (redos v.log.entries)) B in
       ⊎_elim (λ (m : is_made a ≡ true). made_owned p b z.0 (subst (TurnAfter (h.locked (Rattle.pm_view.specs.Places.header o.shape g.geo B)) (h.mine B) (h.here B)) (made_turn a m) (f.turns B)))
-      (λ (r : is_recorded v.log.records p ≡ true). let y = old_some (old_of v.log.records p) r in (log_then.olds p y.0 y.1 b).0) (or_cases (is_made a) (is_recorded v.log.records p) z.1)
+      (λ (r : is_recorded v.log.records p ≡ true). let y = some_of (old_of v.log.records p) r in (log_then.olds p y.0 y.1 b).0) (or_cases (is_made a) (is_recorded v.log.records p) z.1)
 
   fresh_place : (p : Place) (b : ℕ) → given (fresh' p b) ≡ true → w ≡ word_of o.shape p → OneWord p p₀
   fresh_place p b t e = let z = fresh_parts p b t in one p (pictured_place o.shape w inside p (given_cond (is_pictured p) (Some (bit made b)) (sym (ap given (picture_here p b e)) ∙ z.2)).0 (sym e)) (sym e)

@@ -11,7 +11,7 @@ use Rattle.pm_layout.specs.Chunks.{words_of}
 use Rattle.pm_view.specs.Changes.{Undrained, is_in_line, mark, flushed}
 use Rattle.pm_view.specs.Counts.{max_changes}
 use Rattle.pm_view.specs.Log.{Phase, Idle, Open, Drawn, Sealing, Applying, Clearing, Retiring, Voiding, Recorded, Log, old_in}
-use Rattle.pm_view.specs.Parts.{Part, GenerationPart, SealPart, EntryPart, SlotPart, RootPart, DescriptorPart, ChunkPart, OtherPart, part_of}
+use Rattle.pm_view.specs.Parts.{SlotPart, part_of}
 use Rattle.pm_view.specs.Places.{Place}
 use Rattle.pm_view.specs.Steps.Step.{Flush}
 use Rattle.pm_view.specs.View.{View}
@@ -22,6 +22,7 @@ use Rattle.pm_world.specs.Logs.{used_slots, AreaChange, PhaseFits}
 use Rattle.pm_world.specs.Memory.{Memory}
 use Rattle.pm_world.specs.World.{Opening, Past, LaneFits}
 use Rattle.pm_world.specs.Laws.{Keeps}
+use Rattle.pm_world.proofs.Worlds.{log_again}
 use Rattle.pm_world.proofs.AfterStore.{stop_stays, counts_on}
 use Rattle.pm_world.proofs.StepDraw.{all_cons}
 use Rattle.pm_world.proofs.StepPlain.{plain_step}
@@ -42,72 +43,6 @@ all_marked line P to (c ∷ t) q = all_cons P (mark line c) (flushed line t) (ma
 any_marked : (line : ℕ) (f : Undrained → Bool) → ((c : Undrained) → f (record c { flushed = true }) ≡ f c) → (changes : List Undrained) → list_any f (flushed line changes) ≡ list_any f changes
 any_marked line f same [] = refl
 any_marked line f same (c ∷ t) = ap (λ a. a || list_any f (flushed line t)) (marked line (λ d. f d ≡ f c) (λ d q. same d ∙ q) c refl) ∙ ap (λ a. f c || a) (any_marked line f same t)
-
-area_marked : (ph : Phase) (part : Part) (count generation : ℕ) (c : Undrained) → AreaChange ph count generation part c → AreaChange ph count generation part (record c { flushed = true })
-area_marked Idle GenerationPart count generation c a = a
-area_marked Idle SealPart count generation c a = a
-area_marked Idle EntryPart count generation c a = a
-area_marked Idle SlotPart count generation c a = a
-area_marked Idle RootPart count generation c a = a
-area_marked Idle (DescriptorPart d) count generation c a = a
-area_marked Idle (ChunkPart d u) count generation c a = a
-area_marked Idle OtherPart count generation c a = a
-area_marked Open GenerationPart count generation c a = a
-area_marked Open SealPart count generation c a = a
-area_marked Open EntryPart count generation c a = a
-area_marked Open SlotPart count generation c a = a
-area_marked Open RootPart count generation c a = a
-area_marked Open (DescriptorPart d) count generation c a = a
-area_marked Open (ChunkPart d u) count generation c a = a
-area_marked Open OtherPart count generation c a = a
-area_marked (Drawn n) GenerationPart count generation c a = a
-area_marked (Drawn n) SealPart count generation c a = a
-area_marked (Drawn n) EntryPart count generation c a = a
-area_marked (Drawn n) SlotPart count generation c a = a
-area_marked (Drawn n) RootPart count generation c a = a
-area_marked (Drawn n) (DescriptorPart d) count generation c a = a
-area_marked (Drawn n) (ChunkPart d u) count generation c a = a
-area_marked (Drawn n) OtherPart count generation c a = a
-area_marked (Sealing n) GenerationPart count generation c a = a
-area_marked (Sealing n) SealPart count generation c a = a
-area_marked (Sealing n) EntryPart count generation c a = a
-area_marked (Sealing n) SlotPart count generation c a = a
-area_marked (Sealing n) RootPart count generation c a = a
-area_marked (Sealing n) (DescriptorPart d) count generation c a = a
-area_marked (Sealing n) (ChunkPart d u) count generation c a = a
-area_marked (Sealing n) OtherPart count generation c a = a
-area_marked (Applying t) GenerationPart count generation c a = a
-area_marked (Applying t) SealPart count generation c a = a
-area_marked (Applying t) EntryPart count generation c a = a
-area_marked (Applying t) SlotPart count generation c a = a
-area_marked (Applying t) RootPart count generation c a = a
-area_marked (Applying t) (DescriptorPart d) count generation c a = a
-area_marked (Applying t) (ChunkPart d u) count generation c a = a
-area_marked (Applying t) OtherPart count generation c a = a
-area_marked Clearing GenerationPart count generation c a = a
-area_marked Clearing SealPart count generation c a = a
-area_marked Clearing EntryPart count generation c a = a
-area_marked Clearing SlotPart count generation c a = a
-area_marked Clearing RootPart count generation c a = a
-area_marked Clearing (DescriptorPart d) count generation c a = a
-area_marked Clearing (ChunkPart d u) count generation c a = a
-area_marked Clearing OtherPart count generation c a = a
-area_marked (Retiring n) GenerationPart count generation c a = a
-area_marked (Retiring n) SealPart count generation c a = a
-area_marked (Retiring n) EntryPart count generation c a = a
-area_marked (Retiring n) SlotPart count generation c a = a
-area_marked (Retiring n) RootPart count generation c a = a
-area_marked (Retiring n) (DescriptorPart d) count generation c a = a
-area_marked (Retiring n) (ChunkPart d u) count generation c a = a
-area_marked (Retiring n) OtherPart count generation c a = a
-area_marked Voiding GenerationPart count generation c a = a
-area_marked Voiding SealPart count generation c a = a
-area_marked Voiding EntryPart count generation c a = a
-area_marked Voiding SlotPart count generation c a = a
-area_marked Voiding RootPart count generation c a = a
-area_marked Voiding (DescriptorPart d) count generation c a = a
-area_marked Voiding (ChunkPart d u) count generation c a = a
-area_marked Voiding OtherPart count generation c a = a
 
 -- a call without changes has none after a flush
 phase_marked : (sh : Shape) (lane line : ℕ) (picture : Diff) (l : Log) (changes : List Undrained) (ph : Phase) → PhaseFits sh lane picture l changes ph → PhaseFits sh lane picture l (flushed line changes) ph
@@ -137,27 +72,11 @@ lane_marked o mem g k line v f due = let l = f.log in record {
   lane = f.lane;
   shape = f.shape;
   lanes = f.lanes;
-  log = record {
-    first = l.first;
-    last = l.last;
-    below = l.below;
-    stored = l.stored;
-    bump = l.bump;
-    sealed = l.sealed;
-    entries_most = l.entries_most;
-    records_most = l.records_most;
-    pairs = l.pairs;
-    pair_part = l.pair_part;
-    records = l.records;
-    once = l.once;
-    olds = l.olds;
-    slot_part = l.slot_part;
-    stale = l.stale;
-    slot_changes = all_marked line (λ (c : Undrained). part_of o.shape k c.word ≡ SlotPart → c.word < 8 * line_of_slot o.shape k (used_slots v.log)) (λ c q. q) v.changes l.slot_changes;
-    area_changes = all_marked line (λ (c : Undrained). AreaChange v.log.phase (length v.log.entries) v.log.generation (part_of o.shape k c.word) c)
-        (λ c q. area_marked v.log.phase (part_of o.shape k c.word) (length v.log.entries) v.log.generation c q) v.changes l.area_changes;
-    phase = phase_marked o.shape k line (sight_of v).picture v.log v.changes v.log.phase l.phase;
-  };
+  log = log_again v.log.phase l l.bump l.sealed l.olds
+      (all_marked line (λ (c : Undrained). part_of o.shape k c.word ≡ SlotPart → c.word < 8 * line_of_slot o.shape k (used_slots v.log)) (λ c q. q) v.changes l.slot_changes)
+      (all_marked line (λ (c : Undrained). AreaChange v.log.phase (length v.log.entries) v.log.generation (part_of o.shape k c.word) c)
+      (λ c q. q) v.changes l.area_changes)
+      (phase_marked o.shape k line (sight_of v).picture v.log v.changes v.log.phase l.phase);
   made = f.made;
   recorded = λ u p r. let z = f.recorded u p r in (z.0, z.1);
   number = f.number;

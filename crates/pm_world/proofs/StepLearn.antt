@@ -1,7 +1,7 @@
 -- A LANE LEARNS FROM A LOAD before its number is drawn: from a descriptor, from a bitmap, and of each word what it is.
 use Rattle.std.specs.Prelude.{List, ◌∷◌, if◌then◌else◌}
-use Rattle.std.proofs.Common.{◌≡◌, ◌≢◌, ℕ, zero, suc, ◌+◌, ◌<◌, nat_lt, Bool, true, false, cond, ◌==◌, ◌&&◌, ◌||◌, refl, sym, ap, ◌∙◌, subst, arith, eq-eqb, ne_eqb, Option, None, Some}
-use Rattle.std.proofs.lemmas.Bool.{ltb-true, both_ways, and_parts, and_from, or_left, or_right, cond-true, cond-false}
+use Rattle.std.proofs.Common.{◌≡◌, ◌≢◌, ℕ, zero, suc, ◌+◌, ◌<◌, nat_lt, Bool, true, false, cond, ◌==◌, ◌&&◌, ◌||◌, refl, sym, ap, ◌∙◌, subst, arith, eq-eqb, ne_eqb, None}
+use Rattle.std.proofs.lemmas.Bool.{ltb-true, both_ways, and_parts, and_from, or_right, cond-true, cond-false}
 use Rattle.pm_layout.specs.declared.shape.Shape.{Shape}
 use Rattle.pm_layout.specs.Areas.{word_of_generation, word_of_seal}
 use Rattle.pm_layout.specs.Chunks.{words_of, chunks_of, word_of_chunk, word_of_descriptor}
@@ -19,6 +19,7 @@ use Rattle.pm_world.specs.Lanes.{own, owns}
 use Rattle.pm_world.specs.Laws.{Turn, Keeps}
 use Rattle.pm_world.specs.Memory.{Memory, PoolWord}
 use Rattle.pm_world.specs.World.{Opening, Views, Past, settled_words, World}
+use Rattle.pm_world.proofs.Basics.{some_else, more3}
 use Rattle.pm_world.proofs.Descriptors.{header_then, saw_descriptor}
 use Rattle.pm_world.proofs.Looks.{saw_bitmap}
 use Rattle.pm_world.proofs.PlacesAt.{is_at}
@@ -56,20 +57,6 @@ module _ (sh : Shape) (lane w : ℕ) where
   bitmap_word c e = let a = is_at sh (λ _. 0) w (InHuge c 0) (ap (place_in (λ _. 0)) (pooled (ChunkPart c 0) e refl)) in
       (ltb-true c (chunks_of sh) (and_parts (nat_lt c (chunks_of sh)) (nat_lt 0 512) a.inside).0, (let z : word_of_chunk sh c ≡ word_of_chunk sh c + 0 = omega arith in z) ∙ a.word)
 
--- ---- WHAT A LOOK LEAVES
-unforgotten : (t : Bool) (q : Option ℕ) (y : ℕ) → cond t None q ≡ Some y → q ≡ Some y
-unforgotten true q y e = absurd (both_ways false refl (ap is_some e))
-  where
-    is_some : Option ℕ → Bool
-    is_some None = false
-    is_some (Some z) = true
-unforgotten false q y e = e
-
-more_own : (m h h' y : Bool) → (h ≡ true → h' ≡ true) → (m || (h || y)) ≡ true → (m || (h' || y)) ≡ true
-more_own true h h' y to e = refl
-more_own false true h' y to e = or_left h' y (to refl)
-more_own false false h' y to e = or_right h' y e
-
 module _ (o : Opening) (mem : Memory) (views : Views) (g : Past) (x : World o mem views g) (k : ℕ) (ink : k < o.lanes) (early : is_early (views k).log.phase ≡ true) where
   abbrev with_claims : List Claim → View
   with_claims t = record (views k) { claims = t }
@@ -89,7 +76,7 @@ module _ (o : Opening) (mem : Memory) (views : Views) (g : Past) (x : World o me
     bitmap_owned p b = go p
       where
         more : (B : Block) → own (sight_of (views k)).hold B ≡ true → own (sight_of (with_claims (SawBitmap c n ∷ (views k).claims))).hold B ≡ true
-        more B = let h = (sight_of (views k)).hold in let v = views k in more_own (h.mine B) (h.here B) (here v.fixed.shape (SawBitmap c n ∷ v.claims) B) (making_of h.making B) (λ e. bitmap_here B e)
+        more B = let h = (sight_of (views k)).hold in let v = views k in more3 (h.mine B) (h.here B) (here v.fixed.shape (SawBitmap c n ∷ v.claims) B) (making_of h.making B) (λ e. bitmap_here B e)
 
         go : (p : Place) → owns g.geo (settled_words o g) (sight_of (views k)).hold p b ≡ true → owns g.geo (settled_words o g) (sight_of (with_claims (SawBitmap c n ∷ (views k).claims))).hold p b ≡ true
         go (InRun d u) e = more (block_of g.geo (InRun d u) b) e
@@ -103,7 +90,7 @@ module _ (o : Opening) (mem : Memory) (views : Views) (g : Past) (x : World o me
 
     pub bitmap_seen : (views' : Views) → Turn views views' k (with_claims (SawBitmap c n ∷ (views k).claims)) → World o mem views' g
     bitmap_seen views' t = let v = views k in claims_step o mem mem views views' g x k ink 0 (λ l ne. refl) (SawBitmap c n ∷ v.claims) v.seen t early (λ p b r q. bitmap_owned p b q) (λ p r B e. bitmap_here B e) (λ p b r d e. bitmap_kept p b r)
-        (λ one w y e. ((x.each_lane k ink).alone one).words w y (unforgotten (Rattle.pm_view.specs.Claims.is_new (shown_by_bitmap v.fixed.shape v.claims c n) (found v.fixed.shape v.claims) (Rattle.pm_view.specs.Claims.block_at v.fixed.shape v.claims w)) (pictured v.fixed.shape v.claims w) y e))
+        (λ one w y e. ((x.each_lane k ink).alone one).words w y (some_else (Rattle.pm_view.specs.Claims.is_new (shown_by_bitmap v.fixed.shape v.claims c n) (found v.fixed.shape v.claims) (Rattle.pm_view.specs.Claims.block_at v.fixed.shape v.claims w)) (pictured v.fixed.shape v.claims w) y e))
         (λ m j ne. refl) (λ m j ne. refl) refl
         (saw_bitmap o mem views g x k ink early c n inside word (λ j. sight_of (views' j)) (turned views views' k (with_claims (SawBitmap c n ∷ v.claims)) t))
 
@@ -119,7 +106,7 @@ module _ (o : Opening) (mem : Memory) (views : Views) (g : Past) (x : World o me
     descriptor_owned p b = go p
       where
         more : (B : Block) → own (sight_of (views k)).hold B ≡ true → own (sight_of (with_claims (SawDescriptor c n ∷ (views k).claims))).hold B ≡ true
-        more B = let h = (sight_of (views k)).hold in let v = views k in let t' = SawDescriptor c n ∷ v.claims in more_own (h.mine B) (h.here B) (here v.fixed.shape t' B) (making_of h.making B) (λ e. descriptor_here B e)
+        more B = let h = (sight_of (views k)).hold in let v = views k in let t' = SawDescriptor c n ∷ v.claims in more3 (h.mine B) (h.here B) (here v.fixed.shape t' B) (making_of h.making B) (λ e. descriptor_here B e)
 
         go : (p : Place) → owns g.geo (settled_words o g) (sight_of (views k)).hold p b ≡ true → owns g.geo (settled_words o g) (sight_of (with_claims (SawDescriptor c n ∷ (views k).claims))).hold p b ≡ true
         go (InRun d u) e = more (block_of g.geo (InRun d u) b) e
@@ -133,7 +120,7 @@ module _ (o : Opening) (mem : Memory) (views : Views) (g : Past) (x : World o me
 
     pub descriptor_seen : (views' : Views) → Turn views views' k (with_claims (SawDescriptor c n ∷ (views k).claims)) → World o mem views' g
     descriptor_seen views' t = let v = views k in let t' = SawDescriptor c n ∷ v.claims in claims_step o mem mem views views' g x k ink 0 (λ l ne. refl) t' v.seen t early (λ p b r q. descriptor_owned p b q) (λ p r B e. descriptor_here B e) (λ p b r d e. descriptor_kept p b r)
-        (λ one w y e. ((x.each_lane k ink).alone one).words w y (unforgotten (Rattle.pm_view.specs.Claims.is_new (shown_by_descriptor v.fixed.shape v.claims c n) (found v.fixed.shape v.claims) (Rattle.pm_view.specs.Claims.block_at v.fixed.shape t' w)) (pictured v.fixed.shape v.claims w) y e))
+        (λ one w y e. ((x.each_lane k ink).alone one).words w y (some_else (Rattle.pm_view.specs.Claims.is_new (shown_by_descriptor v.fixed.shape v.claims c n) (found v.fixed.shape v.claims) (Rattle.pm_view.specs.Claims.block_at v.fixed.shape t' w)) (pictured v.fixed.shape v.claims w) y e))
         (λ m j ne. refl) (λ m j ne. refl) refl
         (saw_descriptor o mem views g x k ink early c n inside word (λ j. sight_of (views' j)) (turned views views' k (with_claims t') t))
 

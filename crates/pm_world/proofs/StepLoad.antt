@@ -20,11 +20,11 @@ use Rattle.pm_world.specs.Lanes.{owns, sees, is_in_making, TurnFits, Flies, Sigh
 use Rattle.pm_world.specs.Laws.{Turn, Keeps}
 use Rattle.pm_world.specs.Memory.{Memory, PoolWord, bit, cells_of}
 use Rattle.pm_world.specs.World.{Opening, Views, Past, origin, ghost_of, settled_words, World}
+use Rattle.pm_world.proofs.Basics.{given_cond, some_cond, made_turn, early_undecided}
 use Rattle.pm_world.proofs.Frame.{mine_own, own_has, some_first, maker_owns}
 use Rattle.pm_world.proofs.BlocksKnown.{block_so}
 use Rattle.pm_world.proofs.Known.{picture_so, in_pool, known_so}
 use Rattle.pm_world.proofs.Learns.{Learns, learns}
-use Rattle.pm_world.proofs.OccWorlds.{early_undecided}
 use Rattle.pm_world.proofs.StepClaims.{claims_step}
 use Rattle.pm_world.proofs.StepPlain.{plain_step}
 use Rattle.pm_world.proofs.Worlds.{turned}
@@ -88,21 +88,8 @@ picked_from true true q n f y e = (refl, inl (refl, some_bit (f n) y e))
     some_bit : (a c : Bool) → Some a ≡ Some c → a ≡ c
     some_bit a c e = ap value e
 
-given_in : (C : Bool) (q : Option Bool) → given (cond C q None) ≡ true → (C ≡ true) × (given q ≡ true)
-given_in true q e = (refl, e)
-given_in false q e = absurd (both_ways false refl e)
-
 given_by : (C : Bool) (q : Option Bool) → C ≡ true → given q ≡ true → given (cond C q None) ≡ true
 given_by C q c e = ap given (cond-true C q None c) ∙ e
-
-some_in : (C : Bool) (q : Option Bool) (y : Bool) → cond C q None ≡ Some y → q ≡ Some y
-some_in true q y e = e
-some_in false q y e = absurd (both_ways false refl (ap given e))
-
-made_turn : (q : Option Bool) → is_made q ≡ true → q ≡ Some true
-made_turn None e = absurd (both_ways false refl e)
-made_turn (Some true) e = refl
-made_turn (Some false) e = absurd (both_ways false refl e)
 
 early_mine : (ph : Phase) (l m h : Bool) → is_early ph ≡ true → TurnFits ph l m h (Some true) → m ≡ true
 early_mine Idle l m h e t = absurd (both_ways false refl (ap given (sym t)))
@@ -177,7 +164,7 @@ module _ (o : Opening) (mem : Memory) (views : Views) (g : Past) (x : World o me
   made_more : (p : Place) (b : ℕ) → given (fr p b) ≡ true
       → (given ((sight_of (views k)).call.fresh p b) ≡ true) ⊎ ((turn (latest (redos (views k).log.entries)) (block_of g.geo p b) ≡ Some true) × (owns g.geo (settled_words o g) (sight_of (views k)).hold p b ≡ true) × (is_in_making (sight_of (views k)).hold p ≡ false))
   made_more p b e = let B = block_of (geometry (views k).fixed.shape (views k).claims) p b in let M = is_made (turn (latest (redos (views k).log.entries)) B) in let R = is_recorded (views k).log.records p in
-      let c = (given_in (made_at p b) (pc p b) e).0 in let y = and_parts (is_data p) (M || R) c in ⊎_elim
+      let c = (given_cond (made_at p b) (pc p b) e).0 in let y = and_parts (is_data p) (M || R) c in ⊎_elim
       (λ (m : M ≡ true). let z = made_turn (turn (latest (redos (views k).log.entries)) B) m in
       let same = block_so o.shape (cells_of o.shape mem) (settled_words o g) (Flies (ghost_of g) k) (ghost_of g) x.bits.geo k (views k) (views k).log.phase fit p b (own_has (sight_of (views k)).hold B (mine_own (sight_of (views k)).hold B (turned_mine B z))) in
       let now = ap (turn (latest (redos (views k).log.entries))) (sym same) ∙ z in let q = of_turned p b y.0 now in inr (now, q.0, q.1))
@@ -187,8 +174,8 @@ module _ (o : Opening) (mem : Memory) (views : Views) (g : Past) (x : World o me
   learning_fits = record {
     early = early;
     pictures = λ p b u y e. knows_so p b y u e;
-    fresh = λ p b y e. some_in (made_at p b) (pc p b) y e;
-    more = λ p b e. let z = given_in (made_at p b) ((sight_of (views k)).picture p b) e in given_by (made_at p b) (pc p b) z.0 (picked (w == word_of (views k).fixed.shape p) (is_pictured p) (old p) n (λ m. bit_at m b == 1) z.1);
+    fresh = λ p b y e. some_cond (made_at p b) (pc p b) y e;
+    more = λ p b e. let z = given_cond (made_at p b) ((sight_of (views k)).picture p b) e in given_by (made_at p b) (pc p b) z.0 (picked (w == word_of (views k).fixed.shape p) (is_pictured p) (old p) n (λ m. bit_at m b == 1) z.1);
     made = made_more;
     descr = λ f b. refl;
   }

@@ -25,10 +25,11 @@ use Rattle.pm_world.specs.Logs.{PhaseFits}
 use Rattle.pm_world.specs.Memory.{Memory, LockWord, IsSame, IsSameBut, Becomes, bit, cells_of}
 use Rattle.pm_world.specs.World.{Opening, Views, Past, origin, ghost_of, settled_words, may_draw, World}
 use Rattle.pm_world.specs.Laws.{Turn, Keeps}
+use Rattle.pm_world.proofs.Basics.{some_else, more3, early_undecided}
 use Rattle.pm_world.proofs.Cells.{other_number}
 use Rattle.pm_world.proofs.Frame.{found_has}
 use Rattle.pm_world.proofs.LockBits.{WordMoves, NoneElse, NoReader, clear_at, write_moves, read_moves, raise_moves, give_moves}
-use Rattle.pm_world.proofs.Locks.{Relocked, taking, takes, raising, raises, giving, gives, held, owned_more, took_else, more3, early_undecided}
+use Rattle.pm_world.proofs.Locks.{Relocked, taking, takes, raising, raises, giving, gives, held, owned_more, took_else}
 use Rattle.pm_world.proofs.StepClaims.{claims_step}
 use Rattle.pm_world.proofs.StepPlain.{plain_step, lane_told}
 
@@ -43,10 +44,6 @@ pub forgets : (a q : Bool) (o : Option ℕ) (f : ℕ → Bool) (y : Bool) → co
 forgets true true o f y e = absurd (both_ways false refl (ap given e))
 forgets true false o f y e = e
 forgets false q o f y e = absurd (both_ways false refl (ap given e))
-
-pub forgot : (q : Bool) (o : Option ℕ) (y : ℕ) → cond q None o ≡ Some y → o ≡ Some y
-forgot true o y e = absurd (both_ways false refl (ap given e))
-forgot false o y e = e
 
 pub and_at : (a x y : Bool) → (a ≡ true → x ≡ y) → (a && x) ≡ (a && y)
 and_at true x y u = u refl
@@ -152,7 +149,7 @@ module _ (o : Opening) (mem : Memory) (views : Views) (g : Past) (x : World o me
       (λ p b _ e. subst (λ z. owns g.geo (settled_words o g) z.hold p b ≡ true) (sym sight) (owned_more o.shape o.lanes (origin o) (cells_of o.shape mem) (λ j. sight_of (views j)) (ghost_of g) x.bits k ink n (λ B y. y) (λ m y. or_right (w && (l == m)) (locked (views k).claims m) y) p b e))
       (λ p q B y. took_here sh (views k).fixed.lane (views k).claims (views k).log (views k).changes l w found_held free B ∙ y)
       (λ p b q d y. ap given (took_known sh (views k).fixed.lane (views k).claims (views k).log (views k).changes l w p b d) ∙ y)
-      (λ one v y e. ((x.each_lane k ink).alone one).words v y (forgot ((l == 0) && (v == word_of_root sh)) (pictured sh (views k).claims v) y e))
+      (λ one v y e. ((x.each_lane k ink).alone one).words v y (some_else ((l == 0) && (v == word_of_root sh)) (pictured sh (views k).claims v) y e))
       (λ m j ne. r.writer_else m j (inr ne)) (λ m j ne. r.reader_else m j (inr ne)) draws
       (takes o.shape o.lanes (origin o) (cells_of o.shape mem) (λ j. sight_of (views j)) (ghost_of g) x.bits k ink early l (cells_of o.shape new).writer (cells_of o.shape new).reader w free r (λ i ne. none_.writer i ne) (λ i ne e. (readers e).reader i ne)
       (picture sh (Took l w ∷ (views k).claims)) (took_less sh (views k).fixed.lane (views k).claims (views k).log (views k).changes l w) (took_dark sh (views k).fixed.lane (views k).claims (views k).log (views k).changes l w)
@@ -161,7 +158,7 @@ module _ (o : Opening) (mem : Memory) (views : Views) (g : Past) (x : World o me
 
   -- a lock is refused
   refused : (new : Memory) (views' : Views) (s : Step) → IsSame mem new → Turn views views' k (record (views k) { seen = s ∷ (views k).seen }) → may_draw (record (views k) { seen = s ∷ (views k).seen }) ≡ may_draw (views k) → World o new views' g
-  refused new views' s same t draws = plain_step o mem new views views' g x k ink same (record (views k) { seen = s ∷ (views k).seen }) t refl draws (λ e. e) (lane_told o mem g k (views k) (s ∷ (views k).seen) (views k).call (views k).actions (x.each_lane k ink))
+  refused new views' s same t draws = plain_step o mem new views views' g x k ink same (record (views k) { seen = s ∷ (views k).seen }) t refl draws (λ e. e) (lane_told o mem g k (views k) (s ∷ (views k).seen) (views k).call (views k).actions (views k).published (x.each_lane k ink))
 
   -- ---- WHERE ONE LANE RUNS the word of a lock tells of it alone
   others_none : o.lanes ≡ 1 → (j : ℕ) → j ≢ k → (views j).claims ≡ []
@@ -299,7 +296,7 @@ module _ (o : Opening) (mem new : Memory) (views views' : Views) (g : Past) (x :
     where
       go : (ph : Phase) → (views k).log.phase ≡ ph → GiveFits (views k) line ph → ((views k).log.phase ≡ Idle) ⊎ (((B : Block) → found (views k).fixed.shape (views k).claims B ≡ true → header_in (views k).fixed.shape (views k).claims B ≢ line) × All (λ (e : Entry). e.place ≢ Some RootWord) (views k).log.entries)
       go Idle q f = inl q
-      go Open q f = inr (f.1, f.2)
+      go Open q f = inr f
       go (Drawn n) q f = absurd f
       go (Sealing n) q f = absurd f
       go (Applying es) q f = absurd f
@@ -323,7 +320,7 @@ module _ (o : Opening) (mem new : Memory) (views views' : Views) (g : Past) (x :
   kept none_ B w = more3 ((sight_of (views k)).hold.mine B) ((sight_of (views k)).hold.here B) (here (views k).fixed.shape (Gave line ∷ (views k).claims) B) (making_of (sight_of (views k)).hold.making B) (still_here none_ B) w
 
   unlogged_root : (sight_of (views k)).logged RootWord ≡ false
-  unlogged_root = false_from_ne_true ((sight_of (views k)).logged RootWord) (λ e. both_ways false refl (fit.stored RootWord 0 (early_undecided (views k).log.phase early) e))
+  unlogged_root = false_from_ne_true ((sight_of (views k)).logged RootWord) (λ e. both_ways false refl (fit.stored RootWord 0 (early_undecided (views k).log.phase early).0 e))
 
   -- of what the lane owns no more its call makes nothing
   undone : (p : Place) (b : ℕ) → owns g.geo (settled_words o g) (sight_of (views k)).hold p b ≡ true → owns g.geo (settled_words o g) gave_held p b ≡ false → (given (diff (call_in (views k)) p b) ≡ false) × ((sight_of (views k)).logged p ≡ false)

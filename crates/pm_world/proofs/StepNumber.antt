@@ -22,7 +22,7 @@ use Rattle.pm_world.proofs.Counting.{count_same}
 use Rattle.pm_world.proofs.Going.{unchanged, at_phase}
 use Rattle.pm_world.proofs.StepDraw.{numbers_below, all_numbered}
 use Rattle.pm_world.proofs.StepPlain.{lane_told}
-use Rattle.pm_world.proofs.Worlds.{turned, world_after}
+use Rattle.pm_world.proofs.Worlds.{turned, world_after, log_again}
 
 -- ---- how many lanes may take a number
 abbrev one : Bool → ℕ
@@ -88,7 +88,7 @@ seen_open : (o : Opening) (mem new : Memory) (views views' : Views) (g : Past) (
 seen_open o mem new views views' g x k ink same n counted t = let v : View = record (views k) { seen = NumberSeen n ∷ (views k).seen } in let f = x.each_lane k ink in
     seen_world o mem new views views' g x k ink same n counted v t
     (subst (λ s. (may_draw v ≡ true → nat_lt n (greatest_generation s) ≡ true) ⊎ (may_draw v ≡ may_draw (views k))) f.shape (draws_so (is_none (views k).number) (nat_lt n (greatest_generation (views k).fixed.shape)) (list_any (Rattle.pm_world.specs.World.is_low (views k).fixed.shape) (views k).seen)))
-    (λ e. e) (lane_told o mem g k (views k) (NumberSeen n ∷ (views k).seen) (views k).call (views k).actions f)
+    (λ e. e) (lane_told o mem g k (views k) (NumberSeen n ∷ (views k).seen) (views k).call (views k).actions (views k).published f)
     (unchanged o.shape o.lanes (origin o) (cells_of o.shape mem) (λ j. sight_of (views j)) (ghost_of g) x.bits k ink (sight_of v) (λ j. sight_of (views' j)) refl (λ m y. y) (x.bits.each_lane k) (turned views views' k v t))
 
 -- ---- WHERE NONE IS
@@ -97,7 +97,7 @@ module _ (o : Opening) (mem new : Memory) (views views' : Views) (g : Past) (x :
   opened = record (views k).log { phase = Open }
 
   abbrev begun_view : View
-  begun_view = record (views k) { log = record (views k).log { phase = Open }; seen = NumberSeen n ∷ []; call = []; number = None }
+  begun_view = record (views k) { log = record (views k).log { phase = Open }; seen = NumberSeen n ∷ []; call = []; number = None; published = [] }
 
   idle_log : ((views k).log.records ≡ []) × ((views k).log.entries ≡ []) × ((views k).log.slot ≡ []) × ((views k).log.pair ≡ [])
   idle_log = subst (PhaseFits o.shape k (sight_of (views k)).picture (views k).log (views k).changes) idle_ (x.each_lane k ink).log.phase
@@ -117,27 +117,11 @@ module _ (o : Opening) (mem new : Memory) (views views' : Views) (g : Past) (x :
         lane = f.lane;
         shape = f.shape;
         lanes = f.lanes;
-        log = record {
-          first = q.first;
-          last = q.last;
-          below = q.below;
-          stored = q.stored;
-          bump = unbumped;
-          sealed = q.sealed ∙ ap (λ ph. seal_in ph (length (views k).log.entries)) idle_;
-          entries_most = q.entries_most;
-          records_most = q.records_most;
-          pairs = q.pairs;
-          pair_part = q.pair_part;
-          records = q.records;
-          once = q.once;
-          olds = λ p y e b. let z = q.olds p y e b in (z.0, λ _. z.1 (ap Rattle.pm_world.specs.Lanes.is_decided idle_));
-          slot_part = q.slot_part;
-          stale = q.stale;
-          slot_changes = q.slot_changes;
-          area_changes = λ i d l. let c = Rattle.std.proofs.Common.get_or (views k).changes i d in area_begins (length (views k).log.entries) (views k).log.generation (part_of o.shape k c.word) c
-              (subst (λ ph. AreaChange ph (length (views k).log.entries) (views k).log.generation (part_of o.shape k c.word) c) idle_ (q.area_changes i d l));
-          phase = (let e = ap length idle_log.2 in omega arith, let e = ap length idle_log.3 in omega arith);
-        };
+        log = log_again Open q unbumped (q.sealed ∙ ap (λ ph. seal_in ph (length (views k).log.entries)) idle_) (λ p y e b. let z = q.olds p y e b in (z.0, λ _. z.1 (ap Rattle.pm_world.specs.Lanes.is_decided idle_)))
+            q.slot_changes
+            (λ i d l. let c = Rattle.std.proofs.Common.get_or (views k).changes i d in area_begins (length (views k).log.entries) (views k).log.generation (part_of o.shape k c.word) c
+            (subst (λ ph. AreaChange ph (length (views k).log.entries) (views k).log.generation (part_of o.shape k c.word) c) idle_ (q.area_changes i d l)))
+            ((let e = ap length idle_log.2 in omega arith, let e = ap length idle_log.3 in omega arith));
         made = λ u. absurd (both_ways false refl u);
         recorded = λ u p y. f.recorded (ap Rattle.pm_world.specs.Lanes.is_decided idle_) p y;
         number = refl;
@@ -180,7 +164,7 @@ number_seen n o mem new views views' g k x ink law moves t = let f = x.each_lane
 )
   where
     by_phase : (ph : Phase) → (views k).log.phase ≡ ph → Rattle.pm_view.specs.Log.is_early ph ≡ true → Turn views views' k (Rattle.pm_view.specs.Views.with_seen (NumberSeen n) (Rattle.pm_view.specs.Views.begun ph (views k))) → World o new views' g
-    by_phase Idle q e t = begins o mem new views views' g x k ink moves.0 n moves.1 q (subst (λ (l : Log). Turn views views' k (record (views k) { log = l; seen = NumberSeen n ∷ []; call = []; number = None })) (new_log_is o mem new views views' g x k ink moves.0 n moves.1 q) t)
+    by_phase Idle q e t = begins o mem new views views' g x k ink moves.0 n moves.1 q (subst (λ (l : Log). Turn views views' k (record (views k) { log = l; seen = NumberSeen n ∷ []; call = []; number = None; published = [] })) (new_log_is o mem new views views' g x k ink moves.0 n moves.1 q) t)
     by_phase Open q e t = seen_open o mem new views views' g x k ink moves.0 n moves.1 t
     by_phase (Drawn m) q e t = absurd (both_ways false refl e)
     by_phase (Sealing m) q e t = absurd (both_ways false refl e)

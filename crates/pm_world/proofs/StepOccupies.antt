@@ -25,13 +25,14 @@ use Rattle.pm_world.specs.Course.{past_after}
 use Rattle.pm_world.specs.Memory.{Memory, RunWord, ZoneWord, Becomes, occ_at, bit, occupancy_bit, cells_of}
 use Rattle.pm_world.specs.World.{Opening, Views, Past, origin, ghost_of, settled_words, is_at_page, LaneFits, World}
 use Rattle.pm_world.specs.Laws.{Turn, Keeps}
+use Rattle.pm_world.proofs.Basics.{some_else, early_undecided}
 use Rattle.pm_world.proofs.Cells.{sort, number, cells_run}
 use Rattle.pm_world.proofs.Frame.{Around, fresh_given, no_run}
 use Rattle.pm_world.proofs.Going.{Turned}
 use Rattle.pm_world.proofs.Replays.{put1_here, put1_else}
 use Rattle.pm_world.proofs.Worlds.{turned}
 use Rattle.pm_world.proofs.Occupies.{with_mine, more_owned, free_block, nobody, class_known, Pictured, occupies_small}
-use Rattle.pm_world.proofs.OccWorlds.{data_owned, early_undecided, occ_world}
+use Rattle.pm_world.proofs.OccWorlds.{data_owned, occ_world}
 use Rattle.pm_world.proofs.WordPlaces.{chunk_part, no_part, run_chunk_is, page_apart, pow_bit, or_bit, clear_bit}
 use Rattle.pm_world.proofs.StepPlain.{plain_step, lane_told}
 
@@ -67,7 +68,7 @@ occupied at found o mem new views views' g k x ink law moves t = let f = x.each_
 -- bits of which some are taken stay as they are
 pub occupy_lost : (at : Occ) (bits : ℕ) → Keeps (Occupy at bits false)
 occupy_lost at bits o mem new views views' g k x ink law moves t = let f = x.each_lane k ink in let v = after (views k) (Occupy at bits false) in (
-  plain_step o mem new views views' g x k ink moves.0 v t refl refl (λ e. e) (lane_told o mem g k (views k) (Occupy at bits false ∷ (views k).seen) (views k).call (views k).actions f),
+  plain_step o mem new views views' g x k ink moves.0 v t refl refl (λ e. e) (lane_told o mem g k (views k) (Occupy at bits false ∷ (views k).seen) (views k).call (views k).actions (views k).published f),
   λ one. if_some (occupancy_of (views k).occupancy at) (λ y. (false ≡ true) ↔ (bit_and y bits ≡ 0))
       (λ y e. let w = ((f.alone (sym f.lanes ∙ eqb-true (views k).fixed.lanes 1 one)).occupancy at y e).0 in (λ q. absurd (both_ways false refl q), λ q. absurd (moves.1 (ap (λ z. bit_and z bits) w ∙ q)))),
 )
@@ -122,10 +123,6 @@ none_known false n a F u = refl
 pub same_known : {A : Type 0} (g n : Bool) (a : Option ℕ) (F : ℕ → A) → (g ≡ true → n ≡ false) → cond g (option_map F (cond n None a)) None ≡ cond g (option_map F a) None
 same_known true n a F u = ap (λ t. option_map F (cond t None a)) (u refl)
 same_known false n a F u = refl
-
-pub known_less : (n : Bool) (a : Option ℕ) (z : ℕ) → cond n None a ≡ Some z → a ≡ Some z
-known_less true a z e = absurd (none_some e)
-known_less false a z e = e
 
 -- what the call made final is the same where its picture is
 pub same_fresh : (g : Bool) (a c : Option Bool) → ((y : Bool) → a ≡ Some y → c ≡ Some y) → (given (cond g c None) ≡ true → a ≡ c) → cond g a None ≡ cond g c None
@@ -296,7 +293,7 @@ module _ (o : Opening) (mem new : Memory) (views views' : Views) (g : Past) (x :
               early = law.allowed.early;
               olds = λ p b q a. more_owned g.geo S (sights k).hold got refl p b a;
               recorded = λ p b q y z. (y, ap given (pic.else_ p b (data_owned (sights k).hold g.geo S p b q y)) ∙ z);
-              words = λ w z e. known_less (is_new_by (views k).fixed.shape (views k).claims (Run place) bits w) (pictured (views k).fixed.shape (views k).claims w) z e;
+              words = λ w z e. some_else (is_new_by (views k).fixed.shape (views k).claims (Run place) bits w) (pictured (views k).fixed.shape (views k).claims w) z e;
               occs = λ one other z e. occ_known (Run place) (λ n. bit_or n bits) mem new (at_page (views k) (Run place) law.allowed.there) moves.0 (views k).occupancy (fl.alone one).occupancy other z e;
               draws = refl;
             }

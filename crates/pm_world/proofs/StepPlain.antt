@@ -31,11 +31,11 @@ module _ (o : Opening) (mem new : Memory) (views views' : Views) (g : Past) (x :
       still j e = ⊎_elim (λ (q : j ≡ k). subst (λ i. IsAtStop (views' i)) (sym q) (subst IsAtStop (sym t.here) (stops (subst (λ i. IsAtStop (views i)) q e)))) (λ (ne : j ≢ k). subst IsAtStop (sym (t.else_ j ne)) e) (Rattle.std.proofs.lemmas.Bool.cases_eq j k)
 
 -- the same facts of a lane, whose call and told steps alone changed
-pub lane_told : (o : Opening) (mem : Memory) (g : Past) (k : ℕ) (v : View) (seen : Rattle.std.specs.Prelude.List Rattle.pm_view.specs.Steps.Step) (call actions : Rattle.std.specs.Prelude.List Rattle.pm_view.specs.View.Told) → LaneFits o mem g k v → LaneFits o mem g k (record v { seen = seen; call = call; actions = actions })
-lane_told o mem g k v seen call actions f = record { lane = f.lane; shape = f.shape; lanes = f.lanes; log = f.log; made = f.made; recorded = f.recorded; number = f.number; zones = f.zones; masks = f.masks; room = f.room; within = f.within; alone = λ one. let a = f.alone one in record { words = a.words; occupancy = a.occupancy }; entries = f.entries }
+pub lane_told : (o : Opening) (mem : Memory) (g : Past) (k : ℕ) (v : View) (seen : Rattle.std.specs.Prelude.List Rattle.pm_view.specs.Steps.Step) (call actions published : Rattle.std.specs.Prelude.List Rattle.pm_view.specs.View.Told) → LaneFits o mem g k v → LaneFits o mem g k (record v { seen = seen; call = call; actions = actions; published = published })
+lane_told o mem g k v seen call actions published f = record { lane = f.lane; shape = f.shape; lanes = f.lanes; log = f.log; made = f.made; recorded = f.recorded; number = f.number; zones = f.zones; masks = f.masks; room = f.room; within = f.within; alone = λ one. let a = f.alone one in record { words = a.words; occupancy = a.occupancy }; entries = f.entries }
 
 pub stop_seen : (set : Bool) → Keeps (StopSeen set)
-stop_seen set o mem new views views' g k x ink law moves t = (plain_step o mem new views views' g x k ink moves.0 (after (views k) (StopSeen set)) t refl refl (λ e. e) (lane_told o mem g k (views k) (StopSeen set ∷ (views k).seen) (views k).call (views k).actions (x.each_lane k ink)), tt)
+stop_seen set o mem new views views' g k x ink law moves t = (plain_step o mem new views views' g x k ink moves.0 (after (views k) (StopSeen set)) t refl refl (λ e. e) (lane_told o mem g k (views k) (StopSeen set ∷ (views k).seen) (views k).call (views k).actions (views k).published (x.each_lane k ink)), tt)
 
 pub told : (operation : Operation) (reply : Option Value) → Keeps (Tell operation reply)
-told operation reply o mem new views views' g k x ink law moves t = let v = after (views k) (Tell operation reply) in (plain_step o mem new views views' g x k ink moves v t refl refl (λ e. e) (lane_told o mem g k (views k) (views k).seen v.call v.actions (x.each_lane k ink)), tt)
+told operation reply o mem new views views' g k x ink law moves t = let v = after (views k) (Tell operation reply) in (plain_step o mem new views views' g x k ink moves v t refl refl (λ e. e) (lane_told o mem g k (views k) (views k).seen v.call v.actions v.published (x.each_lane k ink)), tt)

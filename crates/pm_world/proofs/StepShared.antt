@@ -1,7 +1,7 @@
 -- ENTRIES THAT OR OR AND bits of a word that lanes share are applied; and the stores of all phases.
 use Rattle.std.specs.Prelude.{List, [], ◌∷◌, length, bit_and, bit_or, if◌then◌else◌}
 use Rattle.std.proofs.Common.{◌≡◌, ◌≢◌, ℕ, ◌^◌, ◌<◌, ◌⊎◌, inl, inr, ⊎_elim, true, false, ◌==◌, refl, sym, ap, ◌∙◌, subst, arith}
-use Rattle.std.proofs.lemmas.Bool.{both_ways, cond_both}
+use Rattle.std.proofs.lemmas.Bool.{cond_both}
 use Rattle.std.proofs.lemmas.Nat.{and_le_l, or_lt}
 use Rattle.pm_layout.specs.declared.shape.Shape.{Shape}
 use Rattle.pm_layout.specs.Areas.{word_of_generation, word_of_seal}
@@ -12,15 +12,12 @@ use Rattle.pm_view.specs.Changes.{Undrained}
 use Rattle.pm_view.specs.Counts.{MayCount}
 use Rattle.pm_view.specs.Entries.{Entry}
 use Rattle.pm_view.specs.Founds.{FindsKnown}
-use Rattle.pm_view.specs.Log.{Phase, Idle, Open, Drawn, Sealing, Applying, Clearing, Retiring, Voiding, log_changed}
-use Rattle.pm_view.specs.Parts.{Part, GenerationPart, SealPart, EntryPart, SlotPart, RootPart, DescriptorPart, ChunkPart, OtherPart, is_entry_word, is_slot_word, pool_part, part_of, place_in}
+use Rattle.pm_view.specs.Log.{Phase, Idle, Open, Drawn, Applying, log_changed}
+use Rattle.pm_view.specs.Parts.{Part, GenerationPart, SealPart, EntryPart, SlotPart, RootPart, DescriptorPart, ChunkPart, is_entry_word, is_slot_word, pool_part, part_of, place_in}
 use Rattle.pm_view.specs.Places.{Place, Descr, twin, same_place}
 use Rattle.pm_view.specs.Steps.Step.{Or, And, Store}
 use Rattle.pm_view.specs.View.{View}
 use Rattle.pm_view.specs.Views.{part_in, changed}
-use Rattle.pm_world.specs.Course.{past_after}
-use Rattle.pm_world.specs.Decisions.{DecidedStoresKeep}
-use Rattle.pm_world.specs.Lanes.{is_decided}
 use Rattle.pm_world.specs.Lawful.{MayChange, ChangeFits, IsNext}
 use Rattle.pm_world.specs.Laws.{Turn, Keeps}
 use Rattle.pm_world.specs.Logs.{AreaChange, EntryOf}
@@ -88,7 +85,7 @@ module _ (o : Opening) (mem new : Memory) (views views' : Views) (g : Past) (x :
       sets : (p : Place) → (Rattle.pm_view.specs.Places.is_place o.shape p ≡ true) × (Rattle.pm_view.specs.Places.word_of o.shape p ≡ a.0.word) × EntryOf p a.0.op a.0.value → (c : ℕ) → part_of o.shape k w ≡ DescriptorPart c → a.0.word ≡ w → a.0.op ≡ op.Set
       sets p s c e z = let i = is_at o.shape (λ _. 0) w (Descr c) (ap (place_in (λ _. 0)) (descriptor_part o.shape k w c e)) in
           let one : OneWord (Descr c) p = same_cell (Descr c) p (one_cell o.shape (Descr c) p i.inside s.0 (i.word ∙ (sym z ∙ sym s.1))) in
-          let r : p ≡ Descr c = ⊎_elim (λ (y : Descr c ≡ p). sym y) (λ (y : (Descr c ≡ twin p) × (same_place p (Descr c) ≡ false)). sym (Rattle.pm_world.proofs.Applies.twin_twin p) ∙ sym (ap twin y.0)) one in
+          let r : p ≡ Descr c = ⊎_elim (λ (y : Descr c ≡ p). sym y) (λ (y : (Descr c ≡ twin p) × (same_place p (Descr c) ≡ false)). sym (Rattle.pm_world.proofs.Basics.twin_twin p) ∙ sym (ap twin y.0)) one in
           (subst (λ y. EntryOf y a.0.op a.0.value) r s.2).0
 
 op_tag : Op → ℕ
@@ -140,27 +137,6 @@ each_store s ph q = stores_at ph q (λ w n o mem new views views' g k x ink m du
 
 pub store_from : OtherStores → (w n : ℕ) → Keeps (Store w n)
 store_from s w n o mem new views views' g k x ink law moves t = (each_store s (views k).log.phase (part_in (views k) w) w n o mem new views views' g k x ink law refl refl moves t, tt)
-
--- of a decided call none is a premise
-pub decided_stores : DecidedStoresKeep
-decided_stores w n o old mem views new g k x ink law e moves t = go (views k).log.phase (part_in (views k) w) refl refl e
-  where
-    go : (ph : Phase) (q : Part) → (views k).log.phase ≡ ph → part_in (views k) w ≡ q → is_decided ph ≡ true → World o mem new (past_after g (views k) (Store w n))
-    go Idle q a b d = absurd (both_ways false refl d)
-    go Open q a b d = absurd (both_ways false refl d)
-    go (Drawn m) q a b d = absurd (both_ways false refl d)
-    go (Sealing m) q a b d = absurd (both_ways false refl d)
-    go (Applying todo) GenerationPart a b d = applies_generation todo w n o old mem views new g k x ink law a b moves t
-    go (Applying todo) RootPart a b d = applies_root todo w n o old mem views new g k x ink law a b moves t
-    go (Applying todo) (DescriptorPart c) a b d = applies_descriptor todo c w n o old mem views new g k x ink law a b moves t
-    go (Applying todo) (ChunkPart c i) a b d = applies_chunk todo c i w n o old mem views new g k x ink law a b moves t
-    go (Applying todo) SealPart a b d = clears_seal todo w n o old mem views new g k x ink law a b moves t
-    go (Applying todo) EntryPart a b d = stores_at (Applying todo) EntryPart (λ w n o mem new views views' g k x ink m due e part c moves t. absurd c) w n o old mem views new g k x ink law a b moves t
-    go (Applying todo) SlotPart a b d = stores_at (Applying todo) SlotPart (λ w n o mem new views views' g k x ink m due e part c moves t. absurd c) w n o old mem views new g k x ink law a b moves t
-    go (Applying todo) OtherPart a b d = stores_at (Applying todo) OtherPart (λ w n o mem new views views' g k x ink m due e part c moves t. absurd c) w n o old mem views new g k x ink law a b moves t
-    go Clearing q a b d = stores_at Clearing q (λ w n o mem new views views' g k x ink m due e part c moves t. absurd c) w n o old mem views new g k x ink law a b moves t
-    go (Retiring m) q a b d = absurd (both_ways false refl d)
-    go Voiding q a b d = absurd (both_ways false refl d)
 
 known_is_so : KnownIsSo
 known_is_so o mem views g k x ink w inside = known_so o mem views g x k ink w

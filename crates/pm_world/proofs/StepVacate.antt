@@ -10,14 +10,14 @@ use Rattle.pm_layout.specs.Chunks.{chunks_of, page_of_chunk, word_of_chunk, word
 use Rattle.pm_view.specs.declared.occ.Occ.{Occ}
 use Rattle.pm_view.specs.declared.occ.Occ.TheVariants.{Run, Zone}
 use Rattle.pm_view.specs.Changes.{Undrained, is_dirty_bit}
-use Rattle.pm_view.specs.Places.{Place, InRun, InHuge, Descr, RootWord, Block, Small, Big, Root, part, block_of, in_span, is_data}
-use Rattle.pm_view.specs.Entries.{latest, redos, turn}
+use Rattle.pm_view.specs.Places.{Place, InRun, InHuge, Descr, RootWord, Block, Small, Big, Root, part, block_of, in_span, is_data, same_place}
+use Rattle.pm_view.specs.Entries.{Entry, given_bit, delta, first_of_two, latest, with_redo, redos, turn}
 use Rattle.pm_view.specs.Parts.{chunk_place, place_in}
-use Rattle.pm_view.specs.Log.{Phase, Idle, Open, Drawn, Sealing, Applying, Clearing, Retiring, Voiding, is_early}
+use Rattle.pm_view.specs.Log.{Phase, is_early}
 use Rattle.pm_view.specs.Claims.{Released, class, first, geometry, block_in, passes, is_among, run_chunk}
 use Rattle.pm_view.specs.Steps.Step.{Vacate}
 use Rattle.pm_view.specs.Views.{after}
-use Rattle.pm_world.specs.States.{State, given, diff, there, put1, Cells}
+use Rattle.pm_world.specs.States.{State, given, diff, put1, Cells}
 use Rattle.pm_world.specs.Sights.{Sight, is_made, is_recorded, sight_of}
 use Rattle.pm_world.specs.Lanes.{atom, open_soils, soils, Flies, SightFits, is_occupancy, Bits}
 use Rattle.pm_world.specs.Lawful.{IsLawful, is_in_blocks}
@@ -26,24 +26,30 @@ use Rattle.pm_world.specs.Course.{past_after}
 use Rattle.pm_world.specs.Memory.{Memory, RunWord, ZoneWord, occ_at, bit, occupancy_bit, cells_of}
 use Rattle.pm_world.specs.World.{Opening, Views, Past, origin, ghost_of, settled_words, LaneFits, World}
 use Rattle.pm_world.specs.Laws.{Turn, Keeps}
+use Rattle.pm_world.proofs.Basics.{none_of, early_undecided, early_cases}
 use Rattle.pm_world.proofs.Cells.{cells_run, cells_zone}
 use Rattle.pm_world.proofs.Frame.{Around, mine_own, own_has}
+use Rattle.pm_world.proofs.PlacesAt.{same_place_true}
 use Rattle.pm_world.proofs.Replays.{put1_here, put1_else}
-use Rattle.pm_world.proofs.Worlds.{turned}
+use Rattle.pm_world.proofs.Worlds.{turned, own_unrecorded}
 use Rattle.pm_world.proofs.Vacates.{kept_owned, GivesBack, vacates}
-use Rattle.pm_world.proofs.OccWorlds.{early_undecided, occ_world}
+use Rattle.pm_world.proofs.OccWorlds.{occ_world}
 use Rattle.pm_world.proofs.WordPlaces.{chunk_part, run_chunk_is, page_apart}
 use Rattle.pm_world.proofs.StepOccupies.{part_of_data, at_page, occ_known}
 
+-- what no entry gives the entries do not make
+none_entered : (es : List Entry) (p : Place) (b : ℕ) → All (λ (e : Entry). e.place ≡ Some p → given (given_bit e.op e.value b) ≡ false) es → latest (redos es) p b ≡ None
+none_entered [] p b a = refl
+none_entered (e ∷ es) p b a = go e.place refl (none_entered es p b (λ i d l. a (suc i) d (omega arith)))
+  where
+    go : (q : Option Place) → e.place ≡ q → latest (redos es) p b ≡ None → latest (with_redo q e (redos es)) p b ≡ None
+    go None s r = r
+    go (Some q) s r = ap (λ y. first_of_two y (delta record { place = q; op = e.op; value = e.value } p b)) r ∙ ⊎_elim
+        (λ (t : same_place q p ≡ true). ap (λ y. cond y (given_bit e.op e.value b) None) t ∙ none_of (given_bit e.op e.value b) (a 0 e (omega arith) (s ∙ ap (λ y. Some y) (same_place_true q p t))))
+        (λ (t : same_place q p ≡ false). cond-false (same_place q p) (given_bit e.op e.value b) None t) (cases_Bool (same_place q p))
+
 early_soils : (ph : Phase) (p : Place) (m l : Bool) (en : Option Bool) → is_early ph ≡ true → soils ph p m l en ≡ true → open_soils p m l ≡ true
-early_soils Idle p m l en e t = t
-early_soils Open p m l en e t = t
-early_soils (Drawn n) p m l en e t = absurd (both_ways false refl e)
-early_soils (Sealing n) p m l en e t = absurd (both_ways false refl e)
-early_soils (Applying todo) p m l en e t = absurd (both_ways false refl e)
-early_soils Clearing p m l en e t = absurd (both_ways false refl e)
-early_soils (Retiring n) p m l en e t = absurd (both_ways false refl e)
-early_soils Voiding p m l en e t = absurd (both_ways false refl e)
+early_soils ph p m l en e t = early_cases (λ h. soils h p m l en ≡ true → open_soils p m l ≡ true) (λ y. y) (λ y. y) ph e t
 
 -- bits are cleared
 cleared_bit : (a b j : ℕ) → b < 2 ^ 64 → j < 64 → bit (bit_and a (bit_not w64 b)) j ≡ (not (bit b j) && bit a j)
@@ -87,19 +93,27 @@ module _ (o : Opening) (mem new : Memory) (views views' : Views) (g : Past) (x :
 
     -- nothing is recorded there
     unrecorded : (p : Place) (b : ℕ) → out (block_of g.geo p b) ≡ true → is_recorded (views k).log.records p ≡ false
-    unrecorded p b t = false_from_ne_true (is_recorded (views k).log.records p) (λ r. let y = (fl.recorded (early_undecided (views k).log.phase law.allowed.early).0 p r).1 b in
-        both_ways (there S (block_of g.geo p b)) (fk.hold.mine (block_of g.geo p b) (block_mine p b t)).2 (fk.hold.found (block_of g.geo p b) (fk.hold.here (block_of g.geo p b) y.0).1).2)
+    unrecorded p b t = own_unrecorded o mem views g x k ink (early_undecided (views k).log.phase law.allowed.early).0 p b (block_mine p b t)
 
-    no_turn : (B : Block) → turn (latest (redos (views k).log.entries)) B ≡ None
-    no_turn B = ap (λ es. turn (latest (redos es)) B) law.allowed.unentered ∙ go B
-      where
-        go : (B : Block) → turn (latest []) B ≡ None
-        go (Small c i) = refl
-        go (Big c) = refl
-        go Root = refl
+    -- nor is a bit of it changed by an entry: as the lane knows its own blocks, so they are
+    known_own : (p : Place) (b : ℕ) → (sights k).hold.mine (block_of g.geo p b) ≡ true → block_of (geometry (views k).fixed.shape (views k).claims) p b ≡ block_of g.geo p b
+    known_own (InRun d u) b m = ap (λ n. Small d (part n u b)) (fk.hold.class d (part (g.geo.class d) u b) (own_has (sights k).hold (Small d (part (g.geo.class d) u b)) (mine_own (sights k).hold (Small d (part (g.geo.class d) u b)) m)))
+    known_own (InHuge d u) b m = ap (λ n. Big n) (fk.hold.first d (own_has (sights k).hold (Big (g.geo.first d)) (mine_own (sights k).hold (Big (g.geo.first d)) m)))
+    known_own (Descr d) b m = ap (λ n. Big n) (fk.hold.first d (own_has (sights k).hold (Big (g.geo.first d)) (mine_own (sights k).hold (Big (g.geo.first d)) m)))
+    known_own RootWord b m = refl
+
+    unentered : (p : Place) (b : ℕ) → out (block_of g.geo p b) ≡ true → latest (redos (views k).log.entries) p b ≡ None
+    unentered p b t = none_entered (views k).log.entries p b (λ i e m q. false_from_ne_true (given (given_bit (slice_index_or (views k).log.entries i e).op (slice_index_or (views k).log.entries i e).value b)) (λ y.
+        both_ways (out (block_of g.geo p b)) (sym (ap out (known_own p b (block_mine p b t))) ∙ law.allowed.unentered i e m p b q y) t))
+
+    no_turn : (B : Block) → out B ≡ true → turn (latest (redos (views k).log.entries)) B ≡ None
+    no_turn (Small c i) t = unentered (InRun c 0) i t
+    no_turn (Big c) t = unentered (Descr c) 1 (sym (w.whole c) ∙ t)
+    no_turn Root t = refl
 
     undiffed : (p : Place) (b : ℕ) → out (block_of g.geo p b) ≡ true → given (diff (sights k).call p b) ≡ false
-    undiffed p b t = ap (λ es. given (diff (record (sights k).call { entries = redos es }) p b)) law.allowed.unentered ∙ ungiven (is_data p) (turn (latest (redos (views k).log.entries)) (block_of (geometry (views k).fixed.shape (views k).claims) p b)) (is_recorded (views k).log.records p) ((sights k).picture p b) (no_turn (block_of (geometry (views k).fixed.shape (views k).claims) p b)) (unrecorded p b t)
+    undiffed p b t = ap (λ y. given (first_of_two y ((sights k).call.fresh p b))) (unentered p b t) ∙ ungiven (is_data p) (turn (latest (redos (views k).log.entries)) (block_of (geometry (views k).fixed.shape (views k).claims) p b)) (is_recorded (views k).log.records p) ((sights k).picture p b)
+        (ap (turn (latest (redos (views k).log.entries))) (known_own p b (block_mine p b t)) ∙ no_turn (block_of g.geo p b) t) (unrecorded p b t)
       where
         ungiven : (d : Bool) (m : Option Bool) (r : Bool) (y : Option Bool) → m ≡ None → r ≡ false → given (cond (d && (is_made m || r)) y None) ≡ false
         ungiven d m r y e n = ap given (cond-false (d && (is_made m || r)) y None (and_right d (is_made m || r) (Rattle.std.proofs.lemmas.Bool.or_from (is_made m) r (ap is_made e) n)))

@@ -130,7 +130,7 @@ zone_tried zone true o mem new views views' g k x ink law moves t = let f = x.ea
   λ _. refl,
 )
 zone_tried zone false o mem new views views' g k x ink law moves t = let f = x.each_lane k ink in (
-  plain_step o mem new views views' g x k ink moves.0 (record (views k) { seen = ZoneTry zone false ∷ (views k).seen }) t refl refl (λ e. e) (Rattle.pm_world.proofs.StepPlain.lane_told o mem g k (views k) (ZoneTry zone false ∷ (views k).seen) (views k).call (views k).actions f),
+  plain_step o mem new views views' g x k ink moves.0 (record (views k) { seen = ZoneTry zone false ∷ (views k).seen }) t refl refl (λ e. e) (Rattle.pm_world.proofs.StepPlain.lane_told o mem g k (views k) (ZoneTry zone false ∷ (views k).seen) (views k).call (views k).actions (views k).published f),
   λ one. absurd (taken (sym f.lanes ∙ eqb-true (views k).fixed.lanes 1 one)),
 )
   where

@@ -26,6 +26,7 @@ use Rattle.pm_world.specs.Logs.{LogFits, IsOld, AreaChange, BumpFits, PhaseFits,
 use Rattle.pm_world.specs.Laws.{KeepsAt, Turn}
 use Rattle.pm_world.specs.Memory.{Memory, PoolWord, Becomes, cells_of}
 use Rattle.pm_world.specs.World.{Opening, Views, Past, origin, ghost_of, settled_words, NumberFits, World}
+use Rattle.pm_world.proofs.Basics.{and_false}
 use Rattle.pm_world.proofs.AfterStore.{after_store, keeps_at}
 use Rattle.pm_world.proofs.Going.{at_phase}
 use Rattle.pm_world.proofs.Replays.{put1_here, put1_else}
@@ -53,10 +54,6 @@ no_turn : (es : List Entry) → es ≡ [] → (B : Block) → turn (latest (redo
 no_turn es e (Small c i) = ap (λ n. latest (redos n) (Rattle.pm_view.specs.Places.InRun c 0) i) e
 no_turn es e (Big c) = ap (λ n. latest (redos n) (Rattle.pm_view.specs.Places.Descr c) 1) e
 no_turn es e Root = refl
-
-and_false : (t : Bool) → (t && false) ≡ false
-and_false true = refl
-and_false false = refl
 
 module _ (w n i : ℕ) (o : Opening) (mem new : Memory) (views views' : Views) (g : Past) (k : ℕ) (x : World o mem views g) (ink : k < o.lanes) (m : MayStore (views k) w n) (due : MayCount (views k)) (b : Becomes (PoolWord w) n mem new)
     (low : i < 2) (at : w ≡ word_of_generation o.shape k + i) (clean : (views k).changes ≡ []) where

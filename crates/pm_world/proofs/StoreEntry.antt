@@ -26,9 +26,10 @@ use Rattle.pm_world.specs.Logs.{LogFits, IsEntryAt, AreaChange, EntryOf}
 use Rattle.pm_world.specs.Laws.{KeepsAt, Turn}
 use Rattle.pm_world.specs.Memory.{Memory, PoolWord, Becomes, bit, cells_of}
 use Rattle.pm_world.specs.World.{Opening, Views, Past, origin, ghost_of, settled_words, LaneFits, World}
+use Rattle.pm_world.proofs.Basics.{val_alike}
 use Rattle.pm_world.proofs.AfterStore.{after_store, keeps_at}
 use Rattle.pm_world.proofs.EntryBits.{enters, enters_none}
-use Rattle.pm_world.proofs.Entering.{added, Enters, val_alike, entered_fits}
+use Rattle.pm_world.proofs.Entering.{added, Enters, entered_fits}
 use Rattle.pm_world.proofs.Frame.{root_apart}
 use Rattle.pm_world.proofs.Going.{at_phase}
 use Rattle.pm_world.proofs.PlacesAt.{is_at}

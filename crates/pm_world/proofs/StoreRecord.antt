@@ -24,7 +24,9 @@ use Rattle.pm_world.specs.Logs.{IsRecordAt, spelled, slot_list, used_slots, Area
 use Rattle.pm_world.specs.Laws.{Turn}
 use Rattle.pm_world.specs.Memory.{Memory, PoolWord, Becomes, bit, cells_of}
 use Rattle.pm_world.specs.World.{Opening, Views, Past, origin, ghost_of, settled_words, World}
-use Rattle.pm_world.proofs.RecordsAtPlaces.{data_pictured, known_pictured}
+use Rattle.pm_world.proofs.Basics.{some_cond}
+use Rattle.pm_world.proofs.BlocksKnown.{first_so}
+use Rattle.pm_world.proofs.RecordsAtPlaces.{data_pictured}
 use Rattle.pm_world.proofs.Frame.{here_own, own_has}
 use Rattle.pm_world.proofs.AfterStore.{after_store, keeps_at}
 use Rattle.pm_world.proofs.Entering.{logged_recorded}
@@ -202,9 +204,9 @@ module _ (w n : ℕ) (o : Opening) (mem new : Memory) (views views' : Views) (g 
 
   asked : Records (settled_words o g) (ghost_of g) (views k) a.next
   asked = record {
-    reach = λ p c t. change_owned o.shape (cells_of o.shape mem) (settled_words o g) (Flies (ghost_of g) k) (ghost_of g) x.bits.geo k (views k) at_open (root_owned o mem views g x k ink) p (of_word p t).own c;
-    plain = λ p t. change_plain o.shape (cells_of o.shape mem) (settled_words o g) (Flies (ghost_of g) k) (ghost_of g) x.bits.geo k (views k) at_open (root_owned o mem views g x k ink) p (word_use p t) (of_word p t).own;
-    sizes = λ p t. change_size o.shape (cells_of o.shape mem) (settled_words o g) (Flies (ghost_of g) k) (ghost_of g) x.bits.geo k (views k) at_open (root_owned o mem views g x k ink) p (of_word p t).own;
+    reach = λ p c t. change_owned o.shape (cells_of o.shape mem) (settled_words o g) (Flies (ghost_of g) k) (ghost_of g) x.bits.geo k (views k) at_open (root_owned o mem views g x k ink) p (of_word p t).word.own c;
+    plain = λ p t. change_plain o.shape (cells_of o.shape mem) (settled_words o g) (Flies (ghost_of g) k) (ghost_of g) x.bits.geo k (views k) at_open (root_owned o mem views g x k ink) p (word_use p t) (of_word p t).word.own;
+    sizes = λ p t. change_size o.shape (cells_of o.shape mem) (settled_words o g) (Flies (ghost_of g) k) (ghost_of g) x.bits.geo k (views k) at_open (root_owned o mem views g x k ink) p (of_word p t).word.own;
   }
 
   small_word : (p : Place) (y : ℕ) → is_data p ≡ true → ((c : ℕ) → read (cells_of o.shape mem).pool p c ≡ bit y c) → y < 2 ^ 64
@@ -228,14 +230,14 @@ module _ (w n : ℕ) (o : Opening) (mem new : Memory) (views views' : Views) (g 
       unlogged p e = false_from_ne_true ((sight_of (views k)).logged p) (λ t. both_ways (is_recorded (views k).log.records p) e (logged_recorded (views k).fixed.shape (views k).fixed.lane (views k).changes 0 (views k).log.records p t))
 
       go : (p : Place) → CanRecordAt (views k) p y → ((c : ℕ) → owns g.geo (settled_words o g) (sight_of (views k)).hold p c ≡ true) → settled_words o g p c ≡ bit y c
-      go (InRun d u) q own = let high = (and_parts (nat_lt d (Rattle.pm_layout.specs.Chunks.chunks_of (views k).fixed.shape)) (nat_lt u 512) q.place).1 in
-          (settled_known o.shape (cells_of o.shape mem) (settled_words o g) (Flies (ghost_of g) k) (ghost_of g) x.bits.geo k (views k) at_open small_word (InRun d u) y (and_from (nat_le 8 u) (nat_lt u 512) q.plain high) q.present
-          (run_alive o.shape (cells_of o.shape mem) (settled_words o g) (Flies (ghost_of g) k) (ghost_of g) x.bits.geo k (views k) at_open small_word d u q.plain high q.own.0 q.size q.sized q.within) (unlogged (InRun d u) q.new) c (own c)).0
-      go (InHuge d u) q own = let high = (and_parts (nat_lt d (Rattle.pm_layout.specs.Chunks.chunks_of (views k).fixed.shape)) (nat_lt u 512) q.place).1 in
-          (settled_known o.shape (cells_of o.shape mem) (settled_words o g) (Flies (ghost_of g) k) (ghost_of g) x.bits.geo k (views k) at_open small_word (InHuge d u) y high q.present
-          (huge_alive o.shape (cells_of o.shape mem) (settled_words o g) (Flies (ghost_of g) k) (ghost_of g) x.bits.geo k (views k) at_open small_word d u high q.own.0 q.size q.sized q.within) (unlogged (InHuge d u) q.new) c (own c)).0
-      go (Descr d) q own = absurd q.own
-      go RootWord q own = absurd (both_ways false refl q.plain)
+      go (InRun d u) q own = let high = (and_parts (nat_lt d (Rattle.pm_layout.specs.Chunks.chunks_of (views k).fixed.shape)) (nat_lt u 512) q.word.place).1 in
+          (settled_known o.shape (cells_of o.shape mem) (settled_words o g) (Flies (ghost_of g) k) (ghost_of g) x.bits.geo k (views k) at_open small_word (InRun d u) y (and_from (nat_le 8 u) (nat_lt u 512) q.word.plain high) q.word.present
+          (run_alive o.shape (cells_of o.shape mem) (settled_words o g) (Flies (ghost_of g) k) (ghost_of g) x.bits.geo k (views k) at_open small_word d u q.word.plain high q.word.own.0 q.size q.sized q.within) (unlogged (InRun d u) q.word.new) c (own c)).0
+      go (InHuge d u) q own = let high = (and_parts (nat_lt d (Rattle.pm_layout.specs.Chunks.chunks_of (views k).fixed.shape)) (nat_lt u 512) q.word.place).1 in
+          (settled_known o.shape (cells_of o.shape mem) (settled_words o g) (Flies (ghost_of g) k) (ghost_of g) x.bits.geo k (views k) at_open small_word (InHuge d u) y high q.word.present
+          (huge_alive o.shape (cells_of o.shape mem) (settled_words o g) (Flies (ghost_of g) k) (ghost_of g) x.bits.geo k (views k) at_open small_word d u high q.word.own.0 q.size q.sized q.within) (unlogged (InHuge d u) q.word.new) c (own c)).0
+      go (Descr d) q own = absurd q.word.own
+      go RootWord q own = absurd (both_ways false refl q.word.plain)
 
   module _ (full : length ((views k).log.slot ++ n ∷ []) ≡ 8) where
     seven : length (views k).log.slot ≡ 7
@@ -261,8 +263,8 @@ module _ (w n : ℕ) (o : Opening) (mem new : Memory) (views views' : Views) (g 
           a.can.some,
           a.can.most,
           inside a.next.place use_at.inside,
-          subst (λ p. is_data p ≡ true) (place_zero a.next.place) (a.can.each 0 (let e = a.can.some in omega arith)).plain,
-          λ i s. inside (place_after a.next.place i) (a.can.each i s).place,
+          subst (λ p. is_data p ≡ true) (place_zero a.next.place) (a.can.each 0 (let e = a.can.some in omega arith)).word.plain,
+          λ i s. inside (place_after a.next.place i) (a.can.each i s).word.place,
         )
 
     next_once : (j i : ℕ) (r q : Recorded) (p : Place) (y z : ℕ) → slice_get ((views k).log.records ++ a.next ∷ []) j ≡ Some r → slice_get ((views k).log.records ++ a.next ∷ []) i ≡ Some q → old_in r p ≡ Some y → old_in q p ≡ Some z → j ≡ i
@@ -272,34 +274,34 @@ module _ (w n : ℕ) (o : Opening) (mem new : Memory) (views views' : Views) (g 
         (λ (v : (i ≡ length (views k).log.records) × (a.next ≡ q)). u.0 ∙ sym v.0) (get_more (views k).log.records a.next i q d)) (get_more (views k).log.records a.next j r e)
       where
         clash : (j : ℕ) (r : Recorded) (p : Place) → slice_get (views k).log.records j ≡ Some r → given (old_in r p) ≡ true → given (old_in a.next p) ≡ true → ⊥
-        clash j r p e s t = both_ways (is_recorded (views k).log.records p) (of_word p t).new (recorded_at (views k).log.records j r p e s)
+        clash j r p e s t = both_ways (is_recorded (views k).log.records p) (of_word p t).word.new (recorded_at (views k).log.records j r p e s)
 
     next_olds : (p : Place) (y : ℕ) → old_of ((views k).log.records ++ a.next ∷ []) p ≡ Some y → (c : ℕ) → (owns g.geo (settled_words o g) (sight_of (views k)).hold p c ≡ true) × (settled_words o g p c ≡ bit y c)
     next_olds p y e c = ⊎_elim (λ (t : old_of (views k).log.records p ≡ Some y). let z = l.olds p y t c in (z.0, z.1 refl))
         (λ (t : old_in a.next p ≡ Some y). let s = ap given t in (asked.reach p c s, settled_word p y (subst (CanRecordAt (views k) p) (old_in_is a.next p y t) (of_word p s)) (λ b. asked.reach p b s) c)) (old_cases (views k).log.records a.next p y e)
 
     fits_of : (p : Place) (y : ℕ) → CanRecordAt (views k) p y → Rattle.pm_world.specs.World.RecordedFits g.geo (sight_of (views k)) p
-    fits_of p y q = (q.plain, λ b. (found_here p q b, seen b))
+    fits_of p y q = (q.word.plain, λ b. (found_here p q b, seen b))
       where
         pic : pictured (views k).fixed.shape (views k).claims (word_of (views k).fixed.shape p) ≡ Some y
-        pic = known_pictured (Rattle.pm_view.specs.View.runs_one (views k) || Rattle.pm_view.specs.Claims.is_held (views k).fixed.shape (views k).claims (word_of (views k).fixed.shape p)) (pictured (views k).fixed.shape (views k).claims (word_of (views k).fixed.shape p)) y q.present
+        pic = some_cond (Rattle.pm_view.specs.View.runs_one (views k) || Rattle.pm_view.specs.Claims.is_held (views k).fixed.shape (views k).claims (word_of (views k).fixed.shape p)) (pictured (views k).fixed.shape (views k).claims (word_of (views k).fixed.shape p)) y q.word.present
 
         seen : (b : ℕ) → given ((sight_of (views k)).picture p b) ≡ true
-        seen b = ap given (cond-true (is_pictured p) _ _ (data_pictured (views k).fixed.shape p q.plain q.place) ∙ ap (Rattle.std.specs.Option.option_map (λ z. Rattle.std.specs.Int.bit_at z b == 1)) pic)
+        seen b = ap given (cond-true (is_pictured p) _ _ (data_pictured (views k).fixed.shape p q.word.plain q.word.place) ∙ ap (Rattle.std.specs.Option.option_map (λ z. Rattle.std.specs.Int.bit_at z b == 1)) pic)
 
         found_here : (p : Place) → CanRecordAt (views k) p y → (b : ℕ) → (sight_of (views k)).hold.here (block_of g.geo p b) ≡ true
-        found_here (InRun d u) q b = let low = leb-true 8 u q.plain in let z : (u == 0) ≡ false = ne_eqb u 0 (λ e. omega arith) in let i = (u / 8 - 1) / class (views k).claims d in
-            let h : (sight_of (views k)).hold.here (Small d i) ≡ true = sym (ap (λ m. (sight_of (views k)).hold.here (Small d m)) (cond-false (u == 0) 64 i z)) ∙ q.own.0 in
+        found_here (InRun d u) q b = let low = leb-true 8 u q.word.plain in let z : (u == 0) ≡ false = ne_eqb u 0 (λ e. omega arith) in let i = (u / 8 - 1) / class (views k).claims d in
+            let h : (sight_of (views k)).hold.here (Small d i) ≡ true = sym (ap (λ m. (sight_of (views k)).hold.here (Small d m)) (cond-false (u == 0) 64 i z)) ∙ q.word.own.0 in
             let same = (x.bits.each_lane k).hold.class d i (own_has (sight_of (views k)).hold (Small d i) (here_own (sight_of (views k)).hold (Small d i) h)) in
             ap (λ m. (sight_of (views k)).hold.here (Small d m)) (cond-false (u == 0) b ((u / 8 - 1) / g.geo.class d) z ∙ ap (λ m. (u / 8 - 1) / m) (sym same)) ∙ h
         found_here (InHuge d u) q b = let f = first (views k).fixed.shape (views k).claims d in
-            let same = eqb-true (g.geo.first d) f ((x.bits.each_lane k).hold.span f (own_has (sight_of (views k)).hold (Big f) (here_own (sight_of (views k)).hold (Big f) q.own.0)) d ∙ q.own.2) in
-            ap (λ m. (sight_of (views k)).hold.here (Big m)) same ∙ q.own.0
-        found_here (Descr d) q b = absurd q.own
-        found_here RootWord q b = absurd (both_ways false refl q.plain)
+            let same = sym (first_so o.shape (cells_of o.shape mem) (settled_words o g) (Flies (ghost_of g) k) (ghost_of g) x.bits.geo k (views k) (views k).log.phase (x.bits.each_lane k) d (own_has (sight_of (views k)).hold (Big f) (here_own (sight_of (views k)).hold (Big f) q.word.own.0))) in
+            ap (λ m. (sight_of (views k)).hold.here (Big m)) same ∙ q.word.own.0
+        found_here (Descr d) q b = absurd q.word.own
+        found_here RootWord q b = absurd (both_ways false refl q.word.plain)
 
     next_recorded : (p : Place) → is_recorded ((views k).log.records ++ a.next ∷ []) p ≡ true → Rattle.pm_world.specs.World.RecordedFits g.geo (sight_of (views k)) p
-    next_recorded p q = let y = Rattle.pm_world.proofs.StepDrain.old_some (old_of ((views k).log.records ++ a.next ∷ []) p) q in
+    next_recorded p q = let y = Rattle.pm_world.proofs.Basics.some_of (old_of ((views k).log.records ++ a.next ∷ []) p) q in
         ⊎_elim (λ (t : old_of (views k).log.records p ≡ Some y.0). (x.each_lane k ink).recorded (ap Rattle.pm_world.specs.Lanes.is_decided open_) p (ap given t))
         (λ (t : old_in a.next p ≡ Some y.0). fits_of p y.0 (subst (CanRecordAt (views k) p) (old_in_is a.next p y.0 t) (of_word p (ap given t)))) (old_cases (views k).log.records a.next p y.0 y.1)
 

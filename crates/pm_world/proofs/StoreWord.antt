@@ -26,6 +26,8 @@ use Rattle.pm_world.specs.Logs.{slot_list, AreaChange, LogFits}
 use Rattle.pm_world.specs.Laws.{Turn}
 use Rattle.pm_world.specs.Memory.{Memory, PoolWord, LockWord, RunWord, ZoneWord, ZoneLock, CommitCounter, StopWord, Becomes, bit, huge_told, run_told, bits_of, descriptor_told, cells_by, cells_of}
 use Rattle.pm_world.specs.World.{Opening, Views, Past, origin, ghost_of, settled_words, World}
+use Rattle.pm_world.proofs.RecordsAtPlaces.{data_pictured}
+use Rattle.pm_world.proofs.Basics.{twin_twin}
 use Rattle.pm_world.proofs.SlotWords.{slot_range}
 use Rattle.pm_world.proofs.AfterStore.{after_store, store_world, keeps_at}
 use Rattle.pm_world.proofs.Cells.{cells_stored, bits_else, descriptor_else}
@@ -39,15 +41,9 @@ use Rattle.pm_world.proofs.StepDraw.{all_cons}
 use Rattle.pm_world.proofs.StoreArea.{area_apart, undrained_by, logged_else}
 use Rattle.pm_world.proofs.Stored.{OwnWords}
 use Rattle.pm_world.specs.Laws.{KeepsAt}
+use Rattle.pm_world.proofs.Worlds.{own_unrecorded}
 use Rattle.pm_world.proofs.WordsApart.{one_cell}
 use Rattle.pm_world.proofs.Writing.{Writes, written_fits}
-
--- ---- places that are one word
-twin_twin : (p : Place) → twin (twin p) ≡ p
-twin_twin (InRun c w) = refl
-twin_twin (InHuge c w) = refl
-twin_twin (Descr c) = refl
-twin_twin RootWord = refl
 
 abbrev is_chunk : Place → Bool
 is_chunk (InRun c w) = true
@@ -106,12 +102,6 @@ other_unused h (InRun c u) d e t = e (eqb-true (h.class c) 0 (and_parts (nat_lt 
 other_unused h (InHuge c u) d e t = both_ways false refl (sym (ap not (eq-eqb (h.class c) 0 e)) ∙ (and_parts (nat_lt u 512) (not (h.class c == 0)) t).1)
 other_unused h (Descr c) d e t = both_ways false refl d
 other_unused h RootWord d e t = both_ways false refl d
-
-data_pictured : (sh : Shape) (p : Place) → is_data p ≡ true → is_place sh p ≡ true → is_pictured p ≡ true
-data_pictured sh (InRun c u) d t = and_from (nat_le 8 u) (nat_lt u 512) d (and_parts (nat_lt c (chunks_of sh)) (nat_lt u 512) t).1
-data_pictured sh (InHuge c u) d t = (and_parts (nat_lt c (chunks_of sh)) (nat_lt u 512) t).1
-data_pictured sh (Descr c) d t = absurd (both_ways false refl d)
-data_pictured sh RootWord d t = refl
 
 soil_from : (p : Place) (mi lg : Bool) → is_data p ≡ true → (mi || lg) ≡ true → open_soils p mi lg ≡ true
 soil_from (InRun c u) mi lg d t = and_from (nat_le 8 u) (mi || lg) d t
@@ -339,8 +329,8 @@ module _ (w : ℕ) (o : Opening) (mem : Memory) (views : Views) (g : Past) (k : 
     },
   )
 
-  to_fill : SightFits o.shape (cells_of o.shape mem) (settled_words o g) (Flies (ghost_of g) k) (ghost_of g) k (record (sight_of (views k)) { phase = Open }) → MayFill (views k) w → (p₀ : Place) × Target o g (views k) w p₀
-  to_fill f a = let at = is_at (views k).fixed.shape (class (views k).claims) w a.place a.at in let B = block_of (geometry (views k).fixed.shape (views k).claims) a.place 64 in
+  to_fill : is_decided (views k).log.phase ≡ false → SightFits o.shape (cells_of o.shape mem) (settled_words o g) (Flies (ghost_of g) k) (ghost_of g) k (record (sight_of (views k)) { phase = Open }) → MayFill (views k) w → (p₀ : Place) × Target o g (views k) w p₀
+  to_fill u f a = let at = is_at (views k).fixed.shape (class (views k).claims) w a.place a.at in let B = block_of (geometry (views k).fixed.shape (views k).claims) a.place 64 in
       let same = block_known o.shape (cells_of o.shape mem) (settled_words o g) (Flies (ghost_of g) k) (ghost_of g) x.bits.geo k (views k) f a.place 64 (own_has (sight_of (views k)).hold B (mine_own (sight_of (views k)).hold B a.own)) in
       let mine : (c : ℕ) → (sight_of (views k)).hold.mine (block_of g.geo a.place c) ≡ true = λ c. subst (λ C. (sight_of (views k)).hold.mine C ≡ true) (same ∙ sym (data_bit g.geo a.place c a.plain)) a.own in (
         a.place,
@@ -349,7 +339,7 @@ module _ (w : ℕ) (o : Opening) (mem : Memory) (views : Views) (g : Past) (k : 
           data_ = a.plain;
           own_ = λ c. Rattle.pm_world.proofs.EntryBits.data_owned o.shape (cells_of o.shape mem) (settled_words o g) (Flies (ghost_of g) k) (ghost_of g) x.bits.geo k (views k) f (Rattle.pm_world.proofs.StoreEntry.root_owned o mem views g x k ink) a.place c a.plain (mine_own (sight_of (views k)).hold B a.own);
           plain = plain_of a.place a.plain at.use_ a.own;
-          quiet = inr (dead (settled_words o g) (ghost_of g) a.place 0 a.plain (f.hold.mine (block_of g.geo a.place 0) (mine 0)).2, a.unrecorded);
+          quiet = inr (dead (settled_words o g) (ghost_of g) a.place 0 a.plain (f.hold.mine (block_of g.geo a.place 0) (mine 0)).2, own_unrecorded o mem views g x k ink u a.place 0 (mine 0));
           soil = λ c. or_left ((sight_of (views k)).hold.mine (block_of g.geo a.place c)) ((sight_of (views k)).logged a.place) (mine c);
           unentered = a.unentered;
         },
@@ -402,10 +392,10 @@ module _ (w n : ℕ) (o : Opening) (mem new : Memory) (views views' : Views) (g 
   sight_in ph e = at_phase o.shape o.lanes (origin o) (cells_of o.shape mem) (λ j. sight_of (views j)) (ghost_of g) x.bits k ink ph e
 
   open_store : (views k).log.phase ≡ Open → MayWrite (views k) w ⊎ MayFill (views k) w → World o new views' g
-  open_store e a = open_word e (⊎_elim (λ (q : MayWrite (views k) w). to_write w o mem views g k x ink (ap is_decided e) q) (λ (q : MayFill (views k) w). to_fill w o mem views g k x ink (sight_in Open e) q) a)
+  open_store e a = open_word e (⊎_elim (λ (q : MayWrite (views k) w). to_write w o mem views g k x ink (ap is_decided e) q) (λ (q : MayFill (views k) w). to_fill w o mem views g k x ink (ap is_decided e) (sight_in Open e) q) a)
 
   idle_store : (views k).log.phase ≡ Idle → MayFill (views k) w → World o new views' g
-  idle_store e a = idle_word e (to_fill w o mem views g k x ink (idle_open o.shape (cells_of o.shape mem) (settled_words o g) (Flies (ghost_of g) k) (ghost_of g) k (views k) (sight_in Idle e)) a)
+  idle_store e a = idle_word e (to_fill w o mem views g k x ink (ap is_decided e) (idle_open o.shape (cells_of o.shape mem) (settled_words o g) (Flies (ghost_of g) k) (ghost_of g) k (views k) (sight_in Idle e)) a)
 
 -- A USER WORD KEEPS THE WORLD, of an open call and between calls
 pub store_word : (c i : ℕ) → KeepsAt Open (ChunkPart c i)

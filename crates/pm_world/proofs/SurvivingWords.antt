@@ -19,7 +19,8 @@ use Rattle.pm_view.specs.Log.{Phase, Idle, Open, Drawn, Sealing, Applying, Clear
 use Rattle.pm_world.specs.Logs.{IsOld, AreaChange, LogFits, seal_in}
 use Rattle.pm_world.specs.Memory.{Memory, PoolWord, bit}
 use Rattle.pm_world.specs.World.{Opening, Views, Past, AreaFits, World}
-use Rattle.pm_world.specs.Crash.{IsUndrainedOf, Survives, all_taken_back}
+use Rattle.pm_memory.specs.Survivors.{all_taken_back}
+use Rattle.pm_world.specs.Crash.{IsUndrainedOf, Survives}
 
 -- ---- a change that is taken back
 

@@ -43,7 +43,7 @@ module _ (sh : Shape) (L : ℕ) (o : State) (cells : Cells) (sights : ℕ → Si
     pub own_ : (a : Block) → out a ≡ true → (sights k).hold.mine (atom g.geo a) ≡ true
     pub whole : (c : ℕ) → out (Big c) ≡ out (Big (g.geo.first c))
     pub unmade : (c : ℕ) → out (Big c) ≡ true → (sights k).hold.making c ≡ false
-    pub turns : (B : Block) → turn (latest (sights k).call.entries) B ≡ None
+    pub turns : (B : Block) → out B ≡ true → turn (latest (sights k).call.entries) B ≡ None
     pub undiffed : (p : Place) (b : ℕ) → out (block_of g.geo p b) ≡ true → given (diff (sights k).call p b) ≡ false
     pub clean : (p : Place) (b : ℕ) → out (block_of g.geo p b) ≡ true → (sights k).soiled p b ≡ false
 
@@ -85,7 +85,8 @@ module _ (sh : Shape) (L : ℕ) (o : State) (cells : Cells) (sights : ℕ → Si
           };
           bits = λ p b a. f.bits p b (still_owned g.geo (settled o g) h out q.root p b a);
           picture = f.picture;
-          turns = λ B. subst (TurnFits (sights k).phase (h.locked (header sh g.geo B)) (not (out B) && h.mine B) (h.here B)) (sym (q.turns B)) (stay_fits (sights k).phase (h.locked (header sh g.geo B)) (not (out B) && h.mine B) (h.here B));
+          turns = λ B. split (out B) (λ z. TurnFits (sights k).phase (h.locked (header sh g.geo B)) (not z && h.mine B) (h.here B) (turn (latest (sights k).call.entries) B))
+              (λ y. subst (TurnFits (sights k).phase (h.locked (header sh g.geo B)) false (h.here B)) (sym (q.turns B y)) (stay_fits (sights k).phase (h.locked (header sh g.geo B)) false (h.here B))) (λ _. f.turns B);
           call = f.call;
           reach = λ p b y. kept_owned g.geo (settled o g) h out q.root p b (not_out p b y) ∙ f.reach p b y;
           plain = f.plain;

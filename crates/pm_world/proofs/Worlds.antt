@@ -1,20 +1,21 @@
 -- THE WORLD GOES ON: what a step of lane k owes of words, views and ghosts beside the bits.
-use Rattle.std.specs.Prelude.{List, [], ◌∷◌, length, slice_index}
-use Rattle.std.proofs.Common.{◌≡◌, ◌≢◌, ℕ, zero, suc, ◌+◌, ◌^◌, ◌<◌, ◌≤◌, ◌⊎◌, ⊎_elim, true, false, cond, ne_eqb, ◌==◌, refl, sym, ap, ◌∙◌, subst, arith}
-use Rattle.std.proofs.lemmas.Bool.{cases_eq, eqb-true, eq-eqb}
+use Rattle.std.specs.Prelude.{List, [], ◌∷◌, All, length, slice_index}
+use Rattle.std.proofs.Common.{◌≡◌, ◌≢◌, ℕ, zero, suc, ◌+◌, ◌^◌, ◌<◌, ◌≤◌, ◌⊎◌, ⊎_elim, Bool, true, false, cond, ne_eqb, ◌==◌, refl, sym, ap, ◌∙◌, subst, arith, ◌*◌, Some}
+use Rattle.std.proofs.lemmas.Bool.{cases_eq, eqb-true, eq-eqb, both_ways, false_from_ne_true}
 use Rattle.pm_layout.specs.declared.shape.Shape.{Shape}
 use Rattle.pm_record.specs.Undo.{undo_of}
 use Rattle.pm_view.specs.Counts.{IsAtStop}
 use Rattle.pm_view.specs.Changes.{Undrained}
-use Rattle.pm_view.specs.Log.{Phase, Idle, Open, Drawn, Sealing, Applying, Clearing, Retiring, Voiding, Log}
-use Rattle.pm_layout.specs.Areas.{greatest_generation, undo_slots, slot_words, redo_entries}
+use Rattle.pm_view.specs.Log.{Phase, Idle, Open, Drawn, Sealing, Applying, Clearing, Retiring, Voiding, Log, old_of}
+use Rattle.pm_view.specs.Parts.{SlotPart, part_of}
+use Rattle.pm_layout.specs.Areas.{greatest_generation, undo_slots, slot_words, redo_entries, word_of_generation, word_of_seal, word_of_entry, line_of_slot}
 use Rattle.std.proofs.lemmas.Option.{slice_get_within}
-use Rattle.pm_view.specs.Places.{block_of}
+use Rattle.pm_view.specs.Places.{Place, block_of}
 use Rattle.pm_view.specs.View.{View}
-use Rattle.pm_world.specs.States.{State, Diff}
-use Rattle.pm_world.specs.Sights.{sight_of}
-use Rattle.pm_world.specs.Lanes.{has, owns, Flies, SightFits, Bits}
-use Rattle.pm_world.specs.Logs.{used_slots, PhaseFits, LogFits}
+use Rattle.pm_world.specs.States.{State, Diff, there}
+use Rattle.pm_world.specs.Sights.{is_recorded, sight_of}
+use Rattle.pm_world.specs.Lanes.{has, owns, is_decided, Flies, SightFits, Bits}
+use Rattle.pm_world.specs.Logs.{used_slots, seal_in, BumpFits, OldFits, AreaChange, PhaseFits, LogFits}
 use Rattle.pm_world.specs.Memory.{Memory, PoolWord, ZoneLock, CommitCounter, StopWord, cells_of}
 use Rattle.pm_world.specs.World.{Opening, Views, Past, origin, ghost_of, settled_words, numbered_by, AreaFits, LaneFits, may_draw_count, is_header, World}
 use Rattle.pm_world.specs.Laws.{Turn}
@@ -35,6 +36,39 @@ parts_short sh lane picture l changes Voiding f = let a = ap length f.1 in let b
 -- a record in the making has a slot
 pub slot_taken : (l : Log) (i : ℕ) → i < length l.slot → used_slots l ≡ length l.records + 1
 slot_taken l i q = ap (λ t. length l.records + cond t 0 1) (ne_eqb (length l.slot) 0 (λ e. omega arith))
+
+-- A LOG IN THIS PHASE, where the words of its area are as they were
+pub log_again : {sh : Shape} {lane generation seal : ℕ} {entry slot : ℕ → ℕ → ℕ} {S S' : State} {owned owned' : Place → ℕ → Bool} {d d' : Diff} {l : Log} {changes changes' : List Undrained} (ph : Phase)
+    → LogFits sh lane generation seal entry slot S owned d l changes → BumpFits ph l.bumped → seal ≡ seal_in ph (length l.entries) → ((p : Place) (y : ℕ) → old_of l.records p ≡ Some y → OldFits (is_decided ph) S' owned' p y)
+    → All (λ (c : Undrained). part_of sh lane c.word ≡ SlotPart → c.word < 8 * line_of_slot sh lane (used_slots l)) changes' → All (λ (c : Undrained). AreaChange ph (length l.entries) l.generation (part_of sh lane c.word) c) changes'
+    → PhaseFits sh lane d' (record l { phase = ph }) changes' ph → LogFits sh lane generation seal entry slot S' owned' d' (record l { phase = ph }) changes'
+log_again ph f bump sealed olds slots area phase = record {
+  first = f.first;
+  last = f.last;
+  below = f.below;
+  stored = f.stored;
+  bump = bump;
+  sealed = sealed;
+  entries_most = f.entries_most;
+  records_most = f.records_most;
+  pairs = f.pairs;
+  pair_part = f.pair_part;
+  records = f.records;
+  once = f.once;
+  olds = olds;
+  slot_part = f.slot_part;
+  stale = f.stale;
+  slot_changes = slots;
+  area_changes = area;
+  phase = phase;
+}
+
+-- the log over other words that are the same
+abbrev LogIn : Shape → ℕ → (ℕ → ℕ) → State → (Place → ℕ → Bool) → Diff → Log → List Undrained → Type 0
+LogIn sh k u S owned d l changes = LogFits sh k (u (word_of_generation sh k)) (u (word_of_seal sh k)) (λ i h. u (word_of_entry sh k i + h)) (λ j i. u (8 * line_of_slot sh k j + i)) S owned d l changes
+
+pub log_moved : (sh : Shape) (k : ℕ) (old now : ℕ → ℕ) {S : State} {owned : Place → ℕ → Bool} {d : Diff} {l : Log} {changes : List Undrained} → ((w : ℕ) → now w ≡ old w) → LogIn sh k old S owned d l changes → LogIn sh k now S owned d l changes
+log_moved sh k old now {S} {owned} {d} {l} {changes} e f = subst (λ u. LogIn sh k u S owned d l changes) (λ i w. sym (e w) i) f
 
 -- what the step leaves of the other lanes' areas, zone locks and entries
 pub record Aside (o : Opening) (k : ℕ) (mem new : Memory) (g g' : Past) : Type 0 where
@@ -166,3 +200,9 @@ stops_stay views views' k v t stops j e = ⊎_elim (λ (q : j ≡ k). subst (λ 
 -- no bit is owned by two lanes
 pub rights_apart : Rattle.pm_world.specs.Laws.RightsApart
 rights_apart o mem views g x j k ne = owns_apart o.shape (cells_of o.shape mem) (settled_words o g) (Flies (ghost_of g) j) (Flies (ghost_of g) k) (ghost_of g) x.bits.geo x.bits.alone j k (sight_of (views j)) (sight_of (views k)) (x.bits.each_lane j) (x.bits.each_lane k) ne
+
+-- NO WORD OF A BLOCK OF ITS OWN IS RECORDED by a lane whose call is not decided: a record is of what the lane found, and that is allocated
+pub own_unrecorded : (o : Opening) (mem : Memory) (views : Views) (g : Past) → World o mem views g → (k : ℕ) → k < o.lanes → is_decided (views k).log.phase ≡ false → (p : Place) (b : ℕ) → (sight_of (views k)).hold.mine (block_of g.geo p b) ≡ true
+    → is_recorded (views k).log.records p ≡ false
+own_unrecorded o mem views g x k ink u p b m = let hold = (x.bits.each_lane k).hold in let B = block_of g.geo p b in false_from_ne_true (is_recorded (views k).log.records p) (λ r.
+    both_ways (there (settled_words o g) B) (hold.mine B m).2 (hold.found B (hold.here B ((((x.each_lane k ink).recorded u p r).1 b).0)).1).2)

@@ -13,6 +13,7 @@ use Rattle.pm_world.specs.States.{State, Diff, diff, given, live, cell, Cells}
 use Rattle.pm_world.specs.Sights.{is_pictured, picture, is_soiled, is_made, is_recorded, hold_of, call_of, call_in, sight_of}
 use Rattle.pm_world.specs.Lanes.{Ghost, owns, is_in_making, is_decided, in_flight, left, blank, BitFits, open_soils, soils, FlightFits, SightFits}
 use Rattle.pm_world.specs.Memory.{bit}
+use Rattle.pm_world.proofs.Basics.{given_cond, some_cond}
 use Rattle.pm_world.proofs.Entering.{logged_recorded}
 use Rattle.pm_world.proofs.Frame.{some_first, fresh_given}
 use Rattle.pm_world.proofs.StoreArea.{undrained_by}
@@ -20,14 +21,6 @@ use Rattle.pm_world.proofs.StoreArea.{undrained_by}
 given_either : {A : Type 0} → (a c : Option A) → given (Rattle.pm_view.specs.Entries.first_of_two a c) ≡ true → (given a ≡ true) ⊎ (given c ≡ true)
 given_either None c e = inr e
 given_either (Some y) c e = inl refl
-
-given_cond : (t : Bool) (y : Option Bool) → given (cond t y None) ≡ true → (t ≡ true) × (given y ≡ true)
-given_cond true y e = (refl, e)
-given_cond false y e = absurd (both_ways false refl e)
-
-some_cond : (t : Bool) (y : Option Bool) (z : Bool) → cond t y None ≡ Some z → y ≡ Some z
-some_cond true y z e = e
-some_cond false y z e = absurd (both_ways false refl (ap given e))
 
 pub one_cell_twin : (p : Place) → cell (twin p) ≡ cell p
 one_cell_twin (InRun c w) = refl
@@ -64,9 +57,6 @@ pub record Writes (S : State) (g : Ghost) (v : View) (ph : Phase) (w n : ℕ) (p
 
 module _ (sh : Shape) (cells : Cells) (S : State) (flies : ℕ → Diff → Type 0) (g : Ghost) (k : ℕ) (v : View) (ph : Phase) (w n : ℕ) (p₀ : Place) (pool' : State) (generation seal : ℕ → ℕ) (entry slot : ℕ → ℕ → ℕ → ℕ)
     (f : SightFits sh cells S flies g k (record (sight_of v) { phase = ph })) (a : Writes S g v ph w n p₀ cells.pool pool') (flight : (d : Diff) → FlightFits flies ph d) where
-  abbrev new_picture : Diff
-  new_picture = picture v.fixed.shape (Knows w n ∷ v.claims)
-
   abbrev test : Place → ℕ → Bool
   test p b = is_data p && (is_made (turn (latest (redos v.log.entries)) (block_of (geometry v.fixed.shape v.claims) p b)) || is_recorded v.log.records p)
 

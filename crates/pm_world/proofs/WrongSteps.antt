@@ -1,10 +1,12 @@
 -- Steps that are not lawful, by how far the lane's call has come.
-use Rattle.std.specs.Prelude.{List, [], All, Any, unwrap_or}
+use Rattle.std.specs.Prelude.{List, [], ◌∷◌, ◌++◌, All, Any, not, ◌&&◌, unwrap_or}
 use Rattle.std.proofs.Common.{◌≡◌, ◌≢◌, ℕ, ◌+◌, ◌*◌, ◌⊎◌, ⊎_elim, Bool, true, false, refl, sym, ap, ◌∙◌, subst, arith, Some}
-use Rattle.std.proofs.lemmas.Bool.{both_ways}
+use Rattle.std.proofs.lemmas.Bool.{both_ways, and_from}
+use Rattle.std.proofs.lemmas.List.Elements.{All-contains}
 use Rattle.pm_record.specs.declared.redo.Op.{Op}
 use Rattle.pm_record.specs.declared.redo.Op.TheVariants as op
 use Rattle.pm_view.specs.declared.occ.Occ.{Occ}
+use Rattle.pm_view.specs.Claims.{is_among}
 use Rattle.pm_view.specs.Places.{Place, Big}
 use Rattle.pm_view.specs.Entries.{Entry}
 use Rattle.pm_view.specs.Parts.{Part, GenerationPart, SealPart, EntryPart, SlotPart, RootPart, DescriptorPart, ChunkPart, OtherPart}
@@ -14,8 +16,8 @@ use Rattle.pm_view.specs.View.{View, Told}
 use Rattle.pm_view.specs.Views.{part_in}
 use Rattle.pm_world.specs.Sights.{is_logged}
 use Rattle.pm_world.specs.Memory.{Location, Memory, PoolWord, LockWord, RunWord, ZoneWord, ZoneLock, CommitCounter, StopWord, IsSame, IsSameBut}
-use Rattle.pm_world.specs.Lawful.{place_in, block_in, is_mine, names, MayWrite, MayFill, Clears, StoreFits, ChangeFits, GiveFits}
-use Rattle.pm_world.specs.WrongSteps.{IsUnwritable, is_user_part, NoUnloggedChange, NoHastySeal, NoHastyClear, NoHastyGive, NoHastyRelease, NoForeignRelease, NoForeignChunkRelease, NoToldRelease, StoresAreInPool, OccupancyStays}
+use Rattle.pm_world.specs.Lawful.{place_in, block_in, is_mine, names, is_reserve, is_cancelled, IsApartFrom, IsUnnamed, MayWrite, MayFill, Clears, StoreFits, ChangeFits, GiveFits}
+use Rattle.pm_world.specs.WrongSteps.{IsUnwritable, is_user_part, NoUnloggedChange, NoHastySeal, NoHastyClear, NoHastyGive, NoHastyRelease, NoEnteredRelease, NoForeignRelease, NoForeignChunkRelease, NoToldRelease, NoPublishedRelease, StoresAreInPool, OccupancyStays}
 use Rattle.pm_world.proofs.Cells.{sort, other_sort}
 
 -- ---- a user's word
@@ -151,10 +153,12 @@ no_hasty_give v line e law = give_late v line v.log.phase e law.allowed.fits
 
 -- ---- blocks
 pub no_hasty_release : NoHastyRelease
-no_hasty_release v at bits n law =
-    ⊎_elim
-    (λ (a : is_early v.log.phase ≡ false). both_ways (is_early v.log.phase) a law.allowed.early)
-    (λ (a : v.log.entries ≢ []). a law.allowed.unentered) n
+no_hasty_release v at bits n law = both_ways (is_early v.log.phase) n law.allowed.early
+
+pub no_entered_release : NoEnteredRelease
+no_entered_release v at bits e p b c q t u law =
+    both_ways (is_among v.fixed.shape at bits (block_in v p b))
+    (All-contains (IsApartFrom v at bits) v.log.entries e law.allowed.unentered c p b q t) u
 
 pub no_foreign_release : NoForeignRelease
 no_foreign_release v place bits i e m law = both_ways _ m (law.allowed.whole i e)
@@ -173,7 +177,17 @@ none_named v at bits call a f =
     (subst (λ t. names v at bits t ≡ false) a.3 (f a.0 a.1 a.2)) a.4
 
 pub no_told_release : NoToldRelease
-no_told_release v at bits e a law = none_named v at bits v.call a (law.allowed.unnamed e)
+no_told_release v at bits earlier later t e q n c law =
+    go earlier (subst (IsUnnamed v at bits) q (law.allowed.unnamed e))
+  where
+    go : (call : List Told) → IsUnnamed v at bits (call ++ t ∷ later) → ⊥
+    go [] f = both_ways (names v at bits t && not (is_reserve t.operation && is_cancelled later))
+        f.0 (and_from (names v at bits t) _ n (ap not c))
+    go (s ∷ call) f = go call f.1
+
+pub no_published_release : NoPublishedRelease
+no_published_release v at bits e a law =
+    none_named v at bits v.published a (law.allowed.unpublished e)
 
 -- ---- occupancy words
 pub stores_are_in_pool : StoresAreInPool

@@ -1,18 +1,20 @@
 -- What a power failure may leave of a world's words, which calls it loses, and what recovery then gives.
 use Rattle.std.specs.Prelude.{◌≡◌, ◌⊎◌, ℕ, zero, suc, ◌+◌, ◌<◌, ◌≤◌, ◌==◌, ◌&&◌, ◌||◌, not, cond, Bool, true, false, All, Contains, List, [], ◌∷◌, length, slice_index, Some}
 use Rattle.pm_record.specs.declared.undo.Undo.{Undo}
+use Rattle.pm_layout.specs.Areas.{old_words}
 use Rattle.pm_layout.specs.Chunks.{chunks_of, word_of_chunk}
 use Rattle.pm_image.specs.Logs.{undo_slot, generation_word, recovered, seal_word}
 use Rattle.pm_image.specs.Steps.{valid_record}
 use Rattle.pm_view.specs.declared.change.Change.{Change}
-use Rattle.pm_view.specs.Changes.{Undrained, IsUndrained, IsFormed, taken_back}
+use Rattle.pm_view.specs.Changes.{Undrained, IsUndrained, IsFormed}
 use Rattle.pm_view.specs.Log.{Phase, Sealing, Retiring, Recorded}
-use Rattle.pm_view.specs.Places.{Place, is_place}
+use Rattle.pm_view.specs.Places.{Place, is_place, place_after}
 use Rattle.pm_view.specs.View.{View}
+use Rattle.pm_memory.specs.Survivors.{all_taken_back}
 use Rattle.pm_world.specs.States.{State, live, replay}
 use Rattle.pm_world.specs.Sights.{is_slot_drained}
 use Rattle.pm_world.specs.Logs.{IsRecordAt, spelled, used_slots}
-use Rattle.pm_world.specs.Lawful.{CanRecord}
+use Rattle.pm_world.specs.Lawful.{IsRecordable}
 use Rattle.pm_world.specs.Memory.{Memory, PoolWord, bit, bits_of, descriptor_told}
 use Rattle.pm_world.specs.World.{Opening, Views, Past, origin, ghost_of, is_header}
 
@@ -25,11 +27,6 @@ pub record IsUndrainedOf (views : Views) (lanes w : ℕ) (c : Change) : Type 0 w
   pub seen : Undrained
   pub there : Contains (views lane).changes seen
   pub is : IsUndrained c seen
-
--- the word with these changes taken back, the latest first
-abbrev pub all_taken_back : List Change → ℕ → ℕ
-all_taken_back [] x = x
-all_taken_back (c ∷ changes) x = taken_back c (all_taken_back changes x)
 
 -- x is left of a word: of its undrained changes some were taken back, in any order
 pub record IsLeft (mem : Memory) (views : Views) (lanes w x : ℕ) : Type 0 where
@@ -46,10 +43,16 @@ pub record Survives (o : Opening) (mem : Memory) (views : Views) (image : List �
 abbrev pub IsBeingWritten : View → ℕ → Type 0
 IsBeingWritten v j = (is_slot_drained v.fixed.shape v.fixed.lane v.changes j ≡ false) ⊎ ((length v.log.records ≤ j) × (j < used_slots v.log))
 
--- the slot holds, whole, the log's record of this slot, or, where the log has none there yet, one that could be written there now
+-- a record that the lane may be storing: of one to four present values of words that it may change and that have no record
+pub record IsNextRecord (v : View) (r : Recorded) : Type 0 where
+  pub some : 1 ≤ length r.old
+  pub most : length r.old ≤ old_words v.fixed.shape
+  pub each : (i : ℕ) → i < length r.old → IsRecordable v (place_after r.place i) (slice_index r.old i)
+
+-- the slot holds, whole, the log's record of this slot, or, where the log has none there yet, one that the lane may be storing
 pub record IsWhole (v : View) (image : List ℕ) (j : ℕ) : Type 0 where
   pub held : Recorded
-  pub lawful : IsRecordAt v.log j held ⊎ ((length v.log.records ≤ j) × CanRecord v held)
+  pub lawful : IsRecordAt v.log j held ⊎ ((length v.log.records ≤ j) × IsNextRecord v held)
   pub spells : undo_slot image v.fixed.lane j ≡ spelled v.fixed.shape v.log.generation held
 
 -- NO TORN RECORD: where a slot that is being written is valid in the image, it is whole

@@ -8,12 +8,14 @@ use Rattle.pm_layout.specs.Sizes.{blocks_of}
 use Rattle.pm_record.specs.Redo.{op_code}
 use Rattle.pm_record.specs.declared.redo.Op.{Op}
 use Rattle.pm_record.specs.declared.redo.Op.TheVariants as op
+use Rattle.pm_objects.specs.declared.calls.Operation.{Operation}
+use Rattle.pm_objects.specs.declared.calls.Operation.TheVariants.{Reserve, Publish, Cancel}
 use Rattle.pm_objects.specs.declared.history.Value.{Value}
 use Rattle.pm_objects.specs.declared.history.Value.TheVariants.{Offset}
 use Rattle.pm_view.specs.declared.occ.Occ.{Occ}
 use Rattle.pm_view.specs.declared.occ.Occ.TheVariants.{Run, Zone}
 use Rattle.pm_view.specs.Changes.{Undrained}
-use Rattle.pm_view.specs.Places.{Place, InRun, InHuge, Descr, RootWord, Block, Small, Big, Root, block_of, in_span, is_data, word_of, place_after, is_place}
+use Rattle.pm_view.specs.Places.{Place, InRun, InHuge, Descr, RootWord, Block, Small, Big, Root, block_of, is_data, word_of, place_after, is_place}
 use Rattle.pm_view.specs.Entries.{Entry, given_bit, latest, redos, turn}
 use Rattle.pm_view.specs.Parts.{Part, GenerationPart, SealPart, EntryPart, SlotPart, RootPart, DescriptorPart, ChunkPart}
 use Rattle.pm_view.specs.Log.{Phase, Idle, Open, Drawn, Applying, Recorded, is_early, place_at}
@@ -24,7 +26,7 @@ use Rattle.pm_view.specs.Steps.{Step}
 use Rattle.pm_view.specs.Steps.Step.{Load, Store, Or, And, Flush, Drain, TakeWrite, TakeRead, Raise, Give, ZoneTry, ZoneGive, Occupied, Occupy, Vacate, Draw, NumberSeen, StopSeen, SetStop, Tell}
 use Rattle.pm_view.specs.View.{View, Told}
 use Rattle.pm_view.specs.Views.{part_in, value_in}
-use Rattle.pm_world.specs.States.{root_line}
+use Rattle.pm_world.specs.States.{given, root_line}
 use Rattle.pm_world.specs.Sights.{is_recorded, is_logged, picture}
 use Rattle.pm_world.specs.Lanes.{all_held}
 use Rattle.pm_world.specs.Logs.{spelled, EntryOf, AreWhole, AreRestored}
@@ -57,13 +59,6 @@ is_mine v B = mine v.fixed.shape v.claims B
 abbrev pub is_here : View → Block → Bool
 is_here v B = here v.fixed.shape v.claims B
 
--- the chunk of a word of a huge block is among those that the lane knows it to have now: before, the block may have had more
-abbrev pub is_inside : View → Place → Bool
-is_inside v (InRun c w) = true
-is_inside v (InHuge c w) = in_span (first v.fixed.shape v.claims c) (span v.fixed.shape v.claims (first v.fixed.shape v.claims c)) c
-is_inside v (Descr c) = true
-is_inside v RootWord = true
-
 -- of a block's words those that its own lock guards: type, first member, and the data; and the links are guarded by a list's lock. The size stays
 abbrev pub is_guarded : ℕ → Bool
 is_guarded offset = offset == 0 || offset == 5 || nat_le 8 offset
@@ -75,28 +70,30 @@ HoldsRoot v x = all_held (locked v.claims) (0 ∷ root_line x) ≡ true
 -- THE LANE MAY CHANGE THE WORD ITSELF: it is data of an object found under its write lock, or the root word under its guards
 abbrev pub MayChangeAt : View → Place → Type 0
 MayChangeAt v (InRun c w) = IsTrue (is_here v (block_in v (InRun c w) 64)) × IsTrue (is_data (InRun c w)) × IsTrue (is_guarded (offset_in v (InRun c w)))
-MayChangeAt v (InHuge c w) = IsTrue (is_here v (block_in v (InHuge c w) 64)) × IsTrue (is_guarded (offset_in v (InHuge c w))) × IsTrue (is_inside v (InHuge c w))
+MayChangeAt v (InHuge c w) = IsTrue (is_here v (block_in v (InHuge c w) 64)) × IsTrue (is_guarded (offset_in v (InHuge c w)))
 MayChangeAt v (Descr c) = ⊥
 MayChangeAt v RootWord = IsSomeAnd (value_in v (word_of v.fixed.shape RootWord)) (λ x. HoldsRoot v x)
 
 -- ---- STORES IN AN UNDO SLOT: the slots are taken in order, and their words too; a record is of one to four present values of words that the lane may
 -- change, none of them recorded before, and no entry is stored yet
-pub record CanRecordAt (v : View) (p : Place) (x : ℕ) : Type 0 where
+pub record IsRecordable (v : View) (p : Place) (x : ℕ) : Type 0 where
   pub own : MayChangeAt v p
   pub plain : is_data p ≡ true
   pub place : is_place v.fixed.shape p ≡ true
   pub present : knows v (word_of v.fixed.shape p) ≡ Some x
+  pub new : is_recorded v.log.records p ≡ false
+
+-- and the word is in a line that its object has
+pub record CanRecordAt (v : View) (p : Place) (x : ℕ) : Type 0 where
+  pub word : IsRecordable v p x
   pub small : x < 2 ^ 64
-  -- the word is in a line that its object has
   pub size : ℕ
   pub sized : knows v (size_in v p) ≡ Some size
   pub within : offset_in v p / 8 ≤ (size + 63) / 64
-  pub new : is_recorded v.log.records p ≡ false
 
 pub record CanRecord (v : View) (r : Recorded) : Type 0 where
   pub some : 1 ≤ length r.old
   pub most : length r.old ≤ old_words v.fixed.shape
-  pub below : v.log.generation < greatest_generation v.fixed.shape
   pub each : (i : ℕ) → i < length r.old → CanRecordAt v (place_after r.place i) (slice_index r.old i)
   pub use_ : place_in v (word_of v.fixed.shape r.place) ≡ Some r.place
 
@@ -120,7 +117,7 @@ EntersDescriptor v c how value = (how ≡ op.Set) × (making v.fixed.shape v.cla
 
 -- data of a block of the lane's own, after its header's words
 abbrev pub IsOwnData : View → Place → Type 0
-IsOwnData v p = IsTrue (is_data p) × IsTrue (is_mine v (block_in v p 64)) × (8 ≤ offset_in v p) × IsTrue (is_inside v p)
+IsOwnData v p = IsTrue (is_data p) × IsTrue (is_mine v (block_in v p 64)) × (8 ≤ offset_in v p)
 
 abbrev pub EntersAt : View → Place → Op → ℕ → Type 0
 EntersAt v (InRun c zero) how value = EntersBitmap v c how value
@@ -158,8 +155,6 @@ pub record MayFill (v : View) (w : ℕ) : Type 0 where
   pub at : place_in v w ≡ Some place
   pub plain : is_data place ≡ true
   pub own : is_mine v (block_in v place 64) ≡ true
-  pub inside : is_inside v place ≡ true
-  pub unrecorded : is_recorded v.log.records place ≡ false
   pub unentered : v.log.entries ≡ []
 
 -- ---- A CHUNK IS MADE A RUN of a class: it is one chunk of the lane's own, its bitmap is 0 and nothing of it is undrained, and no entry is stored
@@ -257,7 +252,7 @@ pub record MayRaise (v : View) (line : ℕ) : Type 0 where
 -- root word, which the line may guard
 abbrev pub GiveFits : View → ℕ → Phase → Type 0
 GiveFits v line Idle = Unit {0}
-GiveFits v line Open = (line ≢ 0) × ((B : Block) → found v.fixed.shape v.claims B ≡ true → header_in v.fixed.shape v.claims B ≢ line)
+GiveFits v line Open = ((B : Block) → found v.fixed.shape v.claims B ≡ true → header_in v.fixed.shape v.claims B ≢ line)
     × All (λ (e : Entry). e.place ≢ Some RootWord) v.log.entries
 GiveFits v line phase = ⊥
 
@@ -296,35 +291,47 @@ GivesWhole v (Zone zone) bits = (i : ℕ) → bit_at bits i ≡ 1 → i < 64
 abbrev pub is_in_blocks : View → Occ → ℕ → ℕ → Bool
 is_in_blocks v at bits w = passes (is_among v.fixed.shape at bits) (block_at v.fixed.shape v.claims w)
 
--- a reply of the open call names the block, which is no pending reservation's: it goes back once the call has its number
-abbrev pub offset_told : Option Value → Option ℕ
-offset_told (Some (Offset off)) = Some off
-offset_told reply = None
-
-abbrev pub is_told_in : Option ℕ → List Told → Bool
-is_told_in None told = false
-is_told_in (Some off) told = list_any (λ (t : Told). is_offset off (offset_told t.reply)) told
-  where
-    is_offset : ℕ → Option ℕ → Bool
-    is_offset off None = false
-    is_offset off (Some other) = off == other
+-- the operation's reply names one of these blocks
+abbrev pub names_by : View → Occ → ℕ → Option Value → Bool
+names_by v at bits (Some (Offset off)) = is_in_blocks v at bits (off / 8)
+names_by v at bits reply = false
 
 abbrev pub names : View → Occ → ℕ → Told → Bool
-names v at bits t = offset_in_blocks (offset_told t.reply) && not (is_told_in (offset_told t.reply) v.actions)
-  where
-    offset_in_blocks : Option ℕ → Bool
-    offset_in_blocks None = false
-    offset_in_blocks (Some off) = is_in_blocks v at bits (off / 8)
+names v at bits t = names_by v at bits t.reply
 
--- A LANE GIVES BACK blocks of its own: nothing undrained is in them, nor any entry; and of a call that has entries none goes back before its log is retired
+-- what was reserved before these operations is cancelled by them, and was not published before
+abbrev pub cancels : Operation → Option Value → Bool → Bool
+cancels Cancel None later = true
+cancels Publish None later = false
+cancels operation reply later = later
+
+abbrev pub is_cancelled : List Told → Bool
+is_cancelled [] = false
+is_cancelled (t ∷ later) = cancels t.operation t.reply (is_cancelled later)
+
+abbrev pub is_reserve : Operation → Bool
+is_reserve (Reserve size kind) = true
+is_reserve operation = false
+
+-- no reply of these operations names a block of these, but that of a reservation that later ones of them cancel
+abbrev pub IsUnnamed : View → Occ → ℕ → List Told → Type 0
+IsUnnamed v at bits [] = Unit {0}
+IsUnnamed v at bits (t ∷ later) = ((names v at bits t && not (is_reserve t.operation && is_cancelled later)) ≡ false) × IsUnnamed v at bits later
+
+-- the entry changes no bit of these blocks
+abbrev pub IsApartFrom : View → Occ → ℕ → Entry → Type 0
+IsApartFrom v at bits e = (p : Place) (b : ℕ) → e.place ≡ Some p → given (given_bit e.op e.value b) ≡ true → is_among v.fixed.shape at bits (block_in v p b) ≡ false
+
+-- A LANE GIVES BACK blocks of its own: nothing undrained is in them, no entry changes a bit of them, and its call is not in flight or to be applied. Before the call has its number none goes back that a reply of the call names, but for a cancelled reservation, nor one that the call published
 pub record MayVacate (v : View) (at : Occ) (bits : ℕ) : Type 0 where
   pub there : HasOcc v at
   pub small : bits < 2 ^ 64
   pub whole : GivesWhole v at bits
   pub drained : All (λ (u : Undrained). is_in_blocks v at bits u.word ≡ false) v.changes
-  pub unentered : v.log.entries ≡ []
+  pub unentered : All (IsApartFrom v at bits) v.log.entries
   pub early : is_early v.log.phase ≡ true
-  pub unnamed : v.log.phase ≡ Open → All (λ (t : Told). names v at bits t ≡ false) v.call
+  pub unnamed : v.log.phase ≡ Open → IsUnnamed v at bits v.call
+  pub unpublished : v.log.phase ≡ Open → All (λ (t : Told). names v at bits t ≡ false) v.published
 
 -- ---- A NUMBER IS DRAWN once a call, which saw a number below the limit, with no record and no entry in the making and all drained; or, of a call that has
 -- none, all but words of blocks of its own. The new blocks are marked, and their lines that their objects have are stored

@@ -10,9 +10,16 @@ pub mod Course
 pub mod Crash
 pub mod Laws
 pub mod Histories
-pub mod Decisions
 pub mod Opens
 pub mod BlockLines
 pub mod WrongSteps
 pub mod Reports
 pub mod Runs
+pub mod Lent
+pub mod Solo
+pub mod SoloWorld
+pub mod OwnedBits
+pub mod LaneFields
+pub mod Causes
+pub mod CauseLaws
+pub mod SoloLanes

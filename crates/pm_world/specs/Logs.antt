@@ -1,5 +1,5 @@
 -- How a lane's log, as its view has it, stands in its area of the pool: the generation, the seal, the entries in their pairs and the records in their slots.
-use Rattle.std.specs.Prelude.{◌≡◌, ◌≢◌, ◌⊎◌, ℕ, suc, ◌+◌, ◌-◌, ◌*◌, ◌^◌, ◌<◌, ◌≤◌, Bool, true, false, cond, ◌==◌, All, Contains, List, [], ◌∷◌, ◌++◌, length, replicate, slice_get, slice_index, None, Some, IfSome}
+use Rattle.std.specs.Prelude.{◌≡◌, ◌≢◌, ◌⊎◌, ℕ, suc, ◌+◌, ◌-◌, ◌*◌, ◌^◌, ◌<◌, ◌≤◌, Bool, true, false, cond, ◌==◌, All, Contains, List, [], ◌∷◌, ◌++◌, length, replicate, slice_get, slice_index, Option, None, Some, IfSome}
 use Rattle.std.specs.Int.{bit_at}
 use Rattle.pm_layout.specs.declared.shape.Shape.{Shape}
 use Rattle.pm_layout.specs.Areas.{greatest_generation, undo_slots, slot_words, old_words, redo_entries, word_of_generation, line_of_slot}
@@ -68,28 +68,34 @@ BumpFits Voiding bumped = bumped ≡ true
 BumpFits phase bumped = bumped ≡ false
 
 -- the change is of a whole word, which was x
+abbrev pub WasWord : ℕ → ℕ → Option ℕ → Type 0
+WasWord x mask old = (mask ≡ all_bits) × (old ≡ Some x)
+
 abbrev pub IsOld : ℕ → Undrained → Type 0
-IsOld x c = (c.mask ≡ all_bits) × (c.old ≡ Some x)
+IsOld x c = WasWord x c.mask c.old
 
 -- an undrained change of the lane: of its area's words the log may grow; the seal and the generation are known as they were, and so is the descriptor of a
 -- run that it makes; entries change descriptors whole; and of no other lane's area is any
+abbrev pub AreaBits : Phase → ℕ → ℕ → Part → ℕ → Option ℕ → Type 0
+AreaBits Open count generation SlotPart mask old = Unit {0}
+AreaBits Open count generation EntryPart mask old = Unit {0}
+AreaBits (Sealing n) count generation SealPart mask old = WasWord 0 mask old
+AreaBits Clearing count generation SealPart mask old = WasWord count mask old
+AreaBits (Applying todo) count generation GenerationPart mask old = WasWord generation mask old
+AreaBits (Retiring n) count generation GenerationPart mask old = WasWord generation mask old
+AreaBits Voiding count generation GenerationPart mask old = WasWord generation mask old
+AreaBits Open count generation (DescriptorPart d) mask old = WasWord 0 mask old
+AreaBits (Applying todo) count generation (DescriptorPart d) mask old = mask ≡ all_bits
+AreaBits phase count generation GenerationPart mask old = ⊥
+AreaBits phase count generation SealPart mask old = ⊥
+AreaBits phase count generation EntryPart mask old = ⊥
+AreaBits phase count generation SlotPart mask old = ⊥
+AreaBits phase count generation (DescriptorPart d) mask old = ⊥
+AreaBits phase count generation OtherPart mask old = ⊥
+AreaBits phase count generation part mask old = Unit {0}
+
 abbrev pub AreaChange : Phase → ℕ → ℕ → Part → Undrained → Type 0
-AreaChange Open count generation SlotPart c = Unit {0}
-AreaChange Open count generation EntryPart c = Unit {0}
-AreaChange (Sealing n) count generation SealPart c = IsOld 0 c
-AreaChange Clearing count generation SealPart c = IsOld count c
-AreaChange (Applying todo) count generation GenerationPart c = IsOld generation c
-AreaChange (Retiring n) count generation GenerationPart c = IsOld generation c
-AreaChange Voiding count generation GenerationPart c = IsOld generation c
-AreaChange Open count generation (DescriptorPart d) c = IsOld 0 c
-AreaChange (Applying todo) count generation (DescriptorPart d) c = c.mask ≡ all_bits
-AreaChange phase count generation GenerationPart c = ⊥
-AreaChange phase count generation SealPart c = ⊥
-AreaChange phase count generation EntryPart c = ⊥
-AreaChange phase count generation SlotPart c = ⊥
-AreaChange phase count generation (DescriptorPart d) c = ⊥
-AreaChange phase count generation OtherPart c = ⊥
-AreaChange phase count generation part c = Unit {0}
+AreaChange phase count generation part c = AreaBits phase count generation part c.mask c.old
 
 -- every recorded word has its old value again
 abbrev pub AreRestored : Diff → List Recorded → Type 0

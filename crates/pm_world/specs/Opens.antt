@@ -3,12 +3,16 @@
 -- lane's log is retired; no lock is held, and no number drawn; the occupancy words are what the
 -- pool's words take.
 use Rattle.std.specs.Prelude.{◌≡◌, ℕ, ◌+◌, ◌*◌, ◌/◌, ◌^◌, ◌<◌, ◌≤◌, nat_lt, length, slice_index}
-use Rattle.std.specs.Prelude.{Bool, true, not, ◌&&◌, ◌||◌, None, Some}
+use Rattle.std.specs.Prelude.{Bool, true, not, ◌&&◌, ◌||◌, List, None, Some}
 use Rattle.std.specs.List.{list_any, range_with_len}
 use Rattle.pm_layout.specs.Areas.{greatest_generation, undo_slots, word_of_generation, word_of_seal, line_of_slot}
 use Rattle.pm_layout.specs.Chunks.{words_of, chunks_of, word_of_chunk, word_of_descriptor}
 use Rattle.pm_layout.specs.Sizes.{blocks_of}
 use Rattle.pm_image.specs.HeapFaults.{heap_fault}
+use Rattle.pm_image.specs.Logs.{generation_word}
+use Rattle.pm_image.specs.Means.{IsMeaning}
+use Rattle.pm_objects.specs.declared.pool.PoolView.{PoolView}
+use Rattle.pm_recover.specs.Recovery.{IsRecovered}
 use Rattle.pm_record.specs.Undo.{undo_of}
 use Rattle.pm_record.specs.declared.undo.Undo.{Undo}
 use Rattle.pm_view.specs.Claims.{is_run, is_huge}
@@ -32,14 +36,11 @@ pub record IsRetired (o : Opening) (lane generation : ℕ) : Type 0 where
       ≡ Some u
       → u.generation < generation
 
--- the lanes' constants, their generations, and the memory, before any step
-pub record IsOpening (o : Opening) (mem : Memory) (fixed : ℕ → Constants) (generation : ℕ → ℕ)
-    : Type 0 where
+-- how many lanes run, their constants, and the memory, before any step
+pub record IsStart (o : Opening) (mem : Memory) (fixed : ℕ → Constants) : Type 0 where
   pub some_lanes : 1 ≤ o.lanes
   pub most_lanes : o.lanes ≤ o.shape.lanes
   pub few_lanes : o.lanes ≤ 32
-  pub size : length o.words ≡ words_of o.shape
-  pub small : (w : ℕ) → slice_index o.words w < 2 ^ 64
   pub words : (w : ℕ) → mem (PoolWord w) ≡ slice_index o.words w
   pub locks : (l : ℕ) → mem (LockWord l) ≡ 0
   pub zone_locks : (z : ℕ) → mem (ZoneLock z) ≡ 0
@@ -48,6 +49,13 @@ pub record IsOpening (o : Opening) (mem : Memory) (fixed : ℕ → Constants) (g
   pub lane : (k : ℕ) → (fixed k).lane ≡ k
   pub shape : (k : ℕ) → (fixed k).shape ≡ o.shape
   pub lanes : (k : ℕ) → (fixed k).lanes ≡ o.lanes
+
+-- the same, over words of the pool's size, and each lane's log is retired at its generation
+pub record IsOpening (o : Opening) (mem : Memory) (fixed : ℕ → Constants) (generation : ℕ → ℕ)
+    : Type 0 where
+  pub start : IsStart o mem fixed
+  pub size : length o.words ≡ words_of o.shape
+  pub small : (w : ℕ) → slice_index o.words w < 2 ^ 64
   pub retired : (k : ℕ) → k < o.shape.lanes → IsRetired o k (generation k)
 
 -- each lane was asked nothing
@@ -71,10 +79,29 @@ takes o (Small c i) =
 takes o (Big c) = is_run (descriptor o c) || is_in_huge o c
 takes o Root = true
 
--- THE OPENING LAW: a world opens, for some ghosts
+-- the occupancy words are what the pool's words take
+abbrev pub IsTaken : Opening → Memory → Type 0
+IsTaken o mem =
+    (a : Block) → is_occupancy o.shape a ≡ true → (cells_of o.shape mem).occ a ≡ takes o a
+
+-- a world of lanes that were asked nothing, for some ghosts; its history is empty
+abbrev pub OpensIdle : Opening → Memory → (ℕ → Constants) → (ℕ → ℕ) → Type 0
+OpensIdle o mem fixed generation =
+    (g : Past) × World o mem (idle_views fixed generation) g × (g.length ≡ 0)
+
+-- THE OPENING LAW: a world opens
 abbrev pub Opens : Type 0
 Opens = (o : Opening) (mem : Memory) (fixed : ℕ → Constants) (generation : ℕ → ℕ)
     → IsOpening o mem fixed generation
     → heap_fault (slice_index o.words) o.shape.lanes o.shape.zones ≡ None
-    → ((a : Block) → is_occupancy o.shape a ≡ true → (cells_of o.shape mem).occ a ≡ takes o a)
-    → (g : Past) × World o mem (idle_views fixed generation) g
+    → IsTaken o mem → OpensIdle o mem fixed generation
+
+-- WHAT RECOVERY LEAVES OPENS A WORLD of however many of the pool's lanes, each at the generation
+-- that its area has: of an image that means a pool, recovered
+abbrev pub RecoveredOpens : Type 0
+RecoveredOpens = (before : List ℕ) (pool : PoolView) (o : Opening)
+    → IsMeaning before pool → IsRecovered before o.words pool.lanes
+    → o.shape.lanes ≡ pool.lanes → o.shape.zones ≡ pool.zones
+    → ((w : ℕ) → slice_index o.words w < 2 ^ 64)
+    → (mem : Memory) (fixed : ℕ → Constants) → IsStart o mem fixed → IsTaken o mem
+    → OpensIdle o mem fixed (generation_word o.words)

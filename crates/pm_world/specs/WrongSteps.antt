@@ -1,22 +1,23 @@
 -- STEPS THAT A LANE MAY NOT MAKE, whatever it knows and whatever other lanes hold.
-use Rattle.std.specs.Prelude.{◌≡◌, ◌≢◌, ◌⊎◌, ℕ, ◌+◌, ◌*◌, ◌<◌, ◌≤◌, Bool, true, false, Any, List, [], Some}
+use Rattle.std.specs.Prelude.{◌≡◌, ◌≢◌, ◌⊎◌, ℕ, ◌+◌, ◌*◌, ◌<◌, ◌≤◌, Bool, true, false, Any, Contains, List, [], ◌∷◌, ◌++◌, ◌&&◌, Some}
 use Rattle.std.specs.Int.{bit_at}
 use Rattle.pm_layout.specs.Chunks.{words_of}
 use Rattle.pm_view.specs.declared.occ.Occ.{Occ}
 use Rattle.pm_view.specs.declared.occ.Occ.TheVariants.{Run, Zone}
 use Rattle.pm_view.specs.Places.{Place, Small, Big}
-use Rattle.pm_view.specs.Entries.{Entry}
+use Rattle.pm_view.specs.Entries.{Entry, given_bit}
 use Rattle.pm_view.specs.Parts.{Part, SealPart, RootPart, ChunkPart}
 use Rattle.pm_view.specs.Log.{Open, Applying, is_early}
-use Rattle.pm_view.specs.Claims.{span, run_chunk}
+use Rattle.pm_view.specs.Claims.{span, run_chunk, is_among}
 use Rattle.pm_view.specs.Steps.{Step}
 use Rattle.pm_view.specs.Steps.Step.{Store, Or, And, Give, Occupy, Vacate}
 use Rattle.pm_view.specs.View.{View, Told}
 use Rattle.pm_view.specs.Views.{part_in}
+use Rattle.pm_world.specs.States.{given}
 use Rattle.pm_world.specs.Sights.{is_logged}
 use Rattle.pm_world.specs.Memory.{Memory, RunWord, ZoneWord}
 use Rattle.pm_world.specs.Moves.{Moves}
-use Rattle.pm_world.specs.Lawful.{IsLawful, place_in, block_in, is_mine, names}
+use Rattle.pm_world.specs.Lawful.{IsLawful, place_in, block_in, is_mine, names, is_reserve, is_cancelled}
 
 -- the step is not lawful to a lane with this view
 abbrev pub IsUnlawful : View → Step → Type 0
@@ -72,11 +73,18 @@ NoHastyGive = (v : View) (line : ℕ)
 
 -- ---- BLOCKS
 
--- A call releases no block while its log has an entry, nor from its number on until its log is
+-- From its number on a call that has records or entries releases no block until its log is
 -- retired: so none while the log is sealed, its entries are applied or its seal is cleared
 abbrev pub NoHastyRelease : Type 0
 NoHastyRelease = (v : View) (at : Occ) (bits : ℕ)
-    → (is_early v.log.phase ≡ false) ⊎ (v.log.entries ≢ [])
+    → is_early v.log.phase ≡ false
+    → IsUnlawful v (Vacate at bits)
+
+-- Before its number it releases no block of which an entry of its log changes a bit
+abbrev pub NoEnteredRelease : Type 0
+NoEnteredRelease = (v : View) (at : Occ) (bits : ℕ) (e : Entry) (p : Place) (b : ℕ)
+    → Contains v.log.entries e → e.place ≡ Some p → given (given_bit e.op e.value b) ≡ true
+    → is_among v.fixed.shape at bits (block_in v p b) ≡ true
     → IsUnlawful v (Vacate at bits)
 
 -- A block of a run that is not the lane's own is not released, allocated or not
@@ -93,12 +101,20 @@ NoForeignChunkRelease = (v : View) (zone bits i : ℕ)
     → is_mine v (Big f) ≡ false)
     → IsUnlawful v (Vacate (Zone zone) bits)
 
--- Before a call has its number, and while its log may grow, no block is released that a reply of
--- the call names, unless the reply is a reservation's that is pending
+-- Before a call has its number no block is released that a reply of the call names, unless the
+-- reply is a reservation's that later operations of the call cancel: one that is pending is not
 abbrev pub NoToldRelease : Type 0
-NoToldRelease = (v : View) (at : Occ) (bits : ℕ)
+NoToldRelease = (v : View) (at : Occ) (bits : ℕ) (earlier later : List Told) (t : Told)
     → v.log.phase ≡ Open
-    → Any (λ (t : Told). names v at bits t ≡ true) v.call
+    → v.call ≡ earlier ++ t ∷ later → names v at bits t ≡ true
+    → (is_reserve t.operation && is_cancelled later) ≡ false
+    → IsUnlawful v (Vacate at bits)
+
+-- Nor is one that was reserved, in whichever call, and that the call published
+abbrev pub NoPublishedRelease : Type 0
+NoPublishedRelease = (v : View) (at : Occ) (bits : ℕ)
+    → v.log.phase ≡ Open
+    → Any (λ (t : Told). names v at bits t ≡ true) v.published
     → IsUnlawful v (Vacate at bits)
 
 -- ---- OCCUPANCY WORDS

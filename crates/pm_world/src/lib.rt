@@ -5,29 +5,51 @@
 //! It speaks of places and bits, and of the calls by what they make final; what they mean is
 //! said above. Docs/MODEL.md, "The world of any number of lanes".
 //!
-//! It is proved that recovered words, of which nothing of the heap is wrong, open a world; of all
+//! It is proved that what recovery leaves of an image that means a pool opens a world; of all
 //! twenty kinds of step that they keep the world; of each world that every crash image keeps the
 //! decided calls, means what the kept calls do and has no fault in its logs; that two lanes own
 //! no common bit; that two blocks, allocated or a lane's own, share no line; that a run stays a
 //! run of its class; that what each call held, knew and found as it took its number agrees with
 //! the kept words before it; that numbers do not run out, a stop word that is set shows a lane at
-//! its stop number and occupancy bits are exact; and which steps, wrong ones, are not lawful.
+//! its stop number and occupancy bits are exact; that each `Busy`, `NoObject` and `NoSpace` that a
+//! lane's view keeps has its cause in the history; and which steps, wrong ones, are not lawful.
 //!
-//! Still to come: the causes of `Busy`, `NoObject` and `NoSpace`.
+//! `LawfulMem` is what an engine steps on: any memory that takes each step that the lane's view
+//! allows. `Lane` has such a memory and the lane's lists. Over the memory of one lane it is proved
+//! that each lawful call leads to the world after its step, and that what survives there survives
+//! in the world.
 #![tactic(auto)]
 
+mod adds;
 mod block_laws;
 mod crash_laws;
 mod history;
+mod lane;
+mod lawful_mem;
 mod laws;
+mod lent;
 mod opening;
+mod owned_bits;
 mod report_laws;
+mod solo;
+mod solo_laws;
 mod wrong_steps;
 
+pub use adds::Adds;
 pub use block_laws::{a_run_stays_a_run, blocks_share_no_line};
 pub use crash_laws::crash_keeps_decided_calls;
 pub use history::history_stands;
+pub use lane::{HeldLock, Lane, PendingAction, Span};
+pub use lawful_mem::LawfulMem;
 pub use laws::{lawful_steps_keep_the_world, no_bit_is_owned_twice, runs_keep_worlds};
-pub use opening::recovered_words_open_a_world;
-pub use report_laws::worlds_bear_reports;
+pub use lent::{LentOperation, LentValue};
+pub use opening::{recovered_words_open_a_world, recovery_opens_a_world};
+pub use owned_bits::OwnedBits;
+pub use report_laws::{answers_have_causes, steps_show_causes, worlds_bear_reports};
+pub use solo_laws::{
+    memory_survivors_survive_in_worlds, solo_calls_keep_worlds, solo_memory_stands_in_its_world,
+};
 pub use wrong_steps::wrong_steps_are_not_lawful;
+
+#[cfg(test)]
+mod tests;

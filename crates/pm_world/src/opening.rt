@@ -1,8 +1,15 @@
-ghost use Rattle.pm_world.specs.Opens.{Opens};
+ghost use Rattle.pm_world.specs.Opens.{Opens, RecoveredOpens};
 
 /// A law: recovered words of which nothing of the heap is wrong open a world, with no lane asked
 /// anything, where each lane's log is retired, no lock is held, no number is drawn, and the
-/// occupancy words are what the pool's words take. No code runs.
+/// occupancy words are what the pool's words take. Its history is empty. No code runs.
 pub fn recovered_words_open_a_world()
     ensures { Opens }
+{}
+
+/// A law: what recovery leaves of an image that means a pool opens a world of however many of the
+/// pool's lanes, where no lock is held, no number is drawn, and the occupancy words are what the
+/// pool's words take. No code runs.
+pub fn recovery_opens_a_world()
+    ensures { RecoveredOpens }
 {}

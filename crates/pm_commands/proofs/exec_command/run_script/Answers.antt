@@ -1,7 +1,8 @@
-use Rattle.std.proofs.Common.{refl, sym, subst}
+use Rattle.std.proofs.Common.{ap, refl, sym, subst, ◌∙◌}
+use Rattle.pm_script.specs.Stops.{stop_of}
 use Rattle.solo_script.proofs.NamedLanes.{some_lane}
 use Rattle.solo_script.proofs.RisingLines.{lines_rise}
-use Rattle.pm_commands.specs.Asked.{asked_run}
+use Rattle.pm_options.specs.Asked.{exec_asked}
 use Rattle.pm_commands.specs.Executed.{IsRunFault}
 use Rattle.pm_commands.proofs.OneLane.{calls_of_one_lane, letters_before}
 use Rattle.pm_commands.proofs.Running.{has_run, not_opened}
@@ -21,12 +22,12 @@ exec-requires-clause-some c = some_lane _ _ c.in-Ok.ensures.script
 
 pub returns-in-Ok-written_out-clause-ran : goal.returns-in-Ok-written_out-clause-ran
 returns-in-Ok-written_out-clause-ran c =
-    has_run c.args.source.now c.args.text.now (asked_run c.args.words.now) c.in-Ok-image_of.image c.in-Ok-exec.outcome.words.items _ c.in-Ok-exec.outcome.history.items c.in-Ok-exec.outcome.end c.in-Ok-exec.outcome.given.items _ _
-    c.if-source-ne0.false (c.in-Ok-image_of.ensures {u = tt}) c.in-Ok.ensures.script c.in-Ok-exec.ensures.opened c.in-Ok-exec.ensures.given c.in-Ok-exec.ensures.history c.in-Ok-exec.ensures.made c.in-Ok-exec.ensures.replay
+    has_run c.args.source.now c.args.text.now (exec_asked c.args.words.now) c.in-Ok-image_of.image c.in-Ok-exec.outcome.words.items _ c.in-Ok-exec.outcome.history.items c.in-Ok-exec.outcome.end c.in-Ok-exec.outcome.given.items _ _ c.stop_of-stop.result
+    (c.stop_of-stop.ensures ∙ ap (stop_of 0) c.deref.ensures.value) c.if-source-ne0.false (c.in-Ok-image_of.ensures {u = tt}) c.in-Ok.ensures.script c.in-Ok-exec.ensures.opened c.in-Ok-exec.ensures.given c.in-Ok-exec.ensures.history c.in-Ok-exec.ensures.made c.in-Ok-exec.ensures.replay
     c.in-Ok-written_out.ensures.bytes c.in-Ok-written_out.ensures.report
 
 pub returns-clause-cause : goal.returns-clause-cause
 returns-clause-cause c =
-    subst (IsRunFault c.args.source.now c.args.text.now (asked_run c.args.words.now)) (sym c.open_failure.ensures)
-    (not_opened c.args.source.now c.args.text.now (asked_run c.args.words.now) c.in-Ok-image_of.image _ c.args.words.now.layout c.in-Err-exec.fault
+    subst (IsRunFault c.args.source.now c.args.text.now (exec_asked c.args.words.now)) (sym c.open_failure.ensures)
+    (not_opened c.args.source.now c.args.text.now (exec_asked c.args.words.now) c.in-Ok-image_of.image _ c.args.words.now.layout c.in-Err-exec.fault
     c.if-source-ne0.false (c.in-Ok-image_of.ensures {u = tt}) c.in-Ok.ensures.script refl c.in-Err-exec.ensures.cause)

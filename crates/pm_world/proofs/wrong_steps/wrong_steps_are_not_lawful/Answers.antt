@@ -16,6 +16,9 @@ returns-clause-hasty_give _ = wrong.no_hasty_give
 pub returns-clause-hasty_release : goal.returns-clause-hasty_release
 returns-clause-hasty_release _ = wrong.no_hasty_release
 
+pub returns-clause-entered_release : goal.returns-clause-entered_release
+returns-clause-entered_release _ = wrong.no_entered_release
+
 pub returns-clause-foreign_release : goal.returns-clause-foreign_release
 returns-clause-foreign_release _ = wrong.no_foreign_release
 
@@ -24,6 +27,9 @@ returns-clause-foreign_chunk_release _ = wrong.no_foreign_chunk_release
 
 pub returns-clause-told_release : goal.returns-clause-told_release
 returns-clause-told_release _ = wrong.no_told_release
+
+pub returns-clause-published_release : goal.returns-clause-published_release
+returns-clause-published_release _ = wrong.no_published_release
 
 pub returns-clause-stores_in_pool : goal.returns-clause-stores_in_pool
 returns-clause-stores_in_pool _ = wrong.stores_are_in_pool

@@ -1,0 +1,70 @@
+-- FROM A CALL'S EFFECT TO ITS FACT: what a crate of calls has to show of one call, block by block.
+use Rattle.std.specs.Prelude.{◌≡◌, ℕ, true, false, Some}
+use Rattle.pm_header.specs.declared.header.Header.{Header}
+use Rattle.pm_objects.specs.declared.pool.PoolView.{PoolView}
+use Rattle.pm_model.specs.CallStep.{CallRun, CallStep, State}
+use Rattle.pm_model.specs.Items.{Item, Items, plain_pool}
+use Rattle.pm_model.specs.Pending.{Pending}
+use Rattle.pm_view.specs.Places.{Block, Place, RootWord}
+use Rattle.pm_view.specs.View.{View}
+use Rattle.pm_world.specs.States.{State as Bits, Diff, after_diff, diff, given}
+use Rattle.pm_world.specs.Sights.{call_in}
+use Rattle.pm_crash.specs.Calls.{Fact, IsRunOf, StepsFrom, pending_of, pending_then, state_of}
+use Rattle.pm_crash.specs.Footprints.{MayPrecede}
+use Rattle.pm_crash.specs.Freshness.{root_told}
+use Rattle.pm_crash.specs.HeapChanges.{ChangesHeap}
+use Rattle.pm_crash.specs.Objects.{StandsIn, is_allocated, item_of, offset_of}
+use Rattle.pm_crash.specs.Spelled.{Holds, number}
+
+-- what the call changes, and the bits after it
+abbrev pub change_of : View → Diff
+change_of v = diff (call_in v)
+
+abbrev pub bits_after : View → Bits → Bits
+bits_after v s = after_diff (change_of v) s
+
+-- the state that the call leaves, with these items: its root is what the root word says then
+abbrev pub state_with : View → Bits → PoolView → (ℕ → Pending) → Items → State
+state_with v s pool pending items = record {
+  pool = record (plain_pool pool) { items = items; root = root_told (number (bits_after v s RootWord)) };
+  pending = pending_then v pending;
+}
+
+-- THE CALL'S EFFECT, from bits that hold a pool: it changes a heap; in its blocks stand these items
+-- then, each in one; and to them leads the model's call, with the replies that the lane gave
+pub record HasEffect (v : View) (class : ℕ → ℕ) (s : Bits) (pool : PoolView)
+    (pending : ℕ → Pending) : Type 0 where
+  pub changes : ChangesHeap v.fixed.shape class s (change_of v)
+  pub items : Items
+  pub has : (B : Block) → is_allocated v.fixed.shape (bits_after v s) B ≡ true
+      → items (offset_of v.fixed.shape class (bits_after v s) B)
+      ≡ Some (item_of v.fixed.shape class (bits_after v s) B)
+  pub stands : (off : ℕ) (item : Item) → items off ≡ Some item
+      → StandsIn v.fixed.shape class (bits_after v s) off item
+  pub run : CallRun
+  pub is_run : IsRunOf v run
+  pub steps : CallStep (state_of pool pending) run (state_with v s pool pending items)
+
+-- so the call is a step
+abbrev pub EffectsAreSteps : Type 0
+EffectsAreSteps = (v : View) (class : ℕ → ℕ) (s : Bits) (header : Header) (pool : PoolView)
+    (pending : ℕ → Pending) → Holds v.fixed.shape class s header pool
+    → HasEffect v class s pool pending → StepsFrom v class s header pool pending
+
+-- and where it has its effect from all bits that may precede it, it has its fact
+abbrev pub EffectsAreFacts : Type 0
+EffectsAreFacts = (v : View)
+    → ((class : ℕ → ℕ) (s : Bits) (header : Header) (pool : PoolView) (pending : ℕ → Pending)
+    → MayPrecede class v s → Holds v.fixed.shape class s header pool
+    → header.id ≡ v.fixed.pool → pending v.fixed.lane ≡ pending_of v.entries
+    → HasEffect v class s pool pending)
+    → Fact v
+
+-- A CALL THAT CHANGES NOTHING is a step where the model's call leaves the pool as it is
+abbrev pub QuietCallsAreSteps : Type 0
+QuietCallsAreSteps = (v : View) (class : ℕ → ℕ) (s : Bits) (header : Header) (pool : PoolView)
+    (pending : ℕ → Pending) (run : CallRun) → Holds v.fixed.shape class s header pool
+    → ((p : Place) (b : ℕ) → given (change_of v p b) ≡ false) → IsRunOf v run
+    → CallStep (state_of pool pending) run
+    (record { pool = plain_pool pool; pending = pending_then v pending })
+    → StepsFrom v class s header pool pending

@@ -1,0 +1,26 @@
+ghost use Rattle.pm_crash.specs.Facts.{EffectsAreFacts, EffectsAreSteps, QuietCallsAreSteps};
+ghost use Rattle.pm_crash.specs.Laws.{CallIsStep, EverySetMayBeKept, HistoryHolds};
+
+/// A law: a call whose fact holds is a step of the plain model, from whatever pool the kept bits
+/// before it hold, whichever calls are kept, the decided ones among them. No code runs.
+pub fn a_call_is_a_step()
+    ensures { CallIsStep }
+{}
+
+/// A law: where each call has its fact, the bits after each number hold the pool to which the kept
+/// calls lead, one whole call after another; and beside the decided calls any set of those in
+/// flight may be kept: of two both, one, or none. No code runs.
+pub fn a_history_holds_its_replay()
+    ensures replay { HistoryHolds }
+    ensures sets { EverySetMayBeKept }
+{}
+
+/// A law: a call whose difference changes a heap, and whose blocks have the items to which the
+/// model's call leads, is a step; and where it is so from all bits that may precede it, it has its
+/// fact. A call that changes nothing is a step where the model's call leaves the pool as it is. No
+/// code runs.
+pub fn effects_are_facts()
+    ensures steps { EffectsAreSteps }
+    ensures facts { EffectsAreFacts }
+    ensures quiet { QuietCallsAreSteps }
+{}

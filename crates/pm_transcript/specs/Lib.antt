@@ -1,0 +1,4 @@
+pub mod Files
+pub mod HeaderSums
+pub mod Lines
+pub mod Pieces

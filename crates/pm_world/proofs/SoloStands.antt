@@ -1,0 +1,83 @@
+-- A memory that stands in its world stands in the world after each call that lane 0's view allows.
+use Rattle.std.proofs.Common.{◌≡◌, ℕ, zero, suc, ◌/◌, ◌<◌, ◌≤◌, Bool, true, false, cond, eqb, List, [], ◌∷◌, length, get_or, Result, Ok, Err, OnOk, OnErr, IfOk, refl, sym, ap, ◌∙◌, subst, arith, ne_eqb}
+use Rattle.std.specs.List.{All}
+use Rattle.std.proofs.lemmas.Bool.{false≢true}
+use Rattle.std.proofs.lemmas.List.Elements.{All-nil}
+use Rattle.pm_layout.specs.declared.shape.Shape.{Shape}
+use Rattle.pm_layout.specs.Chunks.{words_of}
+use Rattle.pm_view.specs.declared.change.Change.{Change}
+use Rattle.pm_view.specs.Changes.{IsFormed}
+use Rattle.pm_view.specs.Counts.{is_counted, IsAtStop}
+use Rattle.pm_view.specs.Steps.{Step}
+use Rattle.pm_view.specs.Steps.Step.{SetStop}
+use Rattle.pm_view.specs.View.{View}
+use Rattle.pm_view.specs.Views.{after}
+use Rattle.pm_memory.specs.declared.lane_mem.Stopped.{Stopped}
+use Rattle.pm_memory.specs.Changes.{AreUndrained}
+use Rattle.pm_memory.specs.Runs.{AnyStep, Made, MadeOrStopped}
+use Rattle.pm_memory.specs.Solo.{Solo, Sees, says_stopped}
+use Rattle.pm_memory.specs.SoloCalls.{Calls}
+use Rattle.pm_memory.proofs.Opening.{sees_opened_with}
+use Rattle.pm_world.specs.Course.{past_after}
+use Rattle.pm_world.specs.Histories.{was_after, ghosts_after}
+use Rattle.pm_world.specs.Lawful.{Allowed, IsLawful}
+use Rattle.pm_world.specs.Laws.{Turn}
+use Rattle.pm_world.specs.SoloLanes.{Stands, OpenedStands, StandsAfter, StandingSurvives}
+use Rattle.pm_world.specs.SoloWorld.{memory_of, AreLanesChanges}
+use Rattle.pm_world.specs.World.{Opening, Views, ghost_of}
+use Rattle.pm_world.proofs.Histories as histories
+use Rattle.pm_world.proofs.SoloWorlds.{calls_keep_worlds, calls_keep_forms, survivors_are}
+
+-- lane 0's view becomes v
+abbrev views_with : Views → View → Views
+views_with views v k = cond (eqb k 0) v (views k)
+
+turned : (views : Views) (v : View) → Turn views (views_with views v) 0 v
+turned views v = record { here = refl; else_ = λ j ne. ap (λ b. cond b v (views j)) (ne_eqb j 0 ne) }
+
+pub stands_after : (s : Step) → StandsAfter s
+stands_after s o old new v st lawful is sees =
+    let ok : IsLawful (st.views 0) s = subst (λ (w : View). IsLawful w s) (sym st.here) lawful in
+    let seen : Sees old (st.views 0) = subst (Sees old) (sym st.here) st.sees in
+    let some : 0 < o.lanes = let l = st.world.some_lanes in omega arith in
+    let next : Views = views_with st.views (after (st.views 0) s) in
+    record {
+      views = next;
+      past = past_after st.past (st.views 0) s;
+      was = was_after o st.past s st.was;
+      ghosts = ghosts_after st.past s st.ghosts;
+      here = ap (λ (w : View). after w s) st.here;
+      world = calls_keep_worlds s o old new st.views next st.past st.world seen ok is (turned st.views (after (st.views 0) s));
+      history = histories.goes_on s o (memory_of old) st.views st.past 0 st.world some ok st.was st.ghosts st.history;
+      sees = sees;
+      formed = calls_keep_forms s o old new st.views st.past st.world ok is st.formed;
+    }
+
+-- ---- the opening, and survivors
+
+pub opened_stands : OpenedStands
+opened_stands o fixed generation runs zones first one shape pages count opens = record {
+  views = _;
+  past = opens.0;
+  was = λ n p b. false;
+  ghosts = λ n. ghost_of opens.0;
+  here = refl;
+  world = opens.1;
+  history = histories.begins o opens.0 (λ n p b. false) (λ n. ghost_of opens.0) opens.2;
+  sees = sees_opened_with o.words runs zones (fixed 0) (generation 0) first one (opens.1.size ∙ ap words_of (sym shape)) pages count;
+  formed = All-nil IsFormed;
+}
+
+pub standing_survives : StandingSurvives
+standing_survives o m v s image left =
+    let some : length (m.changes ∷ []) ≤ o.lanes = let l = s.world.some_lanes in omega arith in
+    let size : length m.words ≡ length o.words = s.sees.fixed.size ∙ (ap (λ (w : View). words_of w.fixed.shape) (sym s.here) ∙ (ap words_of (s.world.each_lane 0 some).shape ∙ sym s.world.size)) in
+    survivors_are o (memory_of m) s.views m.words image (m.changes ∷ []) size some (λ w l. refl) (record { each = each; formed = formed }) left
+  where
+    each : (k : ℕ) (d : List Change) → k < 1 → AreUndrained (get_or (m.changes ∷ []) k d) (s.views k).changes
+    each zero d l = subst (λ (w : View). AreUndrained m.changes w.changes) (sym s.here) s.sees.changes
+    each (suc k) d l = absurd (omega (arith, l))
+
+    formed : All (All IsFormed) (m.changes ∷ [])
+    formed zero d l = s.formed
+    formed (suc k) d l = absurd (omega (arith, l))
