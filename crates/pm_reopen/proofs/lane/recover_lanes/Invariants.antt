@@ -1,0 +1,6 @@
+use Rattle.std.specs.List.{flat_map, range_with_len}
+use Rattle.pm_reopen.proofs.Inside.{HasMade}
+use Rattle.pm_reopen.proofs.lane.recover_lanes.Given as goal
+
+abbrev pub invariant-loop-lane : goal.invariant-loop-lane
+invariant-loop-lane l = HasMade l.image l.initial.mem l.mem l.lane

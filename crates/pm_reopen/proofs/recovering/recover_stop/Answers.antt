@@ -1,0 +1,17 @@
+use Rattle.std.proofs.Common.{◌<◌, ◌^◌, rules}
+use Rattle.pm_reopen.proofs.Stopping.{left_ends, left_is}
+use Rattle.pm_reopen.proofs.Unstopped.{left_again}
+use Rattle.pm_reopen.proofs.recovering.recover_stop.Goals as goal
+
+pub returns-clause-ends : goal.returns-clause-ends
+returns-clause-ends c = λ pool is.
+    let fits : c.args.stop < 2 ^ 64 = search rules in
+    left_ends c.args.image.now pool.lanes c.args.stop c.args.keep fits c.in_ok-run.field-0 c.run.new.image (c.in_ok-run.ensures.leaves pool is)
+
+pub returns-clause-left : goal.returns-clause-left
+returns-clause-left c = λ pool is.
+    let fits : c.args.stop < 2 ^ 64 = search rules in
+    left_is c.args.image.now pool.lanes c.args.stop c.args.keep fits c.in_ok-run.field-0 c.run.new.image (c.in_ok-run.ensures.leaves pool is)
+
+pub returns-clause-again : goal.returns-clause-again
+returns-clause-again c = λ pool r. left_again c.args.image.now pool c.args.stop c.args.keep c.run.new.image r (returns-clause-left c pool r.means)

@@ -1,0 +1,7 @@
+use Rattle.std.specs.List.{flat_map, range_with_len}
+use Rattle.pm_reopen.specs.Running.{Makes}
+use Rattle.pm_reopen.proofs.Parts.{slot_calls}
+use Rattle.pm_reopen.proofs.writing.restore_records.Given as goal
+
+abbrev pub invariant-loop-slot : goal.invariant-loop-slot
+invariant-loop-slot l = Makes l.initial.mem l.mem (flat_map (slot_calls l.image l.lane) (range_with_len 0 l.slot))

@@ -1,0 +1,4 @@
+pub mod Plan
+pub mod Running
+pub mod Premise
+pub mod Steps

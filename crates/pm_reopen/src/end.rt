@@ -1,0 +1,8 @@
+/// How a recovery ended that was not to make more than a number of calls.
+#[derive(Clone, Copy, Debug, PartialEq, Eq)]
+pub enum RecoverEnd {
+    /// It needs more: it made so many calls, its stop number, and was cut off.
+    Stopped(u64),
+    /// It came to its end, with so many calls.
+    Whole(u64),
+}
