@@ -7,7 +7,7 @@ ghost use Rattle.pm_world.specs.Lawful.{Allowed};
 
 use super::*;
 use pm_layout::Shape;
-use pm_memory::{LaneMem, LaneSync, SoloMem};
+use pm_memory::SoloMem;
 use pm_objects::Oid;
 use pm_view::Occ;
 use std::alloc::Global;
@@ -34,14 +34,12 @@ fn a_lane(rt: HostRuntime) -> Result<(), Fail> {
     let shape = Shape::new(1, 1)?;
     let mut lane = Lane::new(rt.alloc(), memory(rt.alloc())?, 7, shape)?;
     assert!(rt; lane.idle());
-    assert!(rt; lane.memory.take_write(0));
     lane.locks.push(HeldLock {
         line: 0,
         write: true,
     });
     assert!(rt; !lane.idle());
-    assert!(rt; lane.memory.store(700, 5).is_ok());
-    assert_eq!(rt; lane.calls(), 1);
+    assert_eq!(rt; lane.calls(), 0);
     assert_eq!(rt; lane.last_number(), 0);
     assert_eq!(rt; lane.in_flight(), None);
     assert!(rt; !lane.stopped());
