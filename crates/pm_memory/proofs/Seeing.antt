@@ -11,11 +11,11 @@ use Rattle.pm_view.specs.Claims.{Claim, Knows, Drained, class, locked, reads}
 use Rattle.pm_view.specs.Counts.{MayCount, IsAtStop}
 use Rattle.pm_view.specs.Founds.{FindsKnown}
 use Rattle.pm_view.specs.Log.{Log, Phase, Idle, Open, Drawn, Sealing, Applying, Clearing, Retiring, Voiding, log_stored, log_changed}
-use Rattle.pm_view.specs.Parts.{Part}
+use Rattle.pm_view.specs.Parts.{Part, GenerationPart, SealPart, EntryPart, SlotPart, RootPart, DescriptorPart, ChunkPart, OtherPart}
 use Rattle.pm_view.specs.Steps.{Step}
 use Rattle.pm_view.specs.Steps.Step.{Load, Store, Or, And, Flush, Drain}
 use Rattle.pm_view.specs.View.{View}
-use Rattle.pm_view.specs.Views.{after, changed_from, learned, part_in, value_in, shape_of, marked_by, claims_drained, log_left}
+use Rattle.pm_view.specs.Views.{after, changed_from, learned, part_in, value_in, was_of, was_in, shape_of, marked_by, claims_drained, log_left}
 use Rattle.pm_memory.specs.Changes.{changes_flushed, changes_drained, AreUndrained}
 use Rattle.pm_memory.specs.Runs.{AnyStep, MadeOrStopped}
 use Rattle.pm_memory.specs.Solo.{Solo, Sees, AreKnown, AreLocked, IsLockWord, IsCount, IsDue, IsSpent, counted, with_change, says_stopped}
@@ -133,6 +133,24 @@ old_known : (o : Option ℕ) (mask word old : ℕ) → ((y : ℕ) → o ≡ Some
 old_known None mask word old known is = tt
 old_known (Some z) mask word old known is = is ∙ ap (λ n. bit_and n mask) (known z refl)
 
+-- what the view has of a word that a store finds, it knows
+was_value : (phase : Phase) (part : Part) (o : Option ℕ) (y : ℕ) → was_of phase part o ≡ Some y → o ≡ Some y
+was_value phase GenerationPart o y e = e
+was_value phase SealPart o y e = e
+was_value phase EntryPart o y e = absurd (search rules)
+was_value phase SlotPart o y e = absurd (search rules)
+was_value phase RootPart o y e = e
+was_value Idle (DescriptorPart c) o y e = e
+was_value Open (DescriptorPart c) o y e = e
+was_value (Drawn n) (DescriptorPart c) o y e = e
+was_value (Sealing n) (DescriptorPart c) o y e = e
+was_value (Applying todo) (DescriptorPart c) o y e = absurd (search rules)
+was_value Clearing (DescriptorPart c) o y e = e
+was_value (Retiring n) (DescriptorPart c) o y e = e
+was_value Voiding (DescriptorPart c) o y e = e
+was_value phase (ChunkPart c i) o y e = e
+was_value phase OtherPart o y e = e
+
 -- a counted call made this change
 sees_changed : (m : Solo) (v : View) (c : Change) (was : Option ℕ) (x : ℕ) (claims : List Claim) (log : Log) → IsDue m → ForSome m.stop (λ stop. stop < 2 ^ 64) → Grows v.fixed.shape v.claims claims
     → c.word < length m.words → c.flushed ≡ false → IfSome (option_map (λ (z : ℕ). bit_and z c.mask) was) (λ y. c.old ≡ y) → Sees m v → Sees (with_change (counted m) c x) (changed_from v c.word c.mask was x claims log)
@@ -187,8 +205,8 @@ module _ (m k n : Solo) (due : IsDue m) (fits : ForSome m.stop (λ stop. stop < 
   stored_made w x found c small within finds makes is v sees =
       let claims : List Claim = marked_by v.log.phase (part_in v w) x v.claims in
       let log : Log = log_stored (shape_of v) (class v.claims) v.log.phase (part_in v w) x v.log in (
-        made_change v (store_change w found x) (value_in v w) x claims log (grows_marked v.fixed.shape v.log.phase (part_in v w) x v.claims) within refl
-            (old_known (value_in v w) all_bits (slice_index m.words w) found (sees.words w) (whole found small ∙ ap (λ y. bit_and y all_bits) (found_in w found finds))) (is ∙ ap (λ (d : Change). with_change k d x) makes) sees,
+        made_change v (store_change w found x) (was_in v w) x claims log (grows_marked v.fixed.shape v.log.phase (part_in v w) x v.claims) within refl
+            (old_known (was_in v w) all_bits (slice_index m.words w) found (λ y e. sees.words w y (was_value v.log.phase (part_in v w) (value_in v w) y e)) (whole found small ∙ ap (λ y. bit_and y all_bits) (found_in w found finds))) (is ∙ ap (λ (d : Change). with_change k d x) makes) sees,
         tt,
         may_count m v sees due fits,
       )

@@ -30,6 +30,17 @@ part_in v w = part_of v.fixed.shape v.fixed.lane w
 abbrev pub value_in : View → ℕ → Option ℕ
 value_in v w = pictured v.fixed.shape v.claims w
 
+-- what a word was that the lane stores into, where what it knows of it is the memory's for sure: of its own slots and entries it only knows what
+-- it stored, and a run's descriptor may be another's while its entries are applied
+abbrev pub was_of : Phase → Part → Option ℕ → Option ℕ
+was_of phase SlotPart known = None
+was_of phase EntryPart known = None
+was_of (Applying todo) (DescriptorPart c) known = None
+was_of phase part known = known
+
+abbrev pub was_in : View → ℕ → Option ℕ
+was_in v w = was_of v.log.phase (part_in v w) (value_in v w)
+
 -- the step told something that is no value of a word
 abbrev pub with_seen : Step → View → View
 with_seen s v = record v { seen = s ∷ v.seen }
@@ -63,9 +74,9 @@ changed_from v w mask was x claims log = record v {
   log = log;
 }
 
--- a store finds nothing: the word was what the lane last saw of it
+-- a store finds nothing
 abbrev pub changed : View → ℕ → ℕ → ℕ → List Claim → Log → View
-changed v w mask x claims log = changed_from v w mask (value_in v w) x claims log
+changed v w mask x claims log = changed_from v w mask (was_in v w) x claims log
 
 -- ---- drains
 

@@ -12,7 +12,7 @@ use Rattle.pm_view.specs.Counts.{MayCount, IsAtStop}
 use Rattle.pm_view.specs.Log.{Phase, Log, log_stored}
 use Rattle.pm_view.specs.Parts.{Part}
 use Rattle.pm_view.specs.View.{View}
-use Rattle.pm_view.specs.Views.{shape_of, part_in, value_in, marked_by, changed}
+use Rattle.pm_view.specs.Views.{shape_of, part_in, was_in, marked_by, changed}
 use Rattle.pm_world.specs.Course.{past_stored}
 use Rattle.pm_world.specs.States.{State, Cells}
 use Rattle.pm_world.specs.Sights.{sight_of}
@@ -95,7 +95,7 @@ module _ (o : Opening) (mem new : Memory) (views views' : Views) (g : Past) (x :
         recorded = λ u p q. let y = recorded u p q in (y.0, λ c. let z = y.1 c in (z.0, still_given (Rattle.pm_world.specs.Sights.is_pictured p) (w == Rattle.pm_view.specs.Places.word_of (views k).fixed.shape p) n (pictured (views k).fixed.shape (views k).claims (Rattle.pm_view.specs.Places.word_of (views k).fixed.shape p)) (λ y. Rattle.std.specs.Int.bit_at y c == 1) z.1));
         number = number;
         zones = λ z. ap (λ y. y == suc k) (b.0 (ZoneLock z) (other_sort (ZoneLock z) (PoolWord w) (λ q. omega arith))) ∙ f.zones z;
-        masks = all_cons (λ (c : Undrained). (c.mask < 2 ^ 64) × (c.word < words_of o.shape)) record { word = w; mask = all_bits; old = Rattle.std.specs.Option.option_map (λ old. Rattle.std.specs.Prelude.bit_and old all_bits) (value_in (views k) w); flushed = false } (views k).changes (omega arith, subst (λ s. w < words_of s) f.shape m.inside) f.masks;
+        masks = all_cons (λ (c : Undrained). (c.mask < 2 ^ 64) × (c.word < words_of o.shape)) record { word = w; mask = all_bits; old = Rattle.std.specs.Option.option_map (λ old. Rattle.std.specs.Prelude.bit_and old all_bits) (was_in (views k) w); flushed = false } (views k).changes (omega arith, subst (λ s. w < words_of s) f.shape m.inside) f.masks;
         room = let r = m.room in omega arith;
         within = counts_on (views k).fixed.stop (views k).calls due;
         alone = λ one. alone_stored log (f.alone one);

@@ -30,7 +30,7 @@ use Rattle.pm_world.proofs.AfterStore.{after_store}
 use Rattle.pm_world.proofs.Going.{at_phase}
 use Rattle.pm_world.proofs.Replays.{put1_here, put1_else}
 use Rattle.pm_world.proofs.StepDraw.{all_cons}
-use Rattle.pm_world.proofs.StoreArea.{area_apart, undrained_by, sight_logged, apart_in, Logged, area_world}
+use Rattle.pm_world.proofs.StoreArea.{area_apart, undrained_by, old_known, sight_logged, apart_in, Logged, area_world}
 
 -- ---- which words these are
 abbrev pub tag : Part → ℕ
@@ -62,13 +62,6 @@ seal_word sh lane w e = (is_word sh lane w).1 (ap tag e)
 pub generation_word : (sh : Shape) (lane w : ℕ) → part_of sh lane w ≡ GenerationPart → w ≡ word_of_generation sh lane
 generation_word sh lane w e = (is_word sh lane w).0 (ap tag e)
 
--- a change of a word that the lane knew
-whole_word : (x : ℕ) → x < 2 ^ 64 → bit_and x all_bits ≡ x
-whole_word x l = and_mask x 64 ∙ mod-eq_of_lt l
-
-known_old : (v : View) (w x : ℕ) → x < 2 ^ 64 → value_in v w ≡ Some x → IsOld x (undrained_by v w)
-known_old v w x l e = (refl, ap (option_map (λ old. bit_and old all_bits)) e ∙ ap Some (whole_word x l))
-
 -- ---- lists of entries
 first_entry : (e d : Entry) (t u : List Entry) → (e ∷ t) ≡ (d ∷ u) → (e ≡ d) × (t ≡ u)
 first_entry e d t u q = (ap (head e) q, ap tail q)
@@ -99,6 +92,9 @@ module _ (o : Opening) (mem new : Memory) (views views' : Views) (g : Past) (x :
 
   part_here : (part : Part) → part_in (views k) w ≡ part → part_of o.shape k w ≡ part
   part_here part e = subst (λ s. part_of s k w ≡ part) (x.each_lane k ink).shape (subst (λ l. part_of (views k).fixed.shape l w ≡ part) (x.each_lane k ink).lane e)
+
+  part_there : (part : Part) → part_of o.shape k w ≡ part → part_in (views k) w ≡ part
+  part_there part e = subst (λ s. part_of s (views k).fixed.lane w ≡ part) (sym (x.each_lane k ink).shape) (subst (λ l. part_of o.shape l w ≡ part) (sym (x.each_lane k ink).lane) e)
 
   abbrev LogIn : Log → Type 0
   LogIn l = LogFits o.shape k ((cells_of o.shape mem).generation k) ((cells_of o.shape mem).seal k) ((cells_of o.shape mem).entry k) ((cells_of o.shape mem).slot k) (settled_words o g) (owns g.geo (settled_words o g) (sight_of (views k)).hold) (sight_of (views k)).picture l (views k).changes
@@ -140,7 +136,7 @@ module _ (o : Opening) (mem new : Memory) (views views' : Views) (g : Past) (x :
           stale = λ i u q z t. l.stale i u q z (sym (ap Rattle.pm_record.specs.Undo.undo_of (λ j. slots i j)) ∙ t);
           slot_changes = all_cons (λ (c : Undrained). part_of o.shape k c.word ≡ Rattle.pm_view.specs.Parts.SlotPart → c.word < 8 * line_of_slot o.shape k (Rattle.pm_world.specs.Logs.used_slots ((views k).log))) (undrained_by (views k) w) (views k).changes (λ _. omega arith) (λ i d q. let z = ap length c.drained in absurd (omega arith));
           area_changes = all_cons (λ (d : Undrained). AreaChange Clearing (length (views k).log.entries) (views k).log.generation (part_of o.shape k d.word) d) (undrained_by (views k) w) (views k).changes
-              (subst (λ q. AreaChange Clearing (length (views k).log.entries) (views k).log.generation q (undrained_by (views k) w)) (sym part) (known_old (views k) w (length (views k).log.entries) (let z = l.entries_most in omega arith) (ap (value_in (views k)) seal_at ∙ c.known)))
+              (subst (λ q. AreaChange Clearing (length (views k).log.entries) (views k).log.generation q (undrained_by (views k) w)) (sym part) (old_known (views k) w (length (views k).log.entries) SealPart (part_there SealPart part) (λ known. refl) (let z = l.entries_most in omega arith) (ap (value_in (views k)) seal_at ∙ c.known)))
               (λ i d q. let z = ap length c.drained in absurd (omega arith));
           phase = (record { front = whole.front; are = whole.are; placed = whole.placed }, l.phase.2, l.phase.3);
         }
@@ -217,7 +213,7 @@ module _ (o : Opening) (mem new : Memory) (views views' : Views) (g : Past) (x :
       stale = λ i u q z y. l.stale i u q z (sym (ap Rattle.pm_record.specs.Undo.undo_of (λ j. slots i j)) ∙ y);
       slot_changes = all_cons (λ (c : Undrained). part_of o.shape k c.word ≡ Rattle.pm_view.specs.Parts.SlotPart → c.word < 8 * line_of_slot o.shape k (Rattle.pm_world.specs.Logs.used_slots ((views k).log))) (undrained_by (views k) w) (views k).changes (λ _. omega arith) l.slot_changes;
       area_changes = all_cons (λ (d : Undrained). AreaChange (Applying t) (length (views k).log.entries) (views k).log.generation (part_of o.shape k d.word) d) (undrained_by (views k) w) (views k).changes
-          (subst (λ q. AreaChange (Applying t) (length (views k).log.entries) (views k).log.generation q (undrained_by (views k) w)) (sym part) (known_old (views k) w (views k).log.generation (let z = l.last in omega arith) known))
+          (subst (λ q. AreaChange (Applying t) (length (views k).log.entries) (views k).log.generation q (undrained_by (views k) w)) (sym part) (old_known (views k) w (views k).log.generation GenerationPart (part_there GenerationPart part) (λ known. refl) (let z = l.last in omega arith) known))
           l.area_changes;
       phase = (
         record { front = l.phase.0.front; are = l.phase.0.are; placed = l.phase.0.placed },

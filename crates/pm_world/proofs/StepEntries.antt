@@ -19,7 +19,7 @@ use Rattle.pm_view.specs.Entries.{Entry, Redo, given_bit, delta, latest, redos, 
 use Rattle.pm_view.specs.Log.{Applying, Log, old_of}
 use Rattle.pm_view.specs.Places.{Place, InRun, InHuge, Descr, RootWord, Block, Small, Big, Root, part, block_of, is_data, twin, same_place, word_of, is_place, in_span}
 use Rattle.pm_view.specs.View.{View}
-use Rattle.pm_view.specs.Views.{value_in, part_in, changed, changed_from}
+use Rattle.pm_view.specs.Views.{was_in, part_in, changed, changed_from}
 use Rattle.pm_world.specs.States.{State, Diff, given, read, put1, Cells}
 use Rattle.pm_world.specs.Sights.{Hold, Sight, hold_of, is_pictured, picture, is_use, is_soiled, is_made, is_recorded, fresh, call_in, sight_of}
 use Rattle.pm_world.specs.Lanes.{Ghost, own, owns, is_in_making, TurnAfter, SightFits, Flies, flies_at}
@@ -440,8 +440,8 @@ module _ (o : Opening) (mem new : Memory) (views views' : Views) (g : Past) (x :
       let p = next_place o mem views g x k ink w d todo ph next.0 (ap tag here ∙ t) in
       let made : made_word d.op d.value (mem (PoolWord w)) ≡ n = ap (λ z. made_word z d.value (mem (PoolWord w))) next.1 ∙ next.2 in
       let whole : mask_of d.op d.value ≡ all_bits = ap (λ z. mask_of z d.value) next.1 in
-      entry_applied o mem views g x k ink w d todo ph next.0 (subst (λ s. w < words_of s) (x.each_lane k ink).shape m.inside) p.0 p.1 (subst (λ z. z < 2 ^ 64) (sym made) m.small) (value_in (views k) w) new views' (subst (λ z. Becomes (PoolWord w) z mem new) (sym made) became) m.room due
-      (subst (λ z. z < 2 ^ 64) (sym whole) (omega arith)) (subst (λ z. AreaChange (Applying todo) (length (views k).log.entries) (views k).log.generation z (change o mem views g x k ink w d todo ph next.0 (subst (λ s. w < words_of s) (x.each_lane k ink).shape m.inside) p.0 p.1 (subst (λ z. z < 2 ^ 64) (sym made) m.small) (value_in (views k) w))) (sym here) (area (change o mem views g x k ink w d todo ph next.0 (subst (λ s. w < words_of s) (x.each_lane k ink).shape m.inside) p.0 p.1 (subst (λ z. z < 2 ^ 64) (sym made) m.small) (value_in (views k) w)) whole))
+      entry_applied o mem views g x k ink w d todo ph next.0 (subst (λ s. w < words_of s) (x.each_lane k ink).shape m.inside) p.0 p.1 (subst (λ z. z < 2 ^ 64) (sym made) m.small) (was_in (views k) w) new views' (subst (λ z. Becomes (PoolWord w) z mem new) (sym made) became) m.room due
+      (subst (λ z. z < 2 ^ 64) (sym whole) (omega arith)) (subst (λ z. AreaChange (Applying todo) (length (views k).log.entries) (views k).log.generation z (change o mem views g x k ink w d todo ph next.0 (subst (λ s. w < words_of s) (x.each_lane k ink).shape m.inside) p.0 p.1 (subst (λ z. z < 2 ^ 64) (sym made) m.small) (was_in (views k) w))) (sym here) (area (change o mem views g x k ink w d todo ph next.0 (subst (λ s. w < words_of s) (x.each_lane k ink).shape m.inside) p.0 p.1 (subst (λ z. z < 2 ^ 64) (sym made) m.small) (was_in (views k) w)) whole))
       (subst (λ z. Turn views views' k (changed (views k) w z (made_word d.op d.value (mem (PoolWord w))) (views k).claims (record (views k).log { phase = Applying todo }))) (sym whole) (subst (λ z. Turn views views' k (changed (views k) w all_bits z (views k).claims (record (views k).log { phase = Applying todo }))) (sym made) turn))
 
 pub applies_root : (todo : List Entry) → KeepsAt (Applying todo) RootPart

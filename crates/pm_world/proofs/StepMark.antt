@@ -22,7 +22,7 @@ use Rattle.pm_view.specs.Log.{Open, place_at}
 use Rattle.pm_view.specs.Parts.{Part, GenerationPart, SealPart, EntryPart, SlotPart, DescriptorPart, is_entry_word, is_slot_word, pool_part, part_of, place_in}
 use Rattle.pm_view.specs.Places.{Place, InRun, InHuge, Descr, RootWord, Block, Small, Big, Root, part, block_of, is_data, is_place, word_of}
 use Rattle.pm_view.specs.View.{View}
-use Rattle.pm_view.specs.Views.{part_in, value_in, changed}
+use Rattle.pm_view.specs.Views.{part_in, value_in, was_of, changed}
 use Rattle.pm_world.specs.States.{State, given, diff, read, put1, Cells}
 use Rattle.pm_world.specs.Sights.{Hold, Sight, hold_of, is_pictured, picture, is_soiled, is_recorded, is_logged, is_made, fresh, sight_of}
 use Rattle.pm_world.specs.Lanes.{Ghost, owns, is_decided, Flies, SightFits, Bits}
@@ -41,7 +41,7 @@ use Rattle.pm_world.proofs.Replays.{put1_here, put1_else}
 use Rattle.pm_world.proofs.Runs.{is_of_chunk, with_mark, Marks, marks_run}
 use Rattle.pm_world.proofs.SlotWords.{slot_range}
 use Rattle.pm_world.proofs.StepDraw.{all_cons}
-use Rattle.pm_world.proofs.StoreArea.{undrained_by, logged_else, over_area}
+use Rattle.pm_world.proofs.StoreArea.{undrained_by, old_known, logged_else, over_area}
 use Rattle.pm_world.proofs.Worlds.{parts_short, slot_taken, turned, world_with, stops_stay}
 
 -- ---- which word it is
@@ -352,7 +352,7 @@ module _ (o : Opening) (mem new : Memory) (views views' : Views) (g : Past) (x :
   LogOf y = LogFits o.shape k ((cells_of o.shape new).generation k) ((cells_of o.shape new).seal k) ((cells_of o.shape new).entry k) ((cells_of o.shape new).slot k) (settled_words o g) (owns g'.geo (settled_words o g) y.hold) y.picture (views k).log (undrained_by (views k) w ∷ (views k).changes)
 
   known_zero : IsOld 0 (undrained_by (views k) w)
-  known_zero = (refl, ap (option_map (λ old. bit_and old all_bits)) (ap (value_in (views k)) at ∙ a.clear) ∙ ap Some (and_mask 0 64))
+  known_zero = old_known (views k) w 0 (DescriptorPart c) is_part (λ known. ap (λ q. was_of q (DescriptorPart c) known) ph) (omega arith) (ap (value_in (views k)) at ∙ a.clear)
 
   log_marked : LogOf (record (sight_of (views k)) { hold = with_mark (sight_of (views k)).hold c (n / 256); soiled = is_soiled (views k).fixed.shape (hold_of (views k).fixed.shape (Knows w n ∷ Marked c (n / 256) ∷ (views k).claims)) (undrained_by (views k) w ∷ (views k).changes) })
   log_marked = let l = fl.log in let most = l.entries_most in let less = l.records_most in let spot = at_o in let lanes = x.most_lanes in record {

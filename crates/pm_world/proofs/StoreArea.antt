@@ -3,8 +3,10 @@ use Rattle.std.specs.Prelude.{List, [], ◌∷◌, length, bit_and, not}
 use Rattle.std.specs.List.{list_any}
 use Rattle.std.specs.Int.{bit_at}
 use Rattle.std.specs.Option.{option_map}
-use Rattle.std.proofs.Common.{◌≡◌, ◌≢◌, ℕ, suc, ◌+◌, ◌/◌, ◌<◌, Bool, true, false, cond, ◌==◌, ◌&&◌, ◌||◌, refl, sym, ap, ◌∙◌, subst, arith, ne_eqb, None, Some}
+use Rattle.std.proofs.Common.{◌≡◌, ◌≢◌, ℕ, suc, ◌+◌, ◌/◌, ◌^◌, ◌<◌, Bool, true, false, cond, ◌==◌, ◌&&◌, ◌||◌, refl, sym, ap, ◌∙◌, subst, arith, ne_eqb, None, Some}
 use Rattle.std.proofs.lemmas.Bool.{cond-false}
+use Rattle.std.proofs.lemmas.Nat.{and_mask}
+use Rattle.std.proofs.Math.Nat.{mod-eq_of_lt}
 use Rattle.pm_layout.specs.declared.shape.Shape.{Shape}
 use Rattle.pm_layout.specs.Areas.{word_of_generation, line_of_slot}
 use Rattle.pm_view.specs.Bits.{all_bits}
@@ -12,13 +14,14 @@ use Rattle.pm_view.specs.Changes.{Undrained, is_in_line, is_dirty_bit}
 use Rattle.pm_view.specs.Claims.{Claim, Knows, pictured}
 use Rattle.pm_view.specs.Counts.{MayCount}
 use Rattle.pm_view.specs.Log.{Phase, Recorded, Log, old_in}
+use Rattle.pm_view.specs.Parts.{Part}
 use Rattle.pm_view.specs.Places.{Place, InRun, InHuge, Descr, RootWord, Block, word_of, is_place, twin}
 use Rattle.pm_view.specs.View.{View}
-use Rattle.pm_view.specs.Views.{value_in}
+use Rattle.pm_view.specs.Views.{part_in, value_in, was_in, was_of}
 use Rattle.pm_world.specs.States.{State, Diff, Cells, given, put1}
 use Rattle.pm_world.specs.Sights.{Hold, Sight, hold_of, is_pictured, picture, is_use, is_soiled, is_slot_drained, is_logged_from, is_logged, call_of, sight_of}
 use Rattle.pm_world.specs.Lanes.{Ghost, owns, Flies, flies_at, SightFits}
-use Rattle.pm_world.specs.Logs.{LogFits}
+use Rattle.pm_world.specs.Logs.{IsOld, LogFits}
 use Rattle.pm_world.specs.Lawful.{MayStore}
 use Rattle.pm_world.specs.Laws.{Turn}
 use Rattle.pm_world.specs.Memory.{Memory, PoolWord, LockWord, RunWord, ZoneWord, ZoneLock, CommitCounter, StopWord, Becomes, bit, bits_of, descriptor_told, cells_by, cells_of}
@@ -36,7 +39,11 @@ area_apart sh lane i w a b e RootWord q = omega arith
 
 -- the change that a store makes
 abbrev pub undrained_by : View → ℕ → Undrained
-undrained_by v w = record { word = w; mask = all_bits; old = option_map (λ old. bit_and old all_bits) (value_in v w); flushed = false }
+undrained_by v w = record { word = w; mask = all_bits; old = option_map (λ old. bit_and old all_bits) (was_in v w); flushed = false }
+
+-- it has what the lane knew of the word, where that is kept
+pub old_known : (v : View) (w x : ℕ) (part : Part) → part_in v w ≡ part → ((known : Option ℕ) → was_of v.log.phase part known ≡ known) → x < 2 ^ 64 → value_in v w ≡ Some x → IsOld x (undrained_by v w)
+old_known v w x part at keeps l e = (refl, ap (option_map (λ old. bit_and old all_bits)) (ap (λ q. was_of v.log.phase q (value_in v w)) at ∙ keeps (value_in v w) ∙ e) ∙ ap Some (and_mask x 64 ∙ mod-eq_of_lt l))
 
 -- ---- a word that is no place's
 module _ (v : View) (w n : ℕ) (apart : (p : Place) → w ≢ word_of v.fixed.shape p) where

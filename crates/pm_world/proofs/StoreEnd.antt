@@ -31,7 +31,7 @@ use Rattle.pm_world.proofs.AfterStore.{after_store, keeps_at}
 use Rattle.pm_world.proofs.Going.{at_phase}
 use Rattle.pm_world.proofs.Replays.{put1_here, put1_else}
 use Rattle.pm_world.proofs.StepDraw.{all_cons}
-use Rattle.pm_world.proofs.StoreArea.{undrained_by, logged_else, sight_from, Logged, area_world}
+use Rattle.pm_world.proofs.StoreArea.{undrained_by, old_known, logged_else, sight_from, Logged, area_world}
 
 -- ---- which words are the generation and the seal
 abbrev IsWordOf : Shape → ℕ → ℕ → Part → Type 0
@@ -45,9 +45,6 @@ part_word sh lane w = let chunk = if is_chunk_page sh (w / 512) then ChunkPart (
     cond_both (w == word_of_generation sh lane) GenerationPart seal (IsWordOf sh lane w) (λ e. eqb-true w (word_of_generation sh lane) e) (λ _. cond_both (w == word_of_seal sh lane) SealPart entry (IsWordOf sh lane w) (λ e. eqb-true w (word_of_seal sh lane) e)
     (λ _. cond_both (is_entry_word sh lane w) EntryPart slot (IsWordOf sh lane w) (λ _. tt) (λ _. cond_both (is_slot_word sh lane w) SlotPart pool (IsWordOf sh lane w) (λ _. tt) (λ _. cond_both (w == word_of_root sh) RootPart descr (IsWordOf sh lane w) (λ _. tt)
     (λ _. cond_both (is_descriptor_word sh w) (DescriptorPart (chunk_described sh w)) chunk (IsWordOf sh lane w) (λ _. tt) (λ _. cond_both (is_chunk_page sh (w / 512)) (ChunkPart (chunk_at sh (w / 512)) (w % 512)) OtherPart (IsWordOf sh lane w) (λ _. tt) (λ _. tt)))))))
-
-old_known : (v : View) (w x : ℕ) → x < 2 ^ 64 → value_in v w ≡ Some x → IsOld x (undrained_by v w)
-old_known v w x l e = (refl, ap (option_map (λ old. bit_and old all_bits)) e ∙ ap (λ y. Some y) (and_mask x 64 ∙ mod-eq_of_lt l))
 
 -- a call without entries does nothing to blocks
 no_turn : (es : List Entry) → es ≡ [] → (B : Block) → turn (latest (redos es)) B ≡ None
@@ -132,7 +129,7 @@ module _ (w n i : ℕ) (o : Opening) (mem new : Memory) (views views' : Views) (
       world_in (Sealing d) (views k).log.bumped refl (ap Rattle.pm_world.specs.Lanes.is_decided e) (λ j y. subst (λ z. flies_at z j) e y)
       record { hold = f.hold; bits = f.bits; picture = f.picture; turns = f.turns; call = record { flight = f.call.flight; todo = f.call.todo; descr = f.call.descr }; reach = f.reach; plain = f.plain; logged = f.logged; stored = f.stored; fresh = f.fresh; sizes = f.sizes; born = f.born; guarded = f.guarded; soiled = f.soiled }
       (log_in (Drawn d) (Sealing d) (views k).log.bumped e refl (below_of a.below) (else_ (word_of_generation o.shape k) (λ q. omega arith) ∙ l.stored) l.bump (ap (put1 (λ u. mem (PoolWord u)) w n) here ∙ (put1_here (λ u. mem (PoolWord u)) w n ∙ a.all))
-      (subst (λ q. AreaChange (Sealing d) (length (views k).log.entries) (views k).log.generation q (undrained_by (views k) w)) (sym (part_at SealPart p)) (old_known (views k) w 0 (omega arith) (ap (value_in (views k)) (let y = (x.each_lane k ink).lane in omega arith) ∙ a.known)))
+      (subst (λ q. AreaChange (Sealing d) (length (views k).log.entries) (views k).log.generation q (undrained_by (views k) w)) (sym (part_at SealPart p)) (old_known (views k) w 0 SealPart p (λ known. refl) (omega arith) (ap (value_in (views k)) (let y = (x.each_lane k ink).lane in omega arith) ∙ a.known)))
       (subst (λ s. Rattle.pm_world.specs.Logs.AreWhole s k (record (views k).log { phase = Sealing d })) (x.each_lane k ink).shape (subst (λ y. Rattle.pm_world.specs.Logs.AreWhole (views k).fixed.shape y (record (views k).log { phase = Sealing d })) (x.each_lane k ink).lane record { front = a.whole.front; are = a.whole.are; placed = a.whole.placed }), l.phase.1, l.phase.2))
       (subst (λ z. NumberFits z (views k).number) e (x.each_lane k ink).number) t
 
@@ -140,15 +137,15 @@ module _ (w n i : ℕ) (o : Opening) (mem new : Memory) (views views' : Views) (
   generation_here : i ≡ 0 → n ≡ (views k).log.generation + 1 → put1 (λ u. mem (PoolWord u)) w n (word_of_generation o.shape k) ≡ suc (views k).log.generation
   generation_here z e = let here : word_of_generation o.shape k ≡ w = omega arith in ap (put1 (λ u. mem (PoolWord u)) w n) here ∙ (put1_here (λ u. mem (PoolWord u)) w n ∙ (e ∙ omega arith))
 
-  old_generation : i ≡ 0 → value_in (views k) (word_of_generation (views k).fixed.shape (views k).fixed.lane) ≡ Some (views k).log.generation → IsOld (views k).log.generation (undrained_by (views k) w)
-  old_generation z e = old_known (views k) w (views k).log.generation (let l = (x.each_lane k ink).log.last in omega arith) (ap (value_in (views k)) (let y = (x.each_lane k ink).lane in omega arith) ∙ e)
+  old_generation : i ≡ 0 → part_in (views k) w ≡ GenerationPart → value_in (views k) (word_of_generation (views k).fixed.shape (views k).fixed.lane) ≡ Some (views k).log.generation → IsOld (views k).log.generation (undrained_by (views k) w)
+  old_generation z p e = old_known (views k) w (views k).log.generation GenerationPart p (λ known. refl) (let l = (x.each_lane k ink).log.last in omega arith) (ap (value_in (views k)) (let y = (x.each_lane k ink).lane in omega arith) ∙ e)
 
   retiring : (d : ℕ) → i ≡ 0 → (views k).log.phase ≡ Drawn d → part_in (views k) w ≡ GenerationPart → EndsGeneration (views k) n → Turn views views' k (after_store (views k) w n (record (views k).log { phase = Retiring d; bumped = true })) → World o new views' g
   retiring d z e p a t = let l = old_log (Drawn d) e in let f = old_sight (Drawn d) e in
       world_in (Retiring d) true refl (ap Rattle.pm_world.specs.Lanes.is_decided e) (λ j y. subst (λ z. flies_at z j) e y)
       record { hold = f.hold; bits = f.bits; picture = f.picture; turns = no_turn (views k).log.entries a.unentered; call = record { flight = f.call.flight; todo = f.call.todo; descr = f.call.descr }; reach = f.reach; plain = f.plain; logged = f.logged; stored = f.stored; fresh = f.fresh; sizes = f.sizes; born = f.born; guarded = f.guarded; soiled = f.soiled }
       (log_in (Drawn d) (Retiring d) true e refl (below_of a.below) (generation_here z a.next) refl (else_ (word_of_seal o.shape k) (λ q. omega arith) ∙ l.sealed)
-      (subst (λ q. AreaChange (Retiring d) (length (views k).log.entries) (views k).log.generation q (undrained_by (views k) w)) (sym (part_at GenerationPart p)) (old_generation z a.known))
+      (subst (λ q. AreaChange (Retiring d) (length (views k).log.entries) (views k).log.generation q (undrained_by (views k) w)) (sym (part_at GenerationPart p)) (old_generation z p a.known))
       (a.unentered, l.phase.1, l.phase.2)) (subst (λ z. NumberFits z (views k).number) e (x.each_lane k ink).number) t
 
   voiding : i ≡ 0 → (views k).log.phase ≡ Open → part_in (views k) w ≡ GenerationPart → Voids (views k) n → Turn views views' k (after_store (views k) w n (record (views k).log { phase = Voiding; bumped = true })) → World o new views' g
@@ -171,7 +168,7 @@ module _ (w n i : ℕ) (o : Opening) (mem new : Memory) (views views' : Views) (
         soiled = λ q c y. absurd (both_ways false refl (sym (ap (λ cs. is_use (sight_of (views k)).hold q && is_dirty_bit cs (Rattle.pm_view.specs.Places.word_of (views k).fixed.shape q) c) clean ∙ and_false (is_use (sight_of (views k)).hold q)) ∙ y));
       }
       (log_in Open Voiding true e refl (below_of a.ends.below) (generation_here z a.ends.next) refl (else_ (word_of_seal o.shape k) (λ q. omega arith) ∙ l.sealed)
-      (subst (λ q. AreaChange Voiding (length (views k).log.entries) (views k).log.generation q (undrained_by (views k) w)) (sym (part_at GenerationPart p)) (old_generation z a.ends.known))
+      (subst (λ q. AreaChange Voiding (length (views k).log.entries) (views k).log.generation q (undrained_by (views k) w)) (sym (part_at GenerationPart p)) (old_generation z p a.ends.known))
       (a.ends.unentered, a.whole.0, a.whole.1, a.restored)) (subst (λ z. NumberFits z (views k).number) e (x.each_lane k ink).number) t
 
 -- where the word is, in the lane's area
