@@ -1,5 +1,5 @@
 -- What each call makes of the memory of one lane, and what it replies.
-use Rattle.std.specs.Prelude.{◌≡◌, ◌≢◌, ℕ, ◌+◌, Bool, true, false, slice_index, bit_and, bit_or}
+use Rattle.std.specs.Prelude.{◌≡◌, ◌≢◌, ℕ, ◌+◌, true, false, slice_index, bit_and, bit_or}
 use Rattle.std.specs.Int.{bit_not, w64}
 use Rattle.pm_view.specs.LockWords.{reader_bit, writer_bit, without_lane}
 use Rattle.pm_view.specs.declared.occ.Occ.{Occ}
