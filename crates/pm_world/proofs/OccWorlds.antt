@@ -1,10 +1,9 @@
 -- A change of one occupancy word keeps the world: what its lane owes beside the bits.
-use Rattle.std.specs.Prelude.{List, length}
+use Rattle.std.specs.Prelude.{List}
 use Rattle.std.proofs.Common.{◌≡◌, ◌≢◌, ℕ, suc, ◌+◌, ◌*◌, ◌^◌, ◌<◌, inl, inr, ⊎_elim, true, false, ◌==◌, refl, sym, ap, ◌∙◌, subst, arith, Some}
 use Rattle.std.proofs.lemmas.Bool.{both_ways}
 use Rattle.pm_layout.specs.declared.shape.Shape.{Shape}
 use Rattle.pm_layout.specs.Areas.{greatest_generation, word_of_generation, word_of_seal, word_of_entry, line_of_slot}
-use Rattle.pm_record.specs.Undo.{undo_of}
 use Rattle.pm_view.specs.declared.occ.Occ.{Occ}
 use Rattle.pm_view.specs.Places.{Place, InRun, InHuge, Descr, RootWord, Block, Geometry, block_of, is_data}
 use Rattle.pm_view.specs.Changes.{Undrained}
@@ -17,7 +16,7 @@ use Rattle.pm_view.specs.Views.{occupancy_of}
 use Rattle.pm_world.specs.States.{State, Diff, given, Cells}
 use Rattle.pm_world.specs.Sights.{Hold, sight_of}
 use Rattle.pm_world.specs.Lanes.{owns, is_decided, in_flight, Bits}
-use Rattle.pm_world.specs.Logs.{slot_list, PhaseFits}
+use Rattle.pm_world.specs.Logs.{PhaseFits}
 use Rattle.pm_world.specs.Memory.{Location, PoolWord, ZoneLock, CommitCounter, StopWord, Memory, Becomes, occ_at, cells_of}
 use Rattle.pm_world.specs.World.{Opening, Views, Past, origin, ghost_of, settled_words, is_at_page, may_draw, may_draw_count, World}
 use Rattle.pm_world.specs.Laws.{Turn}

@@ -1,17 +1,17 @@
 -- Each call of one lane's memory is one step on the words that lanes share.
-use Rattle.std.proofs.Common.{◌≡◌, ◌≢◌, ℕ, ◌+◌, ◌/◌, ◌<◌, cond, Bool, true, false, not, eqb, List, [], ◌∷◌, length, slice_index, get_or, set, Some, refl, sym, ap, ◌∙◌, subst, bit_and, bit_or}
+use Rattle.std.proofs.Common.{◌≡◌, ℕ, ◌+◌, ◌/◌, ◌<◌, cond, Bool, true, false, not, eqb, List, length, set, Some, refl, sym, ap, ◌∙◌, subst, bit_and, bit_or}
 use Rattle.std.specs.Int.{bit_not, w64}
 use Rattle.std.proofs.lemmas.Bool.{false≢true}
 use Rattle.std.proofs.lemmas.List.{get_or-set_same, get_or-set_other}
 use Rattle.pm_layout.specs.Areas.{page_bytes}
 use Rattle.pm_view.specs.declared.occ.Occ.{Occ}
 use Rattle.pm_view.specs.declared.occ.Occ.TheVariants.{Run, Zone}
-use Rattle.pm_view.specs.LockWords.{reader_bit, writer_bit, with_writer, with_reader, with_raised, without_lane}
+use Rattle.pm_view.specs.LockWords.{reader_bit, writer_bit, with_writer, with_reader, with_raised}
 use Rattle.pm_view.specs.Steps.{Step}
 use Rattle.pm_view.specs.Steps.Step.{Load, Store, Or, And, Flush, Drain, TakeWrite, TakeRead, Raise, Give, ZoneTry, ZoneGive, Occupied, Occupy, Vacate, Draw, NumberSeen, StopSeen, SetStop, Tell}
-use Rattle.pm_memory.specs.Solo.{Solo, CanStep, HasWord, with_occ}
-use Rattle.pm_memory.specs.SoloCalls.{Calls, occ_in}
-use Rattle.pm_world.specs.Memory.{Memory, Location, PoolWord, LockWord, RunWord, ZoneWord, ZoneLock, CommitCounter, StopWord, occ_at, IsSame, IsSameBut, Becomes}
+use Rattle.pm_memory.specs.Solo.{Solo, HasWord, with_occ}
+use Rattle.pm_memory.specs.SoloCalls.{occ_in}
+use Rattle.pm_world.specs.Memory.{Memory, PoolWord, LockWord, RunWord, ZoneWord, ZoneLock, CommitCounter, StopWord, occ_at, IsSame, IsSameBut, Becomes}
 use Rattle.pm_world.specs.Moves.{Moves}
 use Rattle.pm_world.specs.SoloWorld.{memory_of, memory_by, CallsMove}
 

@@ -1,30 +1,23 @@
 -- A memory that stands in its world stands in the world after each call that lane 0's view allows.
-use Rattle.std.proofs.Common.{◌≡◌, ℕ, zero, suc, ◌/◌, ◌<◌, ◌≤◌, Bool, true, false, cond, eqb, List, [], ◌∷◌, length, get_or, Result, Ok, Err, OnOk, OnErr, IfOk, refl, sym, ap, ◌∙◌, subst, arith, ne_eqb}
+use Rattle.std.proofs.Common.{◌≡◌, ℕ, zero, suc, ◌<◌, ◌≤◌, false, cond, eqb, List, [], ◌∷◌, length, get_or, refl, sym, ap, ◌∙◌, subst, arith, ne_eqb}
 use Rattle.std.specs.List.{All}
-use Rattle.std.proofs.lemmas.Bool.{false≢true}
 use Rattle.std.proofs.lemmas.List.Elements.{All-nil}
-use Rattle.pm_layout.specs.declared.shape.Shape.{Shape}
 use Rattle.pm_layout.specs.Chunks.{words_of}
 use Rattle.pm_view.specs.declared.change.Change.{Change}
 use Rattle.pm_view.specs.Changes.{IsFormed}
-use Rattle.pm_view.specs.Counts.{is_counted, IsAtStop}
 use Rattle.pm_view.specs.Steps.{Step}
-use Rattle.pm_view.specs.Steps.Step.{SetStop}
 use Rattle.pm_view.specs.View.{View}
 use Rattle.pm_view.specs.Views.{after}
-use Rattle.pm_memory.specs.declared.lane_mem.Stopped.{Stopped}
 use Rattle.pm_memory.specs.Changes.{AreUndrained}
-use Rattle.pm_memory.specs.Runs.{AnyStep, Made, MadeOrStopped}
-use Rattle.pm_memory.specs.Solo.{Solo, Sees, says_stopped}
-use Rattle.pm_memory.specs.SoloCalls.{Calls}
+use Rattle.pm_memory.specs.Solo.{Sees}
 use Rattle.pm_memory.proofs.Opening.{sees_opened_with}
 use Rattle.pm_world.specs.Course.{past_after}
 use Rattle.pm_world.specs.Histories.{was_after, ghosts_after}
-use Rattle.pm_world.specs.Lawful.{Allowed, IsLawful}
+use Rattle.pm_world.specs.Lawful.{IsLawful}
 use Rattle.pm_world.specs.Laws.{Turn}
-use Rattle.pm_world.specs.SoloLanes.{Stands, OpenedStands, StandsAfter, StandingSurvives}
-use Rattle.pm_world.specs.SoloWorld.{memory_of, AreLanesChanges}
-use Rattle.pm_world.specs.World.{Opening, Views, ghost_of}
+use Rattle.pm_world.specs.SoloLanes.{OpenedStands, StandsAfter, StandingSurvives}
+use Rattle.pm_world.specs.SoloWorld.{memory_of}
+use Rattle.pm_world.specs.World.{Views, ghost_of}
 use Rattle.pm_world.proofs.Histories as histories
 use Rattle.pm_world.proofs.SoloWorlds.{calls_keep_worlds, calls_keep_forms, survivors_are}
 

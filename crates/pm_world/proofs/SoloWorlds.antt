@@ -1,6 +1,6 @@
 -- Of a world whose words are one lane's memory's each lawful call leads to one whose words are the memory's
 -- after it; and what a power failure may leave of a memory it may leave of its world.
-use Rattle.std.proofs.Common.{◌≡◌, ⊎_elim, ℕ, zero, suc, ◌+◌, ◌-◌, ◌%◌, ◌^◌, ◌<◌, ◌≤◌, cond, Bool, true, false, not, bit_and, List, [], ◌∷◌, ◌++◌, length, slice_index, get_or, refl, sym, ap, ◌∙◌, subst, arith}
+use Rattle.std.proofs.Common.{◌≡◌, ⊎_elim, ℕ, zero, suc, ◌-◌, ◌%◌, ◌^◌, ◌<◌, ◌≤◌, cond, true, false, not, bit_and, List, [], ◌∷◌, ◌++◌, length, slice_index, get_or, refl, sym, ap, ◌∙◌, subst, arith}
 use Rattle.std.specs.List.{All, Any, Contains}
 use Rattle.std.proofs.lemmas.List.Elements.{All-filter, All-map, All-push, All-weaker, Contains-append_cases}
 use Rattle.std.proofs.lemmas.Nat.{and_mask}
@@ -12,14 +12,13 @@ use Rattle.pm_view.specs.Steps.{Step}
 use Rattle.pm_view.specs.Steps.Step.{Load, Store, Or, And, Flush, Drain, TakeWrite, TakeRead, Raise, Give, ZoneTry, ZoneGive, Occupied, Occupy, Vacate, Draw, NumberSeen, StopSeen, SetStop, Tell}
 use Rattle.pm_memory.specs.Changes.{AreUndrained, change_flushed, lies_in}
 use Rattle.pm_memory.specs.Solo.{Solo}
-use Rattle.pm_memory.specs.SoloCalls.{Calls}
 use Rattle.pm_memory.specs.Survivors as memory
 use Rattle.pm_memory.proofs.Images.{image-taken, or_formed, and_formed}
 use Rattle.pm_world.specs.Crash.{IsUndrainedOf, IsLeft}
 use Rattle.pm_world.specs.Memory.{Memory, PoolWord}
 use Rattle.pm_world.specs.Solo.{meets_solo}
 use Rattle.pm_world.specs.SoloWorld.{memory_of, CallsKeepWorlds, CallsKeepForms, AreLanesChanges, SurvivorsAreTheWorlds}
-use Rattle.pm_world.specs.World.{Opening, Views, World}
+use Rattle.pm_world.specs.World.{Opening, Views}
 use Rattle.pm_world.proofs.EveryStep.{every_step}
 use Rattle.pm_world.proofs.SoloMoves.{calls_move}
 

@@ -1,10 +1,8 @@
 -- A CALL THAT IS DECIDED IS APPLIED: its entries are stored in their order, the lane's next generation among them, and the seal is cleared.
 use Rattle.std.specs.Prelude.{List, [], ◌∷◌, ◌++◌, All, Contains, length, slice_get, bit_and, if◌then◌else◌}
 use Rattle.std.specs.Option.{option_map}
-use Rattle.std.proofs.Common.{◌≡◌, ◌≢◌, ℕ, zero, suc, ◌+◌, ◌*◌, ◌/◌, ◌%◌, ◌^◌, ◌<◌, ◌≤◌, inr, true, false, ◌==◌, refl, sym, ap, ◌∙◌, subst, arith, Option, None, Some, append_assoc}
+use Rattle.std.proofs.Common.{◌≡◌, ◌≢◌, ℕ, zero, suc, ◌+◌, ◌*◌, ◌/◌, ◌%◌, ◌<◌, ◌≤◌, inr, true, false, ◌==◌, refl, sym, ap, ◌∙◌, subst, arith, Option, None, Some, append_assoc}
 use Rattle.std.proofs.lemmas.Bool.{both_ways, eqb-true, cond_both, true_from_ne_false}
-use Rattle.std.proofs.lemmas.Nat.{and_mask}
-use Rattle.std.proofs.Math.Nat.{mod-eq_of_lt}
 use Rattle.pm_layout.specs.declared.shape.Shape.{Shape}
 use Rattle.pm_layout.specs.Areas.{word_of_generation, word_of_seal, word_of_entry, line_of_slot}
 use Rattle.pm_view.specs.Bits.{all_bits}
@@ -13,7 +11,6 @@ use Rattle.pm_view.specs.Places.{Place, word_of, is_place}
 use Rattle.pm_view.specs.Entries.{Entry, latest, redos, with_redo}
 use Rattle.pm_view.specs.Parts.{Part, GenerationPart, SealPart, EntryPart, SlotPart, RootPart, DescriptorPart, ChunkPart, OtherPart, is_entry_word, is_slot_word, pool_part, part_of}
 use Rattle.pm_view.specs.Log.{Phase, Applying, Clearing, Log, log_stored}
-use Rattle.pm_view.specs.View.{View}
 use Rattle.pm_view.specs.Claims.{class}
 use Rattle.pm_view.specs.Views.{value_in, part_in, changed, marked_by}
 use Rattle.pm_world.specs.States.{given, put1}

@@ -1,22 +1,17 @@
 -- THE STORES THAT DECIDE, and the one that aborts: the seal, and the next generation.
-use Rattle.std.specs.Prelude.{List, [], ◌∷◌, length, bit_and, if◌then◌else◌}
-use Rattle.std.specs.Option.{option_map}
-use Rattle.std.proofs.Common.{◌≡◌, ◌≢◌, ℕ, suc, ◌+◌, ◌*◌, ◌/◌, ◌%◌, ◌^◌, ◌<◌, Bool, true, false, cond, ◌==◌, ◌&&◌, refl, sym, ap, ◌∙◌, subst, arith, None, Some}
+use Rattle.std.specs.Prelude.{List, [], ◌∷◌, length, if◌then◌else◌}
+use Rattle.std.proofs.Common.{◌≡◌, ◌≢◌, ℕ, suc, ◌+◌, ◌*◌, ◌/◌, ◌%◌, ◌<◌, Bool, true, false, cond, ◌==◌, ◌&&◌, refl, sym, ap, ◌∙◌, subst, arith, None, Some}
 use Rattle.std.proofs.lemmas.Bool.{eqb-true, both_ways, cond_both}
-use Rattle.std.proofs.lemmas.Nat.{and_mask}
-use Rattle.std.proofs.Math.Nat.{mod-eq_of_lt}
 use Rattle.pm_layout.specs.declared.shape.Shape.{Shape}
 use Rattle.pm_layout.specs.Areas.{greatest_generation, word_of_generation, word_of_seal, word_of_entry, line_of_slot}
 use Rattle.pm_layout.specs.Chunks.{is_chunk_page, chunk_at, is_descriptor_word, chunk_described, word_of_root}
 use Rattle.pm_record.specs.Undo.{undo_of}
-use Rattle.pm_view.specs.Bits.{all_bits}
 use Rattle.pm_view.specs.Changes.{Undrained, is_dirty_bit}
 use Rattle.pm_view.specs.Counts.{MayCount}
 use Rattle.pm_view.specs.Entries.{Entry, latest, redos, turn}
 use Rattle.pm_view.specs.Log.{Phase, Open, Drawn, Sealing, Retiring, Voiding, Log}
 use Rattle.pm_view.specs.Parts.{Part, GenerationPart, SealPart, EntryPart, SlotPart, RootPart, DescriptorPart, ChunkPart, OtherPart, is_entry_word, is_slot_word, pool_part, part_of}
 use Rattle.pm_view.specs.Places.{Place, Block, Small, Big, Root}
-use Rattle.pm_view.specs.View.{View}
 use Rattle.pm_view.specs.Views.{part_in, value_in}
 use Rattle.pm_world.specs.States.{put1}
 use Rattle.pm_world.specs.Sights.{is_use, sight_of}

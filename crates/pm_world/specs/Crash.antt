@@ -1,5 +1,5 @@
 -- What a power failure may leave of a world's words, which calls it loses, and what recovery then gives.
-use Rattle.std.specs.Prelude.{◌≡◌, ◌⊎◌, ℕ, zero, suc, ◌+◌, ◌<◌, ◌≤◌, ◌==◌, ◌&&◌, ◌||◌, not, cond, Bool, true, false, All, Contains, List, [], ◌∷◌, length, slice_index, Some}
+use Rattle.std.specs.Prelude.{◌≡◌, ◌⊎◌, ℕ, zero, suc, ◌+◌, ◌<◌, ◌≤◌, ◌==◌, ◌&&◌, ◌||◌, not, cond, Bool, true, false, All, Contains, List, length, slice_index, Some}
 use Rattle.pm_record.specs.declared.undo.Undo.{Undo}
 use Rattle.pm_layout.specs.Areas.{old_words}
 use Rattle.pm_layout.specs.Chunks.{chunks_of, word_of_chunk}

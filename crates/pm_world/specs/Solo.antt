@@ -1,5 +1,5 @@
 -- The memory of one lane takes each step that the lane's view allows: a value that a trait asks for.
-use Rattle.std.specs.Prelude.{◌≡◌, ℕ, ◌/◌, ◌<◌, ◌≤◌}
+use Rattle.std.specs.Prelude.{ℕ, ◌/◌, ◌<◌, ◌≤◌}
 use Rattle.std.proofs.Common.{sym, subst, arith}
 use Rattle.pm_layout.specs.declared.shape.Shape.{Shape}
 use Rattle.pm_layout.specs.Chunks.{words_of, chunks_of, page_of_chunk}

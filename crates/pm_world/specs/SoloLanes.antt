@@ -1,6 +1,5 @@
 -- THE MEMORY OF ONE LANE IN ITS WORLD: a lane's memory that stands in a world which began so.
 use Rattle.std.specs.Prelude.{◌≡◌, ℕ, ◌/◌, All, List, [], ◌∷◌, length}
-use Rattle.pm_layout.specs.Chunks.{words_of}
 use Rattle.pm_view.specs.Changes.{IsFormed}
 use Rattle.pm_view.specs.Steps.{Step}
 use Rattle.pm_view.specs.View.{View, Constants, idle}

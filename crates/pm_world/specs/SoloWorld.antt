@@ -1,10 +1,9 @@
 -- THE MEMORY OF ONE LANE AS A WORLD'S: what its calls do to the words that lanes share, and what a
 -- power failure may leave of them.
-use Rattle.std.specs.Prelude.{◌≡◌, ℕ, ◌<◌, ◌≤◌, cond, Bool, false, All, List, [], ◌∷◌, length, slice_index, slice_index_or}
+use Rattle.std.specs.Prelude.{◌≡◌, ℕ, ◌<◌, ◌≤◌, cond, Bool, false, All, List, length, slice_index, slice_index_or}
 use Rattle.pm_view.specs.declared.change.Change.{Change}
 use Rattle.pm_view.specs.Changes.{IsFormed}
 use Rattle.pm_view.specs.Steps.{Step}
-use Rattle.pm_view.specs.View.{View}
 use Rattle.pm_view.specs.Views.{after}
 use Rattle.pm_memory.specs.Changes.{AreUndrained}
 use Rattle.pm_memory.specs.Solo.{Solo, Sees, CanStep}
