@@ -1,20 +1,20 @@
 -- What survives anywhere in a recovery means what was meant, and can be recovered again.
-use Rattle.std.proofs.Common.{◌≡◌, ◌≢◌, ⊎_elim, inl, inr, ℕ, zero, suc, ◌+◌, ◌-◌, ◌*◌, ◌/◌, ◌<◌, ◌≤◌, ◌&&◌, ◌||◌, Bool, true, false, cond, not, ltb, All, List, [], ◌∷◌, ◌++◌, length, take, drop, slice_index, Option, Some, None, refl, sym, ◌∙◌, ap, subst, arith}
+use Rattle.std.proofs.Common.{◌≡◌, ⊎_elim, ℕ, zero, suc, ◌+◌, ◌-◌, ◌/◌, ◌<◌, ◌≤◌, ◌&&◌, ◌||◌, Bool, false, cond, not, ltb, List, [], ◌∷◌, ◌++◌, length, take, drop, slice_index, None, refl, sym, ◌∙◌, ap, subst, arith}
 use Rattle.std.specs.List.{filter, flat_map, range_with_len}
-use Rattle.std.proofs.lemmas.Bool.{cases_eq, cases_lt}
-use Rattle.std.proofs.lemmas.List.{drop_all, ext_get_or, take-append-le, take_all}
+use Rattle.std.proofs.lemmas.Bool.{cases_lt}
+use Rattle.std.proofs.lemmas.List.{ext_get_or, take-append-le, take_all}
 use Rattle.std.proofs.Math.Seq.{take-append-add}
 use Rattle.pm_record.specs.Undo.{undo_of}
-use Rattle.pm_record.specs.declared.redo.Redo.{Redo}
 use Rattle.pm_record.specs.declared.undo.Undo.{Undo}
 use Rattle.pm_objects.specs.declared.pool.PoolView.{PoolView}
-use Rattle.pm_image.specs.Logs.{area_word, entries, generation, is_sealed, records, undo_slot}
+use Rattle.pm_image.specs.Logs.{area_word, generation, is_sealed, records, undo_slot}
 use Rattle.pm_image.specs.Means.{IsMeaning}
+use Rattle.pm_image.proofs.Unsealed.{not_sealed}
 use Rattle.pm_view.specs.declared.change.Change.{Change as ChangeOf}
 use Rattle.pm_memory.specs.Changes.{changes_of}
 use Rattle.pm_memory.specs.Solo.{Solo, opened}
 use Rattle.pm_memory.specs.Survivors.{Survives, all_taken_back}
-use Rattle.pm_recover.specs.Recovery.{HasNoStrayRecord, generation_after, has_record, has_torn_slot, is_raised, is_stray}
+use Rattle.pm_recover.specs.Recovery.{HasNoStrayRecord, generation_after, has_record, is_raised, is_stray}
 use Rattle.pm_recover.proofs.Areas.{SameLane, same_after, same_generation, same_records, same_sealed, same_slot, same_torn}
 use Rattle.pm_recover.proofs.Slots.{valid_parts}
 use Rattle.pm_recover.proofs.Sound.{lanes_of_meaning}
@@ -22,9 +22,9 @@ use Rattle.pm_reopen.specs.Plan.{MemoryCall, cleared, lane_plan, log_end, persis
 use Rattle.pm_reopen.specs.Premise.{HasNoTornClearing, HasWords, IsRecoverable}
 use Rattle.pm_reopen.specs.Running.{MayRemain, after_calls}
 use Rattle.pm_reopen.proofs.LaneParts.{drained3, long3, m3}
-use Rattle.pm_reopen.proofs.LaneSurvives.{LaneKept, SaysLess, kept_lane, premise_kept, unsealed_after}
+use Rattle.pm_reopen.proofs.LaneSurvives.{LaneKept, kept_lane, premise_kept}
+use Rattle.pm_reopen.proofs.LaneWords.{ended_whole, whole_part}
 use Rattle.pm_reopen.proofs.Less.{same_entries}
-use Rattle.pm_reopen.proofs.Phase1.{size}
 use Rattle.pm_reopen.proofs.Segments.{after_append, drained_survives, unstopped_after}
 
 -- ---- lanes that are the same have the same plan
@@ -63,19 +63,19 @@ same_log_end X J k same =
     let generations = same_generation X J k same in
     (λ j. cond (sealed j) (store_of (area_word k + 1) 0 ∷ []) (cond (raised j) (store_of (area_word k) (generations j + 1) ∷ []) []))
 
-same_plan : (X J : List ℕ) (k : ℕ) → length X ≡ length J → SameLane X J k → lane_plan X k ≡ lane_plan J k
+pub same_plan : (X J : List ℕ) (k : ℕ) → length X ≡ length J → SameLane X J k → lane_plan X k ≡ lane_plan J k
 unfolding lane_plan
 same_plan X J k long same =
     (λ j. persisted (long j / 8) (same_writes X J k same j) ++ (cleared k (same_strays X J k same j) ++ persisted (long j / 8) (same_log_end X J k same j)))
 
-same_then : (X Y Z : List ℕ) (k : ℕ) → SameLane X Y k → SameLane Y Z k → SameLane X Z k
+pub same_then : (X Y Z : List ℕ) (k : ℕ) → SameLane X Y k → SameLane Y Z k → SameLane X Z k
 same_then X Y Z k one two = record {
   log = record { long = one.log.long; as_long = two.log.as_long; same = λ i from to. one.log.same i from to ∙ two.log.same i from to };
   generation = one.generation ∙ two.generation;
   seal = one.seal ∙ two.seal;
 }
 
-same_itself : (X : List ℕ) (k : ℕ) → area_word (k + 1) ≤ length X → SameLane X X k
+pub same_itself : (X : List ℕ) (k : ℕ) → area_word (k + 1) ≤ length X → SameLane X X k
 same_itself X k long = record { log = record { long = long; as_long = long; same = λ i from to. refl }; generation = refl; seal = refl }
 
 -- ---- a memory without undrained changes
@@ -139,10 +139,7 @@ module _ (image : List ℕ) (pool : PoolView) (k : ℕ) (m : Solo) (r : IsReache
   next = after_calls m (lane_plan m.words k)
 
   three : after_calls m (lane_plan m.words k) ≡ m3 m pool r.recoverable.means k near r.drained r.free r.recoverable.words
-  unfolding lane_plan
-  three =
-      after_append m (persisted (length m.words / 8) (writes m.words k)) (cleared k (strays m.words k) ++ persisted (length m.words / 8) (log_end m.words k))
-      ∙ after_append (after_calls m (persisted (length m.words / 8) (writes m.words k))) (cleared k (strays m.words k)) (persisted (length m.words / 8) (log_end m.words k))
+  three = whole_part m pool r.recoverable.means k near r.drained r.free r.recoverable.words
 
   next_drained : next.changes ≡ []
   next_drained = ap (λ (x : Solo). x.changes) three ∙ drained3 m pool r.recoverable.means k near r.drained r.free r.recoverable.words
@@ -165,7 +162,7 @@ module _ (image : List ℕ) (pool : PoolView) (k : ℕ) (m : Solo) (r : IsReache
         (λ (last : k ≤ lane).
         let here : k ≡ lane = omega (arith, low, last) in
         subst (λ (l : ℕ). is_sealed next.words l ≡ false) here
-        (ap (λ (x : Solo). is_sealed x.words k) three ∙ unsealed_after m pool r.recoverable.means k near r.drained r.free r.recoverable.words r.unsealed whole))
+        (ap (λ (x : Solo). is_sealed x.words k) three ∙ not_sealed (m3 m pool r.recoverable.means k near r.drained r.free r.recoverable.words).words k (ended_whole m pool r.recoverable.means k near r.drained r.free r.recoverable.words).seal))
         (cases_lt lane k);
     same = λ lane from to. let same = lanes in
         same_then image m.words next.words lane (r.same lane (omega (arith, from)) to) (next_kept.0.others lane (omega (arith, to, same)) (λ at. omega (arith, at, from)));

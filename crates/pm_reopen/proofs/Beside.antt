@@ -1,10 +1,10 @@
 -- While a lane's log is performed, nothing changes beside its own area and the words that it is for.
-use Rattle.std.proofs.Common.{◌≡◌, ◌≢◌, ◌⊎◌, ⊎_elim, inl, inr, ℕ, ◌+◌, ◌*◌, ◌<◌, ◌≤◌, All, List, [], take, length, slice_index, refl, sym, ◌∙◌, ap, subst, arith}
+use Rattle.std.proofs.Common.{◌≡◌, ◌≢◌, ◌⊎◌, ⊎_elim, inl, inr, ℕ, ◌+◌, ◌*◌, ◌<◌, ◌≤◌, All, List, [], take, length, slice_index, sym, ◌∙◌, ap, arith}
 use Rattle.std.proofs.lemmas.Bool.{cases_lt}
 use Rattle.std.proofs.lemmas.List.{take_all}
 use Rattle.pm_record.specs.declared.redo.Redo.{Redo}
-use Rattle.pm_image.specs.Logs.{all_applied, area_word, entries, is_sealed, records}
-use Rattle.pm_recover.proofs.Areas.{SameLane, SameLog, same_records}
+use Rattle.pm_image.specs.Logs.{all_applied, area_word}
+use Rattle.pm_recover.proofs.Areas.{SameLane, same_records}
 use Rattle.pm_reopen.specs.Plan.{writes}
 use Rattle.pm_reopen.proofs.Less.{same_entries}
 use Rattle.pm_reopen.proofs.SameWords.{SameLogsBeside}

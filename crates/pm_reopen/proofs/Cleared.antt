@@ -1,6 +1,6 @@
 -- Words of stray slots, and the end of a log: whole words are stored.
-use Rattle.std.proofs.Common.{◌≡◌, ◌≢◌, ◌⊎◌, ⊎_elim, inl, inr, ℕ, zero, suc, ◌+◌, ◌-◌, ◌*◌, ◌/◌, ◌%◌, ◌^◌, ◌<◌, ◌≤◌, ◌||◌, Bool, true, false, cond, eqb, leb, All, List, [], ◌∷◌, ◌++◌, length, map, replicate, take, slice_index, Option, Some, None, refl, sym, ◌∙◌, ap, subst, arith}
-use Rattle.std.specs.List.{filter, flat_map, list_any, range_with_len}
+use Rattle.std.proofs.Common.{◌≡◌, ◌≢◌, ◌⊎◌, ⊎_elim, inl, inr, ℕ, zero, suc, ◌+◌, ◌*◌, ◌/◌, ◌<◌, ◌≤◌, ◌||◌, Bool, true, false, cond, eqb, All, List, [], ◌∷◌, map, take, refl, sym, ◌∙◌, ap, subst, arith}
+use Rattle.std.specs.List.{filter, list_any, range_with_len}
 use Rattle.std.proofs.lemmas.Bool.{cases_Bool, cases_eq, cases_lt, eq-eqb, eqb-true, false≢true, ne_eqb, or_left, or_right}
 use Rattle.std.proofs.lemmas.List.Elements.{All-append, All-cons, All-head, All-nil, All-tail}
 use Rattle.std.proofs.lemmas.List.Folds.{list_any-append}
@@ -8,7 +8,7 @@ use Rattle.pm_record.specs.Redo.{applied, outcome}
 use Rattle.pm_record.specs.declared.redo.Op.{Op}
 use Rattle.pm_record.specs.declared.redo.Op.TheVariants as op
 use Rattle.pm_record.specs.declared.redo.Redo.{Redo}
-use Rattle.pm_image.specs.Logs.{all_applied, area_word, slot_line, undo_slot}
+use Rattle.pm_image.specs.Logs.{all_applied, slot_line, undo_slot}
 use Rattle.pm_recover.specs.Recovery.{IsOfSlot, generation_after, is_stray}
 use Rattle.pm_reopen.specs.Plan.{store_of, strays, zeros}
 use Rattle.pm_reopen.proofs.Phase2.{IsStraySlot}

@@ -1,13 +1,13 @@
 -- How many changes are undrained after calls, and how many words there are.
-use Rattle.std.proofs.Common.{◌≡◌, ℕ, zero, suc, ◌+◌, ◌*◌, ◌/◌, ◌≤◌, ◌<◌, Bool, true, false, cond, not, List, [], ◌∷◌, ◌++◌, length, map, length-append, length-set, refl, sym, ◌∙◌, ap, subst, arith}
-use Rattle.std.specs.List.{filter, flat_map, range_with_len}
+use Rattle.std.proofs.Common.{◌≡◌, ℕ, zero, suc, ◌+◌, ◌/◌, ◌≤◌, ◌<◌, Bool, true, false, cond, not, List, [], ◌∷◌, ◌++◌, length, map, length-append, length-set, refl, ◌∙◌, ap, subst, arith}
+use Rattle.std.specs.List.{flat_map, range_with_len}
 use Rattle.std.proofs.lemmas.List.{length-map}
 use Rattle.pm_image.proofs.Ranges.{parts_more}
 use Rattle.pm_record.specs.declared.redo.Redo.{Redo}
 use Rattle.pm_record.specs.declared.redo.Op.{Op}
 use Rattle.pm_record.specs.declared.redo.Op.TheVariants as op
 use Rattle.pm_view.specs.declared.change.Change.{Change as ChangeOf}
-use Rattle.pm_memory.specs.Changes.{change_flushed, changes_drained, changes_flushed}
+use Rattle.pm_memory.specs.Changes.{change_flushed, changes_drained}
 use Rattle.pm_memory.specs.Solo.{Solo}
 use Rattle.pm_reopen.specs.Plan.{MemoryCall}
 use Rattle.pm_reopen.specs.Plan.MemoryCall.{Change, Flush, Drain}
@@ -75,7 +75,7 @@ one_long op.Set m w x = length-set m.words w _
 one_long op.Or m w x = length-set m.words w _
 one_long op.And m w x = length-set m.words w _
 
-call_long : (m : Solo) (c : MemoryCall) → length (after_call m c).words ≡ length m.words
+pub call_long : (m : Solo) (c : MemoryCall) → length (after_call m c).words ≡ length m.words
 call_long m (Change e) = one_long e.op m (e.place / 8) e.value
 call_long m (Flush line) = refl
 call_long m Drain = refl

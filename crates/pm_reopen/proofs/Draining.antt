@@ -1,7 +1,7 @@
 -- What is persistent after a part of the plan: everything.
-use Rattle.std.proofs.Common.{◌≡◌, ◌≢◌, ⊎_elim, ℕ, zero, suc, ◌+◌, ◌*◌, ◌/◌, ◌%◌, ◌<◌, ◌≤◌, ◌&&◌, ◌||◌, Bool, true, false, cond, not, eqb, All, List, [], ◌∷◌, ◌++◌, length, map, refl, sym, ◌∙◌, ap, subst, arith}
-use Rattle.std.specs.List.{filter, flat_map, list_any, range_with_len}
-use Rattle.std.proofs.lemmas.Bool.{and_from, cases_eq, cases_lt, eq-eqb, ne_eqb, not-false, or_parts, true_from_ne_false, false≢true}
+use Rattle.std.proofs.Common.{◌≡◌, ◌≢◌, ⊎_elim, ℕ, zero, suc, ◌+◌, ◌*◌, ◌/◌, ◌<◌, ◌≤◌, ◌&&◌, ◌||◌, Bool, true, false, cond, not, eqb, All, List, [], ◌∷◌, ◌++◌, length, map, refl, sym, ◌∙◌, ap, subst, arith}
+use Rattle.std.specs.List.{flat_map, list_any, range_with_len}
+use Rattle.std.proofs.lemmas.Bool.{cases_eq, cases_lt, eq-eqb, ne_eqb, or_parts, false≢true}
 use Rattle.std.proofs.lemmas.List.Elements.{All-head, All-tail}
 use Rattle.std.proofs.lemmas.List.{length-map, nil_from_length}
 use Rattle.pm_record.specs.declared.redo.Redo.{Redo}
@@ -10,14 +10,14 @@ use Rattle.pm_image.specs.Logs.{slot_line}
 use Rattle.pm_image.proofs.Ranges.{parts_more}
 use Rattle.pm_memory.specs.Changes.{change_flushed, changes_drained, changes_flushed, has_unflushed}
 use Rattle.pm_memory.specs.Solo.{Solo}
-use Rattle.pm_reopen.specs.Plan.{MemoryCall, cleared, cleared_slot, drained, lines_of, persisted, store_of, written_back, zeros}
+use Rattle.pm_reopen.specs.Plan.{MemoryCall, cleared, cleared_slot, drained, lines_of, store_of, written_back, zeros}
 use Rattle.pm_reopen.specs.Plan.MemoryCall.{Change, Drain, Flush}
-use Rattle.pm_reopen.specs.Running.{Makes, after_call, after_calls}
+use Rattle.pm_reopen.specs.Running.{Makes, after_calls}
 use Rattle.pm_reopen.specs.Steps.{AreUnflushed}
 use Rattle.pm_reopen.proofs.Counting.{changes_many}
 use Rattle.pm_reopen.proofs.Flushing.{AreFlushed, flush_part, flushed_more, lines_as, none_flushed}
-use Rattle.pm_reopen.proofs.Making.{makes_is, makes_left, makes_right}
-use Rattle.pm_reopen.proofs.Unflushed.{changes_count, changes_unflushed, flushed_elsewhere, flushed_here}
+use Rattle.pm_reopen.proofs.Making.{makes_left, makes_right}
+use Rattle.pm_reopen.proofs.Unflushed.{changes_count, flushed_elsewhere, flushed_here}
 
 -- every change is flushed
 abbrev pub AllFlushed : List ChangeOf → Type 0

@@ -1,17 +1,17 @@
 -- Lines flushed one after the other, in rising place.
 use Rattle.std.proofs.Common.{◌≡◌, ◌≢◌, ⊎_elim, ℕ, ◌+◌, ◌/◌, ◌<◌, ◌≤◌, Bool, true, false, cond, eqb, List, [], ◌∷◌, ◌++◌, length, map, refl, sym, ◌∙◌, ap, subst, arith}
-use Rattle.std.specs.List.{filter, flat_map, list_any, range_with_len}
-use Rattle.std.proofs.lemmas.Bool.{cases_Bool, cases_eq, cases_lt}
+use Rattle.std.specs.List.{flat_map, list_any, range_with_len}
+use Rattle.std.proofs.lemmas.Bool.{cases_lt}
 use Rattle.std.proofs.lemmas.List.{length-map}
 use Rattle.pm_record.specs.declared.redo.Redo.{Redo}
 use Rattle.pm_view.specs.declared.change.Change.{Change as ChangeOf}
-use Rattle.pm_memory.specs.Changes.{change_flushed, changes_flushed, has_unflushed}
+use Rattle.pm_memory.specs.Changes.{change_flushed, has_unflushed}
 use Rattle.pm_memory.specs.Solo.{Solo}
 use Rattle.pm_reopen.specs.Plan.{MemoryCall, lines_of, written_back}
 use Rattle.pm_reopen.specs.Plan.MemoryCall.{Drain, Flush}
-use Rattle.pm_reopen.specs.Running.{Halts, Makes, after_calls}
+use Rattle.pm_reopen.specs.Running.{Halts, Makes}
 use Rattle.pm_reopen.specs.Steps.{AreUnflushed}
-use Rattle.pm_reopen.proofs.Making.{makes_is, makes_none, parts_halt, parts_made}
+use Rattle.pm_reopen.proofs.Making.{makes_none, parts_halt, parts_made}
 use Rattle.pm_reopen.proofs.Parts.{chosen_calls, same_calls}
 use Rattle.pm_reopen.proofs.Unflushed.{flushed_elsewhere, flushed_here}
 

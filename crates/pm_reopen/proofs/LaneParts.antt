@@ -2,8 +2,8 @@
 use Rattle.std.proofs.Common.{◌≡◌, ◌≢◌, ◌⊎◌, ⊎_elim, inl, inr, ℕ, zero, suc, ◌+◌, ◌-◌, ◌*◌, ◌/◌, ◌%◌, ◌^◌, ◌<◌, ◌≤◌, Bool, true, false, cond, All, List, [], ◌∷◌, ◌++◌, length, map, take, drop, slice_index, Option, Some, None, refl, sym, ◌∙◌, ap, subst, arith}
 use Rattle.std.specs.List.{filter, flat_map, range_with_len}
 use Rattle.std.specs.Option.{option_to_list}
-use Rattle.std.proofs.lemmas.Bool.{cases_Bool, cases_lt}
-use Rattle.std.proofs.lemmas.List.{get_or-drop, get_or-take, get_or_past, take-append-le}
+use Rattle.std.proofs.lemmas.Bool.{cases_Bool}
+use Rattle.std.proofs.lemmas.List.{get_or-drop, get_or-take}
 use Rattle.std.proofs.lemmas.List.Elements.{All-append, All-cons, All-filter, All-head, All-nil, All-tail, All-weaker}
 use Rattle.std.proofs.lemmas.Option.{cond_some}
 use Rattle.pm_record.specs.Undo.{is_record, undo_in, undo_of}
@@ -20,7 +20,7 @@ use Rattle.pm_recover.specs.Steps.{HasSoundLogs}
 use Rattle.pm_recover.proofs.Sound.{lanes_of_meaning}
 use Rattle.pm_recover.proofs.Slots.{valid_parts}
 use Rattle.pm_recover.proofs.Strays.{slot_word}
-use Rattle.pm_reopen.specs.Plan.{MemoryCall, cleared, lane_plan, log_end, persisted, restores, store_of, strays, writes, written_back, zeros}
+use Rattle.pm_reopen.specs.Plan.{MemoryCall, cleared, log_end, persisted, restores, store_of, strays, writes, written_back, zeros}
 use Rattle.pm_reopen.specs.Plan.MemoryCall.{Change}
 use Rattle.pm_reopen.specs.Premise.{HasTargets, HasWords}
 use Rattle.pm_reopen.specs.Running.{after_calls}

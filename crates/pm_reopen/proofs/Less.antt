@@ -1,6 +1,6 @@
 -- An image whose logs say the same as another's, or less, has no fault in them where that has none,
 -- and means the same, where the recovered words are the same.
-use Rattle.std.proofs.Common.{◌≡◌, ◌≢◌, ◌⊎◌, ⊎_elim, inl, inr, ℕ, zero, suc, ◌+◌, ◌-◌, ◌*◌, ◌/◌, ◌%◌, ◌<◌, ◌≤◌, ◌&&◌, ◌||◌, Bool, true, false, cond, not, eqb, leb, ltb, List, [], ◌∷◌, ◌++◌, length, length-append, map, take, drop, slice_index, bit_and, Option, Some, None, refl, sym, ◌∙◌, ap, subst, arith}
+use Rattle.std.proofs.Common.{◌≡◌, ◌≢◌, ◌⊎◌, ⊎_elim, inl, inr, ℕ, zero, suc, ◌+◌, ◌*◌, ◌/◌, ◌%◌, ◌<◌, ◌≤◌, ◌&&◌, ◌||◌, Bool, true, false, cond, not, eqb, leb, ltb, List, [], ◌∷◌, ◌++◌, length, length-append, take, drop, slice_index, bit_and, Option, Some, None, refl, sym, ◌∙◌, ap, subst, arith}
 use Rattle.std.specs.List.{filter, filter_map, find, flat_map, list_any, range_with_len}
 use Rattle.std.specs.Option.{option_map, option_map_or, option_or, option_to_list}
 use Rattle.std.specs.Int.Bits.{and_zero_l, and_zero_r}
@@ -13,7 +13,7 @@ use Rattle.pm_record.specs.declared.undo.Undo.{Undo}
 use Rattle.pm_objects.specs.declared.pool.PoolView.{PoolView}
 use Rattle.pm_image.specs.declared.fault.ImageFault.{ImageFault}
 use Rattle.pm_image.specs.declared.fault.ImageFault.TheVariants as fault
-use Rattle.pm_image.specs.Logs.{area_word, covers, entries, entries_for, entry_pair, generation_word, is_sealed, recovered, recovered_at, records, seal_word}
+use Rattle.pm_image.specs.Logs.{area_word, covers, entries, entries_for, entry_pair, is_sealed, recovered, recovered_at, records, seal_word}
 use Rattle.pm_image.specs.LogFaults.{bad_entry, bad_slot, bits_of, clash_fault, clashes, good_entry, good_lane, good_record, lane_fault, lane_mask, lanes_clash, log_fault, records_for, redo_fault, undo_fault}
 use Rattle.pm_image.specs.HeapFaults.{heap_fault}
 use Rattle.pm_image.specs.Means.{HasShape, IsMeaning, page}
@@ -25,7 +25,6 @@ use Rattle.pm_image.proofs.Firsts.{fails_at_each, none_passes}
 use Rattle.pm_image.proofs.Gathering.{record_at, records_by_number}
 use Rattle.pm_image.proofs.HeapWords.{reads_heap}
 use Rattle.pm_image.proofs.InPlace.{recovered_in_place}
-use Rattle.pm_image.proofs.Local.{flat_map_same}
 use Rattle.pm_image.proofs.LocalMeaning.{meaning_local}
 use Rattle.pm_image.proofs.Redoing.{entries_sealed, entries_unsealed, sealed_few}
 use Rattle.pm_recover.proofs.Areas.{SameLane, same_records, same_sealed, same_valid}

@@ -21,9 +21,12 @@ pub mod Targets
 pub mod Unflushed
 pub mod While
 pub mod Segments
+pub mod Short
 pub mod Cleared
 pub mod LaneParts
+pub mod LaneWords
 pub mod LaneSurvives
 pub mod LogHead
 pub mod AllLanes
 pub mod Unstopped
+pub mod WholeRecovery

@@ -1,5 +1,5 @@
 -- How a lane's log ends.
-use Rattle.std.proofs.Common.{◌≡◌, ℕ, ◌+◌, Bool, true, false, cond, List, [], ◌∷◌, refl, sym, ◌∙◌, ap}
+use Rattle.std.proofs.Common.{◌≡◌, ℕ, ◌+◌, Bool, true, false, cond, List, [], ◌∷◌, ◌∙◌, ap}
 use Rattle.pm_record.specs.declared.redo.Redo.{Redo}
 use Rattle.pm_image.specs.Logs.{area_word, generation, is_sealed}
 use Rattle.pm_recover.specs.Recovery.{is_raised}

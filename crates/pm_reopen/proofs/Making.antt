@@ -1,5 +1,5 @@
 -- Memory calls put together: some made, then others made or stopped.
-use Rattle.std.proofs.Common.{◌≡◌, ◌⊎◌, ⊎_elim, inl, inr, ℕ, zero, suc, ◌+◌, ◌-◌, ◌<◌, ◌≤◌, List, [], ◌∷◌, ◌++◌, length, map, refl, sym, ◌∙◌, ap, subst, arith, rules, Result, Ok, Err, IsErr, ◌/◌}
+use Rattle.std.proofs.Common.{◌≡◌, inl, inr, ℕ, ◌+◌, ◌-◌, ◌<◌, List, [], ◌∷◌, ◌++◌, refl, sym, ◌∙◌, ap, subst, arith, rules, Result, Ok, Err, IsErr, ◌/◌}
 use Rattle.std.specs.List.{flat_map, range_with_len}
 use Rattle.pm_memory.specs.Solo.{Solo, IsDue, IsSpent, says_stopped}
 use Rattle.pm_image.proofs.Finding.{range_split}
@@ -10,7 +10,7 @@ use Rattle.pm_memory.specs.declared.lane_mem.Stopped.{Stopped}
 use Rattle.pm_reopen.specs.Plan.{MemoryCall}
 use Rattle.pm_reopen.specs.Plan.MemoryCall.{Change}
 use Rattle.pm_reopen.specs.Running.{Halts, Makes, MakesOrHalts, after_call, after_calls, after_change}
-use Rattle.std.proofs.lemmas.List.{append_assoc, append-nil}
+use Rattle.std.proofs.lemmas.List.{append_assoc}
 
 pub makes_none : (m : Solo) → Makes m m []
 unfolding Makes

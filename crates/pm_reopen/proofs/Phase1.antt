@@ -1,6 +1,6 @@
 -- While the words of a lane are restored and its entries applied, the image means what it meant.
-use Rattle.std.proofs.Common.{◌≡◌, ◌≢◌, ◌⊎◌, ⊎_elim, inl, inr, ℕ, ◌+◌, ◌-◌, ◌*◌, ◌/◌, ◌%◌, ◌^◌, ◌<◌, ◌≤◌, ◌&&◌, ◌||◌, Bool, true, false, cond, not, eqb, leb, ltb, All, List, [], ◌∷◌, length, take, slice_index, Option, Some, None, refl, sym, ◌∙◌, ap, subst, arith}
-use Rattle.std.specs.List.{filter, flat_map, range_with_len}
+use Rattle.std.proofs.Common.{◌≡◌, ◌≢◌, ◌⊎◌, ⊎_elim, inl, inr, ℕ, ◌+◌, ◌*◌, ◌/◌, ◌%◌, ◌^◌, ◌<◌, ◌≤◌, ◌&&◌, ◌||◌, Bool, true, false, cond, not, eqb, leb, ltb, All, List, [], ◌∷◌, length, take, slice_index, Option, Some, None, refl, sym, ◌∙◌, ap, subst, arith}
+use Rattle.std.specs.List.{flat_map, range_with_len}
 use Rattle.std.specs.Option.{option_to_list}
 use Rattle.std.proofs.lemmas.Bool.{and_from, and_left, and_parts, and_right, cases_Bool, cases_eq, cases_lt, eq-eqb, false≢true, le-leb, leb-true, not-false, not_from_true}
 use Rattle.std.proofs.lemmas.List.{take_all}
@@ -10,14 +10,14 @@ use Rattle.pm_record.specs.Undo.{undo_of}
 use Rattle.pm_record.specs.declared.redo.Redo.{Redo}
 use Rattle.pm_record.specs.declared.undo.Undo.{Undo}
 use Rattle.pm_objects.specs.declared.pool.PoolView.{PoolView}
-use Rattle.pm_image.specs.Logs.{all_applied, area_word, entries, entries_for, entry_pair, generation, generation_word, is_sealed, record_for, records, recovered, seal_word, undo_slot}
+use Rattle.pm_image.specs.Logs.{all_applied, area_word, entries, entry_pair, generation, generation_word, is_sealed, records, seal_word, undo_slot}
 use Rattle.pm_image.specs.LogFaults.{bad_entry, ends_log, good_entry, good_lane, is_set, is_target, log_fault}
-use Rattle.pm_image.specs.Means.{HasShape, IsMeaning}
+use Rattle.pm_image.specs.Means.{IsMeaning}
 use Rattle.pm_image.specs.Reads.{IsHeapWord}
 use Rattle.pm_image.specs.Steps.{valid_record}
 use Rattle.pm_image.proofs.Gathering.{entries_by_number, entry_at, record_at, records_by_number}
-use Rattle.pm_image.proofs.Redoing.{entries_sealed, entries_unsealed, sealed_few}
-use Rattle.pm_recover.specs.Steps.{HasApartLogs, HasSoundLogs}
+use Rattle.pm_image.proofs.Redoing.{entries_unsealed, sealed_few}
+use Rattle.pm_recover.specs.Steps.{HasSoundLogs}
 use Rattle.pm_recover.proofs.Areas.{SameLog, same_slot}
 use Rattle.pm_recover.proofs.Slots.{generation_sealed, generation_unsealed, of_generation}
 use Rattle.pm_recover.proofs.Sound.{logs_apart, logs_of_meaning, logs_sound}
@@ -27,11 +27,11 @@ use Rattle.pm_reopen.proofs.Again.{IsWord}
 use Rattle.pm_reopen.proofs.Beside.{IsBeside, IsPerformed, lanes_stay, logs_stay, page_stays}
 use Rattle.pm_reopen.proofs.ForWords.{IsWhole}
 use Rattle.pm_reopen.proofs.Inside.{all_parts}
-use Rattle.pm_reopen.proofs.Less.{HasNoLogFault, IsLess, SameHeapWords, few_of_lane, few_records, meaning_less, rows_of}
+use Rattle.pm_reopen.proofs.Less.{HasNoLogFault, IsLess, SameHeapWords, few_records, meaning_less, rows_of}
 use Rattle.pm_reopen.proofs.SameWords.{IsBefore, same_while}
 use Rattle.pm_reopen.proofs.Surviving.{IsPartlyWritten, for_word}
 use Rattle.pm_reopen.proofs.Targets.{size_of_shape}
-use Rattle.pm_reopen.proofs.While.{IsHeap, IsTarget, own_word, untouched, value_in, writes_targets}
+use Rattle.pm_reopen.proofs.While.{IsTarget, own_word, untouched, value_in, writes_targets}
 
 -- ---- what is known of an image that means a pool
 

@@ -1,19 +1,18 @@
 -- While stray slots are cleared, the image means what it meant.
-use Rattle.std.proofs.Common.{◌≡◌, ◌≢◌, ◌⊎◌, ⊎_elim, inl, inr, ℕ, zero, suc, ◌+◌, ◌-◌, ◌*◌, ◌/◌, ◌%◌, ◌<◌, ◌≤◌, ◌&&◌, ◌||◌, Bool, true, false, cond, not, eqb, leb, ltb, All, List, [], ◌∷◌, length, take, slice_index, Option, Some, None, refl, sym, ◌∙◌, ap, subst, arith}
-use Rattle.std.specs.Option.{option_map_or, option_to_list}
-use Rattle.std.proofs.lemmas.Bool.{and_from, cases_Bool, cases_lt, false≢true, leb-true, or_left}
+use Rattle.std.proofs.Common.{◌≡◌, ◌≢◌, ◌⊎◌, ⊎_elim, inl, inr, ℕ, ◌+◌, ◌*◌, ◌<◌, ◌≤◌, ◌&&◌, ◌||◌, Bool, true, false, not, ltb, List, length, take, slice_index, Option, Some, None, refl, sym, ◌∙◌, ap, subst, arith}
+use Rattle.std.proofs.lemmas.Bool.{cases_Bool, false≢true, leb-true}
 use Rattle.std.proofs.lemmas.List.{take_all}
 use Rattle.std.proofs.lemmas.Option.{cond_some}
 use Rattle.pm_record.specs.Undo.{is_record, undo_in, undo_of}
 use Rattle.pm_record.specs.declared.redo.Redo.{Redo}
 use Rattle.pm_record.specs.declared.undo.Undo.{Undo}
 use Rattle.pm_objects.specs.declared.pool.PoolView.{PoolView}
-use Rattle.pm_image.specs.Logs.{all_applied, area_word, generation, generation_word, is_sealed, seal_word, slot_line, undo_slot}
+use Rattle.pm_image.specs.Logs.{all_applied, area_word, generation, is_sealed, slot_line, undo_slot}
 use Rattle.pm_image.specs.Means.{IsMeaning}
 use Rattle.pm_image.specs.Steps.{valid_record}
 use Rattle.pm_recover.specs.Recovery.{IsOfSlot, generation_after, has_record, has_torn_slot, is_raised, is_stray}
-use Rattle.pm_recover.proofs.Clean.{after_kept, after_raised, not_less}
-use Rattle.pm_recover.proofs.Slots.{of_generation, recorded, valid_if, valid_parts}
+use Rattle.pm_recover.proofs.Clean.{after_raised}
+use Rattle.pm_recover.proofs.Slots.{recorded, valid_if, valid_parts}
 use Rattle.pm_recover.proofs.Strays.{slot_kept, slot_long, slot_word, stray_by}
 use Rattle.pm_reopen.specs.Plan.{writes}
 use Rattle.pm_reopen.specs.Premise.{HasNoTornClearing, HasWords, IsPartlyCleared}
@@ -22,7 +21,7 @@ use Rattle.pm_reopen.proofs.Less.{IsLess, SameHeapWords, few_of_lane, few_record
 use Rattle.pm_reopen.proofs.Phase1.{HasLogOf, before_word, heap_beside, rows, size, sound, still_entries, still_generation, still_good, still_rows, still_valid, targets}
 use Rattle.pm_reopen.proofs.SameWords.{same_after}
 use Rattle.pm_reopen.proofs.Surviving.{for_word}
-use Rattle.pm_reopen.proofs.While.{IsHeap, own_word, untouched}
+use Rattle.pm_reopen.proofs.While.{own_word, untouched}
 
 -- the slot has a stray record
 abbrev pub IsStraySlot : List ℕ → ℕ → ℕ → Type 0

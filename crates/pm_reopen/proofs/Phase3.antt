@@ -1,5 +1,5 @@
 -- Once a lane's log is ended, the image means what it meant.
-use Rattle.std.proofs.Common.{◌≡◌, ◌≢◌, ◌⊎◌, ⊎_elim, inl, inr, ℕ, ◌+◌, ◌*◌, ◌<◌, ◌≤◌, ◌&&◌, Bool, true, false, not, leb, ltb, List, [], length, take, slice_index, Option, Some, None, refl, sym, ◌∙◌, ap, subst, arith}
+use Rattle.std.proofs.Common.{◌≡◌, inr, ℕ, ◌*◌, ◌<◌, ◌&&◌, false, not, ltb, List, length, slice_index, None, sym, ◌∙◌, ap, arith}
 use Rattle.std.specs.List.{filter}
 use Rattle.std.proofs.lemmas.Bool.{and_left}
 use Rattle.std.proofs.lemmas.List.{take_all}
@@ -8,7 +8,7 @@ use Rattle.pm_record.specs.Undo.{undo_of}
 use Rattle.pm_record.specs.declared.redo.Redo.{Redo}
 use Rattle.pm_record.specs.declared.undo.Undo.{Undo}
 use Rattle.pm_objects.specs.declared.pool.PoolView.{PoolView}
-use Rattle.pm_image.specs.Logs.{all_applied, covers, entries, entry_pair, generation, generation_word, is_sealed, records, seal_word, undo_slot}
+use Rattle.pm_image.specs.Logs.{all_applied, covers, entry_pair, generation, generation_word, is_sealed, seal_word, undo_slot}
 use Rattle.pm_image.specs.LogFaults.{bad_entry, good_entry}
 use Rattle.pm_image.specs.Means.{IsMeaning}
 use Rattle.pm_image.specs.Steps.{valid_record}

@@ -1,19 +1,16 @@
 -- What survives in each part of the plan: changes, flushes, and at the end a drain.
-use Rattle.std.proofs.Common.{◌≡◌, ⊎_elim, ℕ, zero, suc, ◌+◌, ◌-◌, ◌/◌, ◌^◌, ◌<◌, ◌≤◌, Bool, eqb, All, List, [], ◌∷◌, ◌++◌, length, map, take, drop, slice_index, length-append, refl, sym, ◌∙◌, ap, subst, arith}
-use Rattle.std.specs.List.{filter, flat_map}
+use Rattle.std.proofs.Common.{◌≡◌, ⊎_elim, ℕ, zero, suc, ◌/◌, ◌^◌, ◌<◌, ◌≤◌, eqb, All, List, [], ◌∷◌, ◌++◌, length, take, slice_index, refl, sym, ◌∙◌, ap, subst, arith}
 use Rattle.std.proofs.lemmas.Bool.{cases_lt}
-use Rattle.std.proofs.lemmas.List.{append-nil, append_assoc, drop_all, take-append-le, take_all}
+use Rattle.std.proofs.lemmas.List.{append-nil, append_assoc, take-append-le, take_all}
 use Rattle.std.proofs.lemmas.List.Elements.{All-head, All-tail, filter-append}
 use Rattle.pm_record.specs.declared.redo.Redo.{Redo}
 use Rattle.pm_image.specs.Logs.{all_applied}
-use Rattle.pm_memory.specs.Changes.{changes_of}
 use Rattle.pm_memory.specs.Solo.{Solo}
 use Rattle.pm_memory.specs.Survivors.{Survives}
-use Rattle.pm_view.specs.declared.change.Change.{Change as ChangeOf}
 use Rattle.pm_reopen.specs.Plan.{MemoryCall}
 use Rattle.pm_reopen.specs.Plan.MemoryCall.{Change, Drain, Flush}
 use Rattle.pm_reopen.specs.Running.{after_call, after_calls}
-use Rattle.pm_reopen.proofs.Surviving.{IsPartlyWritten, IsWriting, flush_written, for_word, nothing_written, one_written, survivor_written, words_written}
+use Rattle.pm_reopen.proofs.Surviving.{IsPartlyWritten, IsWriting, flush_written, for_word, nothing_written, one_written, survivor_written}
 
 -- the changes among these calls
 unfoldable pub changes_among : List MemoryCall → List Redo

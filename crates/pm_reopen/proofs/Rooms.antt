@@ -1,21 +1,18 @@
 -- No part of a lane's recovery makes more than 512 changes.
-use Rattle.std.proofs.Common.{◌≡◌, ⊎_elim, ℕ, zero, suc, ◌+◌, ◌*◌, ◌<◌, ◌≤◌, Bool, true, false, cond, List, [], ◌∷◌, ◌++◌, length, map, Option, Some, None, refl, sym, ◌∙◌, ap, subst, arith}
+use Rattle.std.proofs.Common.{◌≡◌, ℕ, ◌+◌, ◌*◌, ◌<◌, ◌≤◌, Bool, true, false, cond, List, [], ◌∷◌, map, Option, Some, None, refl, sym, ◌∙◌, ap, arith}
 use Rattle.std.specs.List.{flat_map, range_with_len}
 use Rattle.std.specs.Option.{option_to_list}
-use Rattle.std.proofs.lemmas.Bool.{cases_Bool}
-use Rattle.std.proofs.lemmas.List.{length-map}
 use Rattle.std.proofs.lemmas.List.FromFn.{length-map-range_with_len}
 use Rattle.pm_record.specs.Redo.{redo_of}
 use Rattle.pm_record.specs.declared.redo.Redo.{Redo}
 use Rattle.pm_record.specs.declared.undo.Undo.{Undo}
-use Rattle.pm_image.specs.Logs.{entries, entry_pair, is_sealed, records, seal_word, slot_line}
+use Rattle.pm_image.specs.Logs.{entry_pair, records, slot_line}
 use Rattle.pm_image.specs.Steps.{valid_record}
-use Rattle.pm_image.proofs.Redoing.{entries_unsealed, sealed_few}
 use Rattle.pm_recover.specs.Steps.{HasSoundLogs}
-use Rattle.pm_reopen.specs.Plan.{MemoryCall, cleared_slot, restores, store_of, zeros}
-use Rattle.pm_reopen.specs.Plan.MemoryCall.{Change, Flush, Drain}
+use Rattle.pm_reopen.specs.Plan.{cleared_slot, restores, zeros}
+use Rattle.pm_reopen.specs.Plan.MemoryCall.{Change, Flush}
 use Rattle.pm_reopen.proofs.Counting.{changes_in, changes_in-append, changes_in-map, parts_many}
-use Rattle.pm_reopen.proofs.Parts.{entries_by_call, entry_calls, of_none, of_one, records_by_slot, slot_calls}
+use Rattle.pm_reopen.proofs.Parts.{entry_calls, of_none, of_one, records_by_slot, slot_calls}
 
 restores_many : (u : Undo) → changes_in (map Change (restores u)) ≡ u.count
 restores_many u = changes_in-map (restores u) ∙ length-map-range_with_len _ 0 u.count

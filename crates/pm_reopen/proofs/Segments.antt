@@ -1,8 +1,7 @@
 -- A part of the plan: changes and flushes, then a drain if there were any. What survives in it, and
 -- what it leaves.
-use Rattle.std.proofs.Common.{◌≡◌, ◌⊎◌, ⊎_elim, inl, inr, ℕ, zero, suc, ◌+◌, ◌-◌, ◌/◌, ◌<◌, ◌≤◌, All, List, [], ◌∷◌, ◌++◌, length, length-append, map, take, drop, slice_index, Option, Some, None, refl, sym, ◌∙◌, ap, subst, arith}
+use Rattle.std.proofs.Common.{◌≡◌, ◌⊎◌, ⊎_elim, inl, inr, ℕ, ◌<◌, ◌≤◌, All, List, [], ◌∷◌, ◌++◌, length, length-append, map, take, drop, slice_index, Some, None, refl, sym, ◌∙◌, ap, subst, arith}
 use Rattle.std.specs.List.{flat_map}
-use Rattle.std.specs.Option.{ForSome}
 use Rattle.std.proofs.lemmas.Bool.{cases_lt}
 use Rattle.std.proofs.lemmas.List.{append-nil, append_assoc, drop_all, take-append-le, take_all}
 use Rattle.pm_record.specs.declared.redo.Redo.{Redo}
@@ -11,7 +10,7 @@ use Rattle.pm_view.specs.declared.change.Change.{Change as ChangeOf}
 use Rattle.pm_memory.specs.Changes.{changes_of}
 use Rattle.pm_memory.specs.Solo.{Solo, IsDue}
 use Rattle.pm_memory.specs.Survivors.{Survives, all_taken_back}
-use Rattle.pm_reopen.specs.Plan.{MemoryCall, cleared, cleared_slot, drained, lines_of, persisted, written_back, zeros}
+use Rattle.pm_reopen.specs.Plan.{MemoryCall, cleared, cleared_slot, drained, lines_of, persisted, zeros}
 use Rattle.pm_reopen.specs.Plan.MemoryCall.{Change, Drain, Flush}
 use Rattle.pm_reopen.specs.Running.{Makes, after_call, after_calls}
 use Rattle.pm_reopen.proofs.Phases.{AreSmall, HasNoDrain, IsInside, calls_write, changes_among, part_survives}

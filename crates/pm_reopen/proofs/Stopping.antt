@@ -1,5 +1,5 @@
 -- How many calls were made, and where the stop number cut them off.
-use Rattle.std.proofs.Common.{◌≡◌, ⊎_elim, inl, inr, ℕ, zero, suc, ◌+◌, ◌-◌, ◌/◌, ◌%◌, ◌^◌, ◌<◌, ◌≤◌, Bool, true, false, cond, leb, List, [], ◌∷◌, length, take, drop, slice_index, Option, Some, None, refl, sym, ◌∙◌, ap, subst, arith}
+use Rattle.std.proofs.Common.{◌≡◌, inl, inr, ℕ, suc, ◌+◌, ◌-◌, ◌/◌, ◌%◌, ◌^◌, ◌<◌, ◌≤◌, Bool, cond, List, [], ◌∷◌, length, take, drop, slice_index, Option, Some, None, refl, sym, ◌∙◌, ap, subst, arith}
 use Rattle.std.specs.Option.{ForSome}
 use Rattle.std.proofs.lemmas.Bool.{le-leb, lt-leb}
 use Rattle.std.proofs.lemmas.List.{drop_all, ext_get_or, take_all}
@@ -14,7 +14,8 @@ use Rattle.pm_reopen.specs.declared.end.RecoverEnd.{RecoverEnd}
 use Rattle.pm_reopen.specs.declared.end.RecoverEnd.TheVariants as end
 use Rattle.pm_reopen.specs.Plan.{MemoryCall, plan}
 use Rattle.pm_reopen.specs.Plan.MemoryCall.{Change, Flush, Drain}
-use Rattle.pm_reopen.specs.Running.{Halts, IsLeft, Makes, after_call, after_calls, after_change, end_of, recovered_words, recovering}
+use Rattle.pm_reopen.specs.Ends.{calls_of, end_of}
+use Rattle.pm_reopen.specs.Running.{Halts, IsLeft, Makes, after_call, after_calls, after_change, words_left, recovering}
 use Rattle.pm_reopen.specs.Steps.{Leaves, Ran}
 use Rattle.pm_reopen.proofs.Making.{makes_is}
 
@@ -121,7 +122,7 @@ never_halts a b [] none stops = stops
 never_halts a b (x ∷ xs) none (inl here) = subst (λ (o : Option ℕ). Rattle.std.specs.Prelude.IsSomeAnd o (λ s. s ≤ a.calls)) none here.0
 never_halts a b (x ∷ xs) none (inr later) = never_halts (after_call a x) b xs ((call_counted a x).1 ∙ none) later.1
 
-kept_drained : (keep : ℕ) (m : Solo) (left : List ℕ) → m.changes ≡ [] → IsKeptImage keep m.words (m.changes ∷ []) left → left ≡ m.words
+pub kept_drained : (keep : ℕ) (m : Solo) (left : List ℕ) → m.changes ≡ [] → IsKeptImage keep m.words (m.changes ∷ []) left → left ≡ m.words
 kept_drained keep m left none image =
     ext_get_or 0 left m.words image.size (λ i near.
     let long = image.size in
@@ -132,10 +133,26 @@ kept_drained keep m left none image =
     kept_of : ℕ → Solo → ℕ → ℕ
     kept_of k n w = kept k (length n.words) (n.changes ∷ []) 0 w
 
-pub left_whole : (image : List ℕ) (lanes keep : ℕ) (e : RecoverEnd) (left : List ℕ) → Leaves image lanes None keep e left → left ≡ recovered_words image lanes
+pub left_whole : (image : List ℕ) (lanes keep : ℕ) (e : RecoverEnd) (left : List ℕ) → Leaves image lanes None keep e left → left ≡ words_left image lanes
 left_whole image lanes keep e left leaves = by_end e leaves.ran where
-  by_end : (f : RecoverEnd) → Ran image lanes None leaves.memory f → left ≡ recovered_words image lanes
+  by_end : (f : RecoverEnd) → Ran image lanes None leaves.memory f → left ≡ words_left image lanes
   by_end (end.Whole n) ran =
       kept_drained keep leaves.memory left ran.2 leaves.is
       ∙ ap (λ (m : Solo). m.words) (makes_is (opened image None) leaves.memory (plan image lanes) ran.0)
+  by_end (end.Stopped n) ran = absurd (never_halts (opened image None) leaves.memory (plan image lanes) refl ran.0)
+
+-- so many calls are counted, where they are fewer than a number of 64 bits counts
+makes_all : (a b : Solo) (xs : List MemoryCall) → a.calls + length xs < 2 ^ 64 → Makes a b xs → b.calls ≡ a.calls + length xs
+unfolding Makes
+makes_all a b [] fits made = let same = ap (λ (m : Solo). m.calls) made in omega (arith, same)
+makes_all a b (x ∷ xs) fits made =
+    let counted = (call_counted a x).0 in
+    let next : (after_call a x).calls ≡ a.calls + 1 = omega (arith, counted, fits) in
+    let rest = makes_all (after_call a x) b xs (omega (arith, next, fits)) made.1 in
+    omega (arith, next, rest)
+
+pub whole_calls : (image : List ℕ) (lanes keep : ℕ) (e : RecoverEnd) (left : List ℕ) → length (plan image lanes) < 2 ^ 64 → Leaves image lanes None keep e left → calls_of e ≡ length (plan image lanes)
+whole_calls image lanes keep e left fits leaves = by_end e leaves.ran where
+  by_end : (f : RecoverEnd) → Ran image lanes None leaves.memory f → calls_of f ≡ length (plan image lanes)
+  by_end (end.Whole n) ran = let all = makes_all (opened image None) leaves.memory (plan image lanes) (omega (arith, fits)) ran.0 in let is = ran.1 in omega (arith, all, is)
   by_end (end.Stopped n) ran = absurd (never_halts (opened image None) leaves.memory (plan image lanes) refl ran.0)

@@ -1,6 +1,5 @@
 -- The entries of an image without a fault are for its words.
-use Rattle.std.proofs.Common.{◌≡◌, ◌≢◌, ⊎_elim, ℕ, zero, suc, ◌+◌, ◌-◌, ◌*◌, ◌/◌, ◌%◌, ◌<◌, ◌≤◌, ◌&&◌, ◌||◌, Bool, true, false, cond, not, eqb, leb, ltb, All, List, [], ◌∷◌, length, Option, Some, None, refl, sym, ◌∙◌, ap, subst, arith}
-use Rattle.std.specs.List.{flat_map, range_with_len}
+use Rattle.std.proofs.Common.{◌≡◌, ⊎_elim, ℕ, ◌+◌, ◌-◌, ◌*◌, ◌/◌, ◌%◌, ◌<◌, ◌≤◌, ◌&&◌, ◌||◌, Bool, true, false, cond, not, eqb, leb, ltb, All, List, [], length, Option, Some, None, sym, ◌∙◌, subst, arith}
 use Rattle.std.specs.Option.{option_to_list}
 use Rattle.std.proofs.lemmas.Bool.{and_parts, cases_Bool, eqb-true, leb-true, ltb-true, lt-ltb, not-false, or_from, false≢true}
 use Rattle.std.proofs.lemmas.List.Elements.{All-cons, All-nil}
@@ -8,7 +7,7 @@ use Rattle.pm_record.specs.Redo.{redo_of}
 use Rattle.pm_record.specs.declared.redo.Redo.{Redo}
 use Rattle.pm_objects.specs.declared.pool.PoolView.{PoolView}
 use Rattle.pm_image.specs.Logs.{area_word, entries, entry_pair, generation_word, is_sealed, seal_word}
-use Rattle.pm_image.specs.LogFaults.{bad_entry, ends_log, good_entry, in_chunk, in_descriptors, is_set, is_target, log_fault, zones_word}
+use Rattle.pm_image.specs.LogFaults.{bad_entry, ends_log, good_entry, in_chunk, in_descriptors, is_set, is_target, zones_word}
 use Rattle.pm_image.specs.Means.{HasShape, IsMeaning}
 use Rattle.pm_image.proofs.Firsts.{fails_at_each}
 use Rattle.pm_image.proofs.Gathering.{entries_by_number, entry_at}

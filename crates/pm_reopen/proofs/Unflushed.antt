@@ -1,5 +1,5 @@
 -- Lines with an unflushed change, after changes and flushes.
-use Rattle.std.proofs.Common.{◌≡◌, ◌≢◌, ⊎_elim, ℕ, ◌+◌, ◌*◌, ◌/◌, ◌<◌, ◌≤◌, ◌&&◌, ◌||◌, Bool, true, false, cond, not, eqb, List, [], ◌∷◌, ◌++◌, length, map, Any, IsTrue, Option, Some, None, refl, sym, ◌∙◌, ap, subst, arith, rules}
+use Rattle.std.proofs.Common.{◌≡◌, ◌≢◌, ⊎_elim, ℕ, ◌+◌, ◌*◌, ◌/◌, ◌<◌, ◌≤◌, ◌&&◌, ◌||◌, Bool, true, false, cond, not, eqb, List, [], ◌∷◌, length, map, Some, refl, sym, ◌∙◌, ap, arith}
 use Rattle.std.specs.List.{list_any, range_with_len}
 use Rattle.std.proofs.lemmas.Bool.{and_parts, cases_eq, cases_lt, eq-eqb, eqb-true, false≢true, ne_eqb, not-true}
 use Rattle.std.proofs.lemmas.List.Folds.{Any-from_list_any, list_any-append}
@@ -9,7 +9,7 @@ use Rattle.pm_record.specs.declared.redo.Op.TheVariants as op
 use Rattle.pm_view.specs.declared.change.Change.{Change as ChangeOf}
 use Rattle.pm_memory.specs.Changes.{CanFlush, IsLeastUnflushed, change_flushed, changes_flushed, has_unflushed, lies_in}
 use Rattle.pm_memory.specs.Solo.{Solo}
-use Rattle.pm_reopen.specs.Plan.{MemoryCall, store_of, zeros}
+use Rattle.pm_reopen.specs.Plan.{store_of, zeros}
 use Rattle.pm_reopen.specs.Plan.MemoryCall.{Change}
 use Rattle.pm_reopen.specs.Running.{Makes, after_call, after_change}
 use Rattle.pm_reopen.specs.Steps.{AreUnflushed}

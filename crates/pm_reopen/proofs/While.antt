@@ -1,25 +1,23 @@
 -- While the words of a lane are restored and its entries applied, the image means what it meant.
-use Rattle.std.proofs.Common.{◌≡◌, ◌≢◌, ◌⊎◌, ⊎_elim, inl, inr, ℕ, zero, suc, ◌+◌, ◌-◌, ◌*◌, ◌/◌, ◌%◌, ◌^◌, ◌<◌, ◌≤◌, ◌&&◌, ◌||◌, Bool, true, false, cond, not, eqb, leb, ltb, All, List, [], ◌∷◌, ◌++◌, length, map, take, slice_index, Option, Some, None, refl, sym, ◌∙◌, ap, subst, arith}
-use Rattle.std.specs.List.{filter, flat_map, range_with_len}
+use Rattle.std.proofs.Common.{◌≡◌, ◌≢◌, ◌⊎◌, ⊎_elim, inl, inr, ℕ, zero, suc, ◌+◌, ◌-◌, ◌*◌, ◌/◌, ◌%◌, ◌<◌, ◌≤◌, ◌&&◌, ◌||◌, Bool, true, false, cond, not, eqb, leb, ltb, All, List, [], ◌∷◌, map, take, slice_index, Option, Some, None, refl, sym, ◌∙◌, ap, subst, arith}
+use Rattle.std.specs.List.{flat_map, range_with_len}
 use Rattle.std.specs.Option.{option_map, option_to_list}
 use Rattle.std.proofs.lemmas.Bool.{and_from, and_left, and_parts, cases_Bool, cases_eq, cases_lt, eq-eqb, eqb-true, false≢true, le-leb, leb-true, ne_eqb, not-false, not_from_true, or_from, or_left, or_right}
-use Rattle.std.proofs.lemmas.List.Elements.{All-append, All-cons, All-head, All-nil, All-tail, All-weaker}
+use Rattle.std.proofs.lemmas.List.Elements.{All-append, All-cons, All-head, All-nil, All-tail}
 use Rattle.pm_record.specs.Redo.{applied, op_of, redo_of}
-use Rattle.pm_record.specs.Undo.{undo_of}
 use Rattle.pm_record.specs.declared.redo.Op.{Op}
 use Rattle.pm_record.specs.declared.redo.Op.TheVariants as op
 use Rattle.pm_record.specs.declared.redo.Redo.{Redo}
 use Rattle.pm_record.specs.declared.undo.Undo.{Undo}
 use Rattle.pm_image.specs.Logs.{all_applied, area_word, entries, entry_pair, generation, generation_word, is_sealed, records, seal_word}
-use Rattle.pm_image.specs.LogFaults.{bad_entry, ends_log, good_entry, good_lane, in_chunk, in_descriptors, is_set, is_target, zones_word}
+use Rattle.pm_image.specs.LogFaults.{bad_entry, ends_log, good_entry, in_chunk, in_descriptors, is_set, is_target, zones_word}
 use Rattle.pm_image.specs.Steps.{valid_record}
 use Rattle.pm_image.proofs.Gathering.{entries_by_number, entry_at, record_at, records_by_number}
 use Rattle.pm_image.proofs.Redoing.{entries_unsealed, sealed_few}
 use Rattle.pm_recover.specs.Steps.{HasSoundLogs}
-use Rattle.pm_recover.proofs.Slots.{generation_sealed, generation_unsealed}
+use Rattle.pm_recover.proofs.Slots.{generation_sealed}
 use Rattle.pm_reopen.specs.Plan.{restores, store_of, writes}
 use Rattle.pm_reopen.proofs.Inside.{all_parts}
-use Rattle.pm_reopen.proofs.Parts.{All-first}
 use Rattle.pm_reopen.proofs.Surviving.{for_word}
 use Rattle.pm_reopen.proofs.Targets.{end_place}
 

@@ -2,7 +2,7 @@
 -- of the image as it is read. Lane goes after lane: first its words are restored and its entries
 -- applied, then its stray records are cleared, then its log is ended. Each of the three is
 -- persistent before the next begins.
-use Rattle.std.specs.Prelude.{ℕ, ◌+◌, ◌*◌, ◌/◌, ◌==◌, Bool, if◌then◌else◌, List, [], ◌∷◌, ◌++◌, length, map, slice_index}
+use Rattle.std.specs.Prelude.{ℕ, ◌+◌, ◌*◌, ◌/◌, ◌==◌, if◌then◌else◌, List, [], ◌∷◌, ◌++◌, length, map, slice_index}
 use Rattle.std.specs.List.{filter, flat_map, list_any, range_with_len}
 use Rattle.pm_record.specs.declared.redo.Redo.{Redo}
 use Rattle.pm_record.specs.declared.redo.Op.TheVariants.{Set}

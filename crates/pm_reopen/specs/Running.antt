@@ -1,14 +1,11 @@
 -- Memory calls made one after the other, all of them or the first of them up to a stop.
-use Rattle.std.specs.Prelude.{◌≡◌, ◌⊎◌, ℕ, ◌/◌, List, [], ◌∷◌, length, take, nat_le, if◌then◌else◌, Option, None, Some, Result, Ok, Err}
-use Rattle.pm_record.specs.declared.redo.Redo.{Redo}
+use Rattle.std.specs.Prelude.{◌≡◌, ◌⊎◌, ℕ, ◌/◌, List, [], ◌∷◌, take, Option, None, Some, Result, Ok, Err}
 use Rattle.pm_record.specs.declared.redo.Op.{Op}
 use Rattle.pm_record.specs.declared.redo.Op.TheVariants as op
 use Rattle.pm_memory.specs.Keep.{IsKeptImage}
 use Rattle.pm_memory.specs.Solo.{Solo, IsDue, IsSpent, after_and, after_drain, after_flush, after_or, after_store, opened, says_stopped}
 use Rattle.pm_memory.specs.Survivors.{Survives}
 use Rattle.pm_memory.specs.declared.lane_mem.Stopped.{Stopped}
-use Rattle.pm_reopen.specs.declared.end.RecoverEnd.{RecoverEnd}
-use Rattle.pm_reopen.specs.declared.end.RecoverEnd.TheVariants as end
 use Rattle.pm_reopen.specs.Plan.{MemoryCall, plan}
 use Rattle.pm_reopen.specs.Plan.MemoryCall.{Change, Flush, Drain}
 
@@ -50,12 +47,8 @@ abbrev pub recovering : List ℕ → ℕ → Option ℕ → ℕ → Solo
 recovering image lanes stop made = after_calls (opened image stop) (take made (plan image lanes))
 
 -- the words that the whole plan leaves
-abbrev pub recovered_words : List ℕ → ℕ → List ℕ
-recovered_words image lanes = (after_calls (opened image None) (plan image lanes)).words
-
--- how a recovery ends that makes at most so many calls
-abbrev pub end_of : ℕ → ℕ → RecoverEnd
-end_of calls stop = if nat_le calls stop then end.Whole calls else end.Stopped stop
+abbrev pub words_left : List ℕ → ℕ → List ℕ
+words_left image lanes = (after_calls (opened image None) (plan image lanes)).words
 
 -- the image that recovery leaves where it makes at most so many calls and a power failure follows,
 -- which keeps as many of the undrained changes as `keep` says

@@ -1,9 +1,9 @@
-ghost use Rattle.std.specs.Prelude.{ℕ, List};
+ghost use Rattle.std.specs.Prelude.{◌≡◌, ◌↔◌, ℕ, List};
 ghost use Rattle.pm_objects.specs.declared.pool.PoolView.{PoolView};
 ghost use Rattle.pm_image.specs.Means.{IsMeaning};
-ghost use Rattle.pm_recover.specs.Recovery.{HasNoStrayRecord};
+ghost use Rattle.pm_recover.specs.Recovery.{HasNoStrayRecord, IsRecovered};
 ghost use Rattle.pm_reopen.specs.Premise.{HasWords, IsRecoverable};
-ghost use Rattle.pm_reopen.specs.Running.{MayRemain};
+ghost use Rattle.pm_reopen.specs.Running.{MayRemain, words_left};
 
 /// A law: where a power failure stops a recovery, after any number of its memory calls, what is
 /// left means what the image meant, and its recovery may be stopped again in the same way,
@@ -17,4 +17,11 @@ pub fn stopped_recovery_keeps_the_meaning()
 pub fn images_without_strays_are_recoverable()
     ensures { (image : List ℕ) (pool : PoolView) → HasWords image → IsMeaning image pool
         → HasNoStrayRecord image pool.lanes → IsRecoverable image pool }
+{}
+
+/// A law: the words that the whole plan leaves are the recovered image, and no other words are. No
+/// code runs.
+pub fn whole_recovery_leaves_the_recovered_image()
+    ensures { (image after : List ℕ) (pool : PoolView) → HasWords image → IsMeaning image pool
+        → (after ≡ words_left image pool.lanes) ↔ IsRecovered image after pool.lanes }
 {}

@@ -1,6 +1,5 @@
-use Rattle.std.proofs.Common.{◌≡◌, ◌++◌, ◌∷◌, [], map, false, true, arith}
+use Rattle.std.proofs.Common.{◌++◌, ◌∷◌, [], map}
 use Rattle.pm_image.specs.Logs.{slot_line}
-use Rattle.pm_memory.specs.Changes.{has_unflushed}
 use Rattle.pm_reopen.specs.Plan.{zeros}
 use Rattle.pm_reopen.specs.Plan.MemoryCall.{Change, Flush}
 use Rattle.pm_reopen.proofs.Making.{halts_after, halts_at, halts_before, makes_one, makes_then, ran_error}

@@ -1,5 +1,5 @@
-use Rattle.std.proofs.Common.{◌≡◌, ◌≤◌, ◌+◌, ◌*◌, Bool, cond, [], length, sym, ◌∙◌, subst, arith}
-use Rattle.pm_image.specs.Logs.{slot_line, undo_slot}
+use Rattle.std.proofs.Common.{Bool, cond, [], sym, ◌∙◌, subst, arith}
+use Rattle.pm_image.specs.Logs.{undo_slot}
 use Rattle.pm_recover.specs.Recovery.{is_stray}
 use Rattle.pm_reopen.specs.Plan.{cleared_slot}
 use Rattle.pm_reopen.specs.Running.{Halts, Makes}

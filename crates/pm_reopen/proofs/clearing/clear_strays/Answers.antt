@@ -1,6 +1,6 @@
-use Rattle.std.proofs.Common.{◌≡◌, ◌++◌, List, sym, subst}
+use Rattle.std.proofs.Common.{subst}
 use Rattle.std.specs.List.{flat_map}
-use Rattle.pm_reopen.specs.Plan.{MemoryCall, cleared, cleared_slot, drained, strays}
+use Rattle.pm_reopen.specs.Plan.{cleared, cleared_slot, drained, strays}
 use Rattle.pm_reopen.specs.Running.{Halts, Makes}
 use Rattle.pm_reopen.proofs.Draining.{drain_part}
 use Rattle.pm_reopen.proofs.Making.{halts_after, halts_before, makes_then, ran_error}

@@ -1,5 +1,5 @@
-use Rattle.std.proofs.Common.{◌≡◌, ◌≤◌, ◌<◌, ◌+◌, ◌∷◌, [], length, map, sym, ◌∙◌, ap, subst, arith}
-use Rattle.pm_image.specs.Logs.{area_word, generation}
+use Rattle.std.proofs.Common.{◌≡◌, ◌+◌, ◌∷◌, [], length, map, sym, ◌∙◌, ap, subst, arith}
+use Rattle.pm_image.specs.Logs.{area_word}
 use Rattle.pm_reopen.specs.Plan.{log_end, store_of}
 use Rattle.pm_reopen.specs.Plan.MemoryCall.{Change}
 use Rattle.pm_reopen.specs.Running.{Halts, Makes}

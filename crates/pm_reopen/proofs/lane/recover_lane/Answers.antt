@@ -1,6 +1,5 @@
-use Rattle.std.proofs.Common.{◌≡◌, ◌≤◌, ◌++◌, ◌/◌, length, sym, ◌∙◌, subst, arith}
+use Rattle.std.proofs.Common.{◌++◌, ◌/◌, length, ◌∙◌, arith}
 use Rattle.pm_reopen.specs.Plan.{cleared, lane_plan, log_end, persisted, strays, writes}
-use Rattle.pm_reopen.specs.Running.{Halts, Makes}
 use Rattle.pm_reopen.proofs.Counting.{makes_long}
 use Rattle.pm_reopen.proofs.Draining.{cleared_drains}
 use Rattle.pm_reopen.proofs.Making.{halts_after, halts_before, makes_then, ran_error}

@@ -1,4 +1,3 @@
-use Rattle.std.specs.List.{flat_map, range_with_len}
 use Rattle.pm_reopen.proofs.Inside.{HasMade}
 use Rattle.pm_reopen.proofs.lane.recover_lanes.Given as goal
 

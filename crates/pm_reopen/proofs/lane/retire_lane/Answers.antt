@@ -1,5 +1,4 @@
-use Rattle.std.proofs.Common.{◌≡◌, ◌/◌, length, map, sym, ◌∙◌, subst, arith}
-use Rattle.pm_record.specs.declared.redo.Redo.{Redo}
+use Rattle.std.proofs.Common.{◌/◌, length, map, subst}
 use Rattle.pm_reopen.specs.Plan.{log_end, persisted, written_back}
 use Rattle.pm_reopen.specs.Plan.MemoryCall.{Change}
 use Rattle.pm_reopen.specs.Running.{Halts, Makes}

@@ -1,6 +1,4 @@
-use Rattle.std.proofs.Common.{◌≡◌, ◌+◌, ◌-◌, ◌∷◌, [], ℕ, List, length, take, sym, ◌∙◌, ap, subst, arith}
-use Rattle.std.specs.List.{slice_range}
-use Rattle.std.proofs.Math.Seq.{take-length}
+use Rattle.std.proofs.Common.{◌∷◌, [], ℕ, List, sym, ◌∙◌, ap, subst}
 use Rattle.pm_image.proofs.Meanings.{no_meaning_and_fault}
 use Rattle.pm_memory.specs.Keep.{IsKeptImage}
 use Rattle.pm_memory.specs.Solo.{Solo, opened}
@@ -8,12 +6,9 @@ use Rattle.pm_reopen.specs.Plan.{plan}
 use Rattle.pm_reopen.specs.Running.{Halts, Makes}
 use Rattle.pm_reopen.proofs.recovering.run.Goals as goal
 
-all_words : (image : List ℕ) (count : ℕ) → count ≡ length image → slice_range image 0 (0 + count) ≡ image
-all_words image count all = let long : 0 + count - 0 ≡ length image = omega arith in ap (λ (n : ℕ). take n image) long ∙ take-length image
-
 pub returns-in-Ok-clause-leaves : goal.returns-in-Ok-clause-leaves
 returns-in-Ok-clause-leaves c = λ pool is.
-    let items = c.in_ok-words.ensures.items ∙ c.words.ensures ∙ all_words c.args.image.now _ c.len.ensures in
+    let items = c.in_ok-words.ensures.same in
     let first = c.in_ok-mem.ensures ∙ ap (λ (ws : List ℕ). opened ws c.args.stop) items in
     let lanes = sym ((c.in_ok-lanes.ensures).lanes pool is) in
     record {
@@ -29,7 +24,7 @@ returns-in-Ok-clause-leaves c = λ pool is.
 
 pub returns-clause-leaves : goal.returns-clause-leaves
 returns-clause-leaves c = λ pool is.
-    let items = c.in_ok-words.ensures.items ∙ c.words.ensures ∙ all_words c.args.image.now _ c.len.ensures in
+    let items = c.in_ok-words.ensures.same in
     let first = c.in_ok-mem.ensures ∙ ap (λ (ws : List ℕ). opened ws c.args.stop) items in
     let lanes = sym ((c.in_ok-lanes.ensures).lanes pool is) in
     record {

@@ -1,9 +1,7 @@
-use Rattle.std.proofs.Common.{◌≡◌, ◌≤◌, ◌<◌, ℕ, ◌+◌, ◌/◌, All, List, true, length, map, sym, ◌∙◌, ap, subst, arith, rules}
+use Rattle.std.proofs.Common.{◌≡◌, ◌≤◌, ◌<◌, ℕ, ◌/◌, All, true, length, map, sym, ◌∙◌, ap, subst, arith, rules}
 use Rattle.std.specs.List.{flat_map, range_with_len}
-use Rattle.std.specs.Option.{option_to_list}
-use Rattle.pm_record.specs.Redo.{redo_of}
 use Rattle.pm_record.specs.declared.redo.Redo.{Redo}
-use Rattle.pm_image.specs.Logs.{entries, entry_pair, is_sealed, seal_word}
+use Rattle.pm_image.specs.Logs.{entries, is_sealed, seal_word}
 use Rattle.pm_image.proofs.Gathering.{entries_by_number, entry_at}
 use Rattle.pm_image.proofs.Redoing.{entries_unsealed, sealed_few}
 use Rattle.pm_reopen.specs.Plan.MemoryCall.{Change}

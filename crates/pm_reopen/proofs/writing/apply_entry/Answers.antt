@@ -1,10 +1,9 @@
-use Rattle.std.proofs.Common.{◌≡◌, [], ◌∷◌, ◌/◌, ◌<◌, length, map, All, List, sym, ◌∙◌, ap, subst}
+use Rattle.std.proofs.Common.{[], ◌/◌, ◌<◌, length, All, sym, ◌∙◌, ap, subst}
 use Rattle.std.specs.Option.{option_to_list}
 use Rattle.std.proofs.lemmas.List.Elements.{All-head}
 use Rattle.pm_record.specs.Redo.{redo_of}
 use Rattle.pm_record.specs.declared.redo.Redo.{Redo}
 use Rattle.pm_image.specs.Logs.{entry_pair}
-use Rattle.pm_reopen.specs.Plan.MemoryCall.{Change}
 use Rattle.pm_reopen.specs.Running.{Halts, Makes}
 use Rattle.pm_reopen.proofs.Making.{makes_none, ran_error}
 use Rattle.pm_reopen.proofs.Parts.{entry_calls, entry_of_none, entry_of_one}

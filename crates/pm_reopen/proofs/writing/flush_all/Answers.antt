@@ -1,4 +1,4 @@
-use Rattle.std.proofs.Common.{◌≡◌, map, arith}
+use Rattle.std.proofs.Common.{map, arith}
 use Rattle.pm_reopen.specs.Plan.{lines_of}
 use Rattle.pm_reopen.specs.Plan.MemoryCall.{Flush}
 use Rattle.pm_reopen.proofs.Flushing.{all_flushed, flush_halts, flushed_more, none_flushed}

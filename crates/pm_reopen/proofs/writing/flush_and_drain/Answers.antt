@@ -1,4 +1,4 @@
-use Rattle.std.proofs.Common.{◌≡◌, ◌++◌, ◌∷◌, [], map, arith}
+use Rattle.std.proofs.Common.{◌++◌, ◌∷◌, [], map, arith}
 use Rattle.pm_reopen.specs.Plan.{lines_of}
 use Rattle.pm_reopen.specs.Plan.MemoryCall.{Drain, Flush}
 use Rattle.pm_reopen.proofs.Making.{halts_after, halts_at, halts_before, makes_one, makes_then, ran_error}

@@ -1,4 +1,4 @@
-use Rattle.std.proofs.Common.{◌≡◌, ◌∷◌, [], cond, sym, ◌∙◌, ap, subst}
+use Rattle.std.proofs.Common.{◌∷◌, [], cond, sym, ◌∙◌, subst}
 use Rattle.pm_memory.specs.Changes.{has_unflushed}
 use Rattle.pm_reopen.specs.Plan.MemoryCall.{Flush}
 use Rattle.pm_reopen.specs.Running.{Halts, Makes}

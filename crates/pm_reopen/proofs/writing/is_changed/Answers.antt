@@ -1,4 +1,4 @@
-use Rattle.std.proofs.Common.{◌≡◌, Some, None, sym, ◌∙◌, subst, arith}
+use Rattle.std.proofs.Common.{sym, subst}
 use Rattle.pm_memory.specs.Changes.{IsLeastUnflushed}
 use Rattle.pm_reopen.proofs.Unflushed.{least_is}
 use Rattle.pm_reopen.proofs.writing.is_changed.Goals as goal

@@ -1,6 +1,6 @@
-use Rattle.std.proofs.Common.{◌≡◌, ◌≤◌, ℕ, ◌+◌, List, map, length, sym, subst, arith}
+use Rattle.std.proofs.Common.{◌≡◌, ℕ, map, sym, subst, arith}
 use Rattle.std.specs.List.{flat_map, range_with_len}
-use Rattle.pm_reopen.specs.Plan.{MemoryCall, restores}
+use Rattle.pm_reopen.specs.Plan.{restores}
 use Rattle.pm_reopen.specs.Plan.MemoryCall.{Change}
 use Rattle.pm_reopen.specs.Running.{Halts, Makes}
 use Rattle.pm_reopen.proofs.Counting.{changes_in, makes_long, makes_many, parts_many}

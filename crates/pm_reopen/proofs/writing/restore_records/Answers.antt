@@ -1,7 +1,6 @@
-use Rattle.std.proofs.Common.{◌≡◌, ◌≤◌, ℕ, ◌+◌, ◌*◌, length, map, sym, ◌∙◌, ap, subst, arith}
+use Rattle.std.proofs.Common.{◌≡◌, ℕ, length, map, sym, ◌∙◌, ap, subst, arith}
 use Rattle.std.specs.List.{flat_map, range_with_len}
 use Rattle.pm_image.specs.Logs.{records}
-use Rattle.pm_view.specs.declared.change.Change.{Change as ChangeOf}
 use Rattle.pm_reopen.specs.Plan.{restores}
 use Rattle.pm_reopen.specs.Plan.MemoryCall.{Change}
 use Rattle.pm_reopen.specs.Running.{Halts, Makes}

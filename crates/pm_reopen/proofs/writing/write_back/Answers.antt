@@ -1,5 +1,4 @@
-use Rattle.std.proofs.Common.{◌≡◌, ◌<◌, ◌∷◌, [], length, List, ℕ, sym, ◌∙◌, subst, arith, rules}
-use Rattle.pm_record.specs.declared.redo.Redo.{Redo}
+use Rattle.std.proofs.Common.{◌≡◌, ◌<◌, length, subst, rules}
 use Rattle.pm_reopen.specs.Plan.{written_back}
 use Rattle.pm_reopen.specs.Running.{Halts, Makes}
 use Rattle.pm_reopen.proofs.Flushing.{nothing_back, something_back}
