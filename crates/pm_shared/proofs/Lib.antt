@@ -16,3 +16,6 @@ pub mod StoresTold
 pub mod Crews
 pub mod Tallying
 pub mod Seats
+pub mod Beginnings
+pub mod Ends
+pub mod Pools

@@ -8,13 +8,13 @@
 //! the steps of every kind from the world's law. No step waits, and none allocates.
 //!
 //! `SharedLane` is a lane over a seat: it has the traits of a lane's memory, `LawfulMem` among them,
-//! so that it takes each step that the lane's view allows, and counts its calls and keeps its
+//! so that it takes each step that the lane's view allows. It counts its calls and keeps its
 //! undrained changes itself.
 //!
-//! Still to come: lanes split off the pool's seat and joined to it; how the table begins on a
-//! pool's words and ends. Of these the definitions stand, in `Openings` and `Closings`. Until then
-//! nobody makes a `SharedMem`, and no lane runs on one. The crate stands on the kit's
-//! `atomic_table`.
+//! `SharedMem::new` begins on a pool's recovered words, with a world of lanes that were asked
+//! nothing, all of them with the pool's seat. `split` hands the next lane out and `join` takes one
+//! back, so that lanes run in threads. `close` gives the words, which are those of a world that has
+//! the final view of each lane that came back. The crate stands on the kit's `atomic_table`.
 #![tactic(auto)]
 
 mod lane;
@@ -24,11 +24,13 @@ mod lawful;
 mod mem;
 mod places;
 mod plays;
+mod pool;
 mod rule;
 mod steps;
 mod tally;
 
 pub use lane::SharedLane;
 pub use mem::{LaneSeat, SharedMem};
+pub use pool::PoolSeat;
 pub use rule::{Beginning, Knows, WorldRule};
 pub use tally::Tally;
