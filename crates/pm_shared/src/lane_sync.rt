@@ -1,8 +1,8 @@
-use crate::SharedLane;
+use crate::{SharedLane, TableName};
 use pm_memory::LaneSync;
 use pm_view::Occ;
 
-impl<'a> LaneSync for SharedLane<'a> {
+impl<'a, N: TableName> LaneSync for SharedLane<'a, N> {
     fn take_write(&mut self, line: u64) -> bool {
         self.memory.takes_write(&mut self.seat, self.lane, line)
     }

@@ -3,7 +3,7 @@ ghost use Rattle.pm_shared.specs.Rule.{SeatAsks, SeatMade};
 ghost use Rattle.pm_view.specs.Steps.Step.{Tell};
 
 use crate::mem::LaneSeat;
-use crate::{SharedLane, SharedMem, plays};
+use crate::{SharedLane, SharedMem, TableName, plays};
 use pm_world::{Adds, LawfulMem, LentOperation, LentValue};
 use std::marker::Brand;
 
@@ -29,7 +29,7 @@ impl SharedMem {
     }
 }
 
-impl<'a> LawfulMem for SharedLane<'a> {
+impl<'a, N: TableName> LawfulMem for SharedLane<'a, N> {
     ghost use Rattle.pm_shared.specs.Seats.{meets_shared, grants_shared};
 
     fn tell(&mut self, operation: LentOperation<'_>, reply: Option<LentValue<'_>>) {

@@ -29,7 +29,7 @@ mod rule;
 mod steps;
 mod tally;
 
-pub use lane::SharedLane;
+pub use lane::{SharedLane, TableName};
 pub use mem::{LaneSeat, SharedMem};
 pub use pool::PoolSeat;
 pub use rule::{Beginning, Knows, WorldRule};

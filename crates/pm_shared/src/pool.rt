@@ -6,16 +6,17 @@ ghost use lib.ListN.{get_elem?};
 ghost use Rattle.pm_memory.specs.Changes.{AreUndrained};
 ghost use Rattle.pm_shared.specs.Closings.{Closes};
 ghost use Rattle.pm_shared.specs.Openings.{CanBegin, opening_of, idle_view, table_words, pool_with, pool_of, rest_of, handed_out, taken_back, no_one};
-ghost use Rattle.pm_shared.specs.Seats.{Sees};
+ghost use Rattle.pm_shared.specs.Seats.{IsSeen};
 ghost use Rattle.pm_view.specs.View.{View};
 
 use crate::rule::{Beginning, Knows};
 use crate::tally::Tally;
-use crate::{SharedLane, SharedMem};
+use crate::{SharedLane, SharedMem, TableName};
 use atomic_table::{Closed, Join, Seat, Split, Table};
 use pm_layout::LINE_WORDS;
 use pm_view::Change;
 use std::alloc::{AllocError, Global};
+use std::marker::PhantomData;
 
 /// The seat of the pool: it has the lanes that are to be handed out, in their order, and after them
 /// those that came back.
@@ -126,21 +127,21 @@ impl SharedMem {
     /// # Errors
     ///
     /// `AllocError`: there is no memory for the lane's undrained changes; the pool has it still.
-    pub fn split<'a>(
+    pub fn split<'a, N: TableName>(
         &'a self,
         alloc: Global,
         pool: &mut PoolSeat,
         lane: u64,
-    ) -> Result<SharedLane<'a>, AllocError>
-        requires table { pool.old.table_id ≡ self.now.table.shared.table_id }
+    ) -> Result<SharedLane<'a, N>, AllocError>
+        requires name { self.now.table.shared.table_id ≡ N.table }
+        requires table { pool.old.table_id ≡ N.table }
         requires lane { lane < self.now.table.shared.key.lanes }
         requires pool { (back : List View) × (pool.old.me ≡ pool_of self.now.table.shared.key lane back) }
         ensures table { pool.new.table_id ≡ pool.old.table_id }
         ensures pool { OnOk result ((back : List View) → pool.old.me ≡ pool_of self.entry.now.table.shared.key lane back
             → pool.new.me ≡ pool_of self.entry.now.table.shared.key (lane + 1) back) }
         ensures kept { OnErr result (pool.new.me ≡ pool.old.me) }
-        ensures lane { IfOk result (λ made. Sees made (idle_view self.entry.now.table.shared.key lane)) }
-        ensures memory { IfOk result (λ made. made.memory.now.table.shared.table_id ≡ self.entry.now.table.shared.table_id) }
+        ensures lane { IfOk result (λ made. IsSeen made (idle_view self.entry.now.table.shared.key lane)) }
     {
         let tally = Tally::new(alloc, self.stops.of_lane(lane as usize))?;
         let seat = self.table.shared.split_seat::<HandsOut>(pool);
@@ -149,6 +150,7 @@ impl SharedMem {
             memory: self,
             lane,
             tally,
+            of: PhantomData,
         })
     }
 
@@ -172,21 +174,22 @@ impl SharedMem {
     }
 }
 
-impl<'a> SharedLane<'a> {
+impl<'a, N: TableName> SharedLane<'a, N> {
     /// Gives the lane back to the pool, and its undrained changes, the oldest first, to the caller.
     pub fn join(self, pool: &mut PoolSeat) -> Vec<Change>
-        requires table { pool.old.table_id ≡ self.memory.now.table.shared.table_id }
+        requires table { pool.old.table_id ≡ N.table }
         requires pool { (back : List View) × (pool.old.me ≡ pool_with back) }
-        requires lane { (v : View) × Sees self v }
+        requires lane { (v : View) × IsSeen self v }
         ensures table { pool.new.table_id ≡ pool.old.table_id }
-        ensures pool { (back : List View) (v : View) → pool.old.me ≡ pool_with back → Sees self.entry v → pool.new.me ≡ pool_with (back ++ v ∷ []) }
-        ensures changes { (v : View) → Sees self.entry v → AreUndrained result.items v.changes }
+        ensures pool { (back : List View) (v : View) → pool.old.me ≡ pool_with back → IsSeen self.entry v → pool.new.me ≡ pool_with (back ++ v ∷ []) }
+        ensures changes { (v : View) → IsSeen self.entry v → AreUndrained result.items v.changes }
     {
         let SharedLane {
             seat,
             memory,
             lane: _,
             tally,
+            of: _,
         } = self;
         memory.table.shared.join_seat::<TakesBack>(pool, seat);
         tally.into_changes()

@@ -4,7 +4,7 @@ use Rattle.pm_shared.proofs.Seats.{asks_plain, made_plain}
 use Rattle.pm_shared.proofs.lane_mem.SharedLaneLaneMem.load.Goals as goal
 
 pub loads-requires-clause-asks : goal.loads-requires-clause-asks
-loads-requires-clause-asks c = asks_plain c.args.self.now (λ r. Load c.args.word r) c.requires (λ r. refl)
+loads-requires-clause-asks g c = asks_plain c.args.self.now _ c.self.view_is (λ r. Load c.args.word r) c.requires (λ r. refl)
 
 pub returns : goal.returns
-returns c = made_plain c.args.self.now.memory.now.shape c.args.self.now.lane c.args.self.now.tally c.args.self.now.seat.me c.loads.new.seat.me (Load c.args.word c.loads.result) c.loads.ensures.made refl
+returns g c = made_plain c.args.self.now _ c.self.view_is c.loads.new.seat.me (Load c.args.word c.loads.result) c.loads.ensures.made refl

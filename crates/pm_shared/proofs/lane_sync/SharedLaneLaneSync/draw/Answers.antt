@@ -4,7 +4,7 @@ use Rattle.pm_shared.proofs.Seats.{asks_plain, made_plain}
 use Rattle.pm_shared.proofs.lane_sync.SharedLaneLaneSync.draw.Goals as goal
 
 pub draws-requires-clause-asks : goal.draws-requires-clause-asks
-draws-requires-clause-asks c = asks_plain c.args.self.now (λ r. Draw r) (λ r. c.requires (r)) (λ r. refl)
+draws-requires-clause-asks g c = asks_plain c.args.self.now _ c.self.view_is (λ r. Draw r) (λ r. c.requires (r)) (λ r. refl)
 
 pub returns : goal.returns
-returns c = made_plain c.args.self.now.memory.now.shape c.args.self.now.lane c.args.self.now.tally c.args.self.now.seat.me c.draws.new.seat.me (Draw c.draws.result) c.draws.ensures.made refl
+returns g c = made_plain c.args.self.now _ c.self.view_is c.draws.new.seat.me (Draw c.draws.result) c.draws.ensures.made refl

@@ -4,7 +4,7 @@ use Rattle.pm_shared.proofs.Seats.{asks_plain, made_plain}
 use Rattle.pm_shared.proofs.lane_sync.SharedLaneLaneSync.number_seen.Goals as goal
 
 pub sees_number-requires-clause-asks : goal.sees_number-requires-clause-asks
-sees_number-requires-clause-asks c = asks_plain c.args.self.now (λ r. NumberSeen r) (λ r. c.requires (r)) (λ r. refl)
+sees_number-requires-clause-asks g c = asks_plain c.args.self.now _ c.self.view_is (λ r. NumberSeen r) (λ r. c.requires (r)) (λ r. refl)
 
 pub returns : goal.returns
-returns c = made_plain c.args.self.now.memory.now.shape c.args.self.now.lane c.args.self.now.tally c.args.self.now.seat.me c.sees_number.new.seat.me (NumberSeen c.sees_number.result) c.sees_number.ensures.made refl
+returns g c = made_plain c.args.self.now _ c.self.view_is c.sees_number.new.seat.me (NumberSeen c.sees_number.result) c.sees_number.ensures.made refl

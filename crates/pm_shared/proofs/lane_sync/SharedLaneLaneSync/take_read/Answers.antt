@@ -4,7 +4,7 @@ use Rattle.pm_shared.proofs.Seats.{asks_plain, made_plain}
 use Rattle.pm_shared.proofs.lane_sync.SharedLaneLaneSync.take_read.Goals as goal
 
 pub takes_read-requires-clause-asks : goal.takes_read-requires-clause-asks
-takes_read-requires-clause-asks c = asks_plain c.args.self.now (λ r. TakeRead c.args.line (eqb (r / 2 ^ 32) 0)) (λ r. c.requires (eqb (r / 2 ^ 32) 0)) (λ r. refl)
+takes_read-requires-clause-asks g c = asks_plain c.args.self.now _ c.self.view_is (λ r. TakeRead c.args.line (eqb (r / 2 ^ 32) 0)) (λ r. c.requires (eqb (r / 2 ^ 32) 0)) (λ r. refl)
 
 pub returns : goal.returns
-returns c = made_plain c.args.self.now.memory.now.shape c.args.self.now.lane c.args.self.now.tally c.args.self.now.seat.me c.takes_read.new.seat.me (TakeRead c.args.line c.takes_read.result) c.takes_read.ensures.made refl
+returns g c = made_plain c.args.self.now _ c.self.view_is c.takes_read.new.seat.me (TakeRead c.args.line c.takes_read.result) c.takes_read.ensures.made refl

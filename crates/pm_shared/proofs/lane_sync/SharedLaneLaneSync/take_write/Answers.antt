@@ -4,7 +4,7 @@ use Rattle.pm_shared.proofs.Seats.{asks_plain, made_plain}
 use Rattle.pm_shared.proofs.lane_sync.SharedLaneLaneSync.take_write.Goals as goal
 
 pub takes_write-requires-clause-asks : goal.takes_write-requires-clause-asks
-takes_write-requires-clause-asks c = asks_plain c.args.self.now (λ r. TakeWrite c.args.line (eqb r 0)) (λ r. c.requires (eqb r 0)) (λ r. refl)
+takes_write-requires-clause-asks g c = asks_plain c.args.self.now _ c.self.view_is (λ r. TakeWrite c.args.line (eqb r 0)) (λ r. c.requires (eqb r 0)) (λ r. refl)
 
 pub returns : goal.returns
-returns c = made_plain c.args.self.now.memory.now.shape c.args.self.now.lane c.args.self.now.tally c.args.self.now.seat.me c.takes_write.new.seat.me (TakeWrite c.args.line c.takes_write.result) c.takes_write.ensures.made refl
+returns g c = made_plain c.args.self.now _ c.self.view_is c.takes_write.new.seat.me (TakeWrite c.args.line c.takes_write.result) c.takes_write.ensures.made refl

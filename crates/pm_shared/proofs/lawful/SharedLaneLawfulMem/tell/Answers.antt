@@ -6,7 +6,7 @@ use Rattle.pm_shared.proofs.Seats.{asks_plain, made_plain}
 use Rattle.pm_shared.proofs.lawful.SharedLaneLawfulMem.tell.Goals as goal
 
 pub tells-requires-clause-asks : goal.tells-requires-clause-asks
-tells-requires-clause-asks c = asks_plain c.args.self.now (λ r. Tell (operation_of c.args.operation) (option_map value_of c.args.reply)) (λ r. c.requires) (λ r. refl)
+tells-requires-clause-asks g c = asks_plain c.args.self.now _ c.self.view_is (λ r. Tell (operation_of c.args.operation) (option_map value_of c.args.reply)) (λ r. c.requires) (λ r. refl)
 
 pub returns : goal.returns
-returns c = made_plain c.args.self.now.memory.now.shape c.args.self.now.lane c.args.self.now.tally c.args.self.now.seat.me c.tells.new.seat.me (Tell (operation_of c.args.operation) (option_map value_of c.args.reply)) c.tells.ensures.made refl
+returns g c = made_plain c.args.self.now _ c.self.view_is c.tells.new.seat.me (Tell (operation_of c.args.operation) (option_map value_of c.args.reply)) c.tells.ensures.made refl

@@ -4,4 +4,4 @@ use Rattle.pm_shared.proofs.lawful.SharedLaneLawfulMem.tell.Given as goal
 
 -- what was given is told
 abbrev pub ghosts-tells : goal.ghosts-tells
-ghosts-tells a = record { operation = operation_of a._operation; reply = option_map value_of a._reply }
+ghosts-tells g a = record { operation = operation_of a._operation; reply = option_map value_of a._reply }
