@@ -1,25 +1,25 @@
 -- A LAWFUL STEP OF A LANE, AS THE TABLE ASKS IT: one lemma for all kinds, from the world's law.
-use Rattle.std.proofs.Common.{◌≡◌, ◌≢◌, ℕ, ◌+◌, ◌<◌, ◌⊎◌, inl, inr, ⊎_elim, List, [], length, slice_index, set, Bool, true, false, cond, eqb, eq-eqb, ne_eqb, Option, None, Some, refl, sym, ap, ◌∙◌, subst, arith, length-set}
-use Rattle.std.specs.List.{list_any}
+use Rattle.std.proofs.Common.{◌≡◌, ◌≢◌, ℕ, ◌<◌, ⊎_elim, List, [], length, slice_index, set, cond, eqb, eq-eqb, ne_eqb, Option, None, refl, sym, ap, ◌∙◌, subst, length-set}
 use mathlib.Core.Option.{some}
 use lib.ListN.{get_elem?}
-use Rattle.atomic_table.specs.Table.{State, Me, Act, keeps, Allows}
+use Rattle.atomic_table.specs.Table.{keeps, Allows}
 use Rattle.atomic_table.proofs.Lists.{at_set}
 use Rattle.pm_view.specs.View.{View, Constants}
 use Rattle.pm_view.specs.Views.{after}
 use Rattle.pm_view.specs.Founds.{Found}
 use Rattle.pm_view.specs.Steps.{Step}
 use Rattle.pm_world.specs.Course.{past_after}
-use Rattle.pm_world.specs.Laws.{Turn, Keeps}
+use Rattle.pm_world.specs.Laws.{Turn}
 use Rattle.pm_world.specs.Lawful.{IsLawful}
 use Rattle.pm_world.specs.Memory.{Memory}
 use Rattle.pm_world.specs.Moves.{Moves}
 use Rattle.pm_world.specs.World.{Opening, Views, Past, World}
 use Rattle.pm_world.proofs.EveryStep.{every_step}
 use Rattle.pm_shared.specs.Placing.{table_size, memory_of}
-use Rattle.pm_shared.specs.Rule.{Knowledge, Pool, Lane, Spent, Bound, BoundHolds, BoundFits, Owned, Crew, SeatFits, Ruled, Made, lane_of}
+use Rattle.pm_shared.specs.Rule.{Knowledge, Pool, Lane, Spent, Bound, BoundFits, Owned, SeatFits, Sound, Ruled, Made}
 use Rattle.pm_shared.proofs.Bounds.{bound_kept}
 use Rattle.pm_shared.proofs.Constant.{fixed-after}
+use Rattle.pm_shared.proofs.Sound.{sound_kept}
 
 -- the views with lane k's changed
 abbrev pub views_with : Views → ℕ → View → Views
@@ -34,6 +34,7 @@ pub record Before (o : Opening) (words : List ℕ) (v : View) (b : Option Bound)
   pub past : Past
   pub size : length words ≡ table_size o.shape
   pub world : World o (memory_of o.shape words) views past
+  pub sound : Sound o (memory_of o.shape words) views
   pub inside : v.fixed.lane < o.lanes
   pub view : views v.fixed.lane ≡ v
   pub bound : BoundFits (memory_of o.shape words) v b
@@ -62,7 +63,7 @@ allows o id v b i f step lawful moves st r _ here fits =
     let s : Step = step x in let v' : View = after v s in let views' : Views = views_with r.views k v' in let same : v'.fixed ≡ v.fixed = fixed-after v s in let lane' : v'.fixed.lane ≡ k = ap (λ (c : Constants). c.lane) same in
     let old : Memory = memory_of o.shape words in let new : Memory = memory_of o.shape words' in
     let law : IsLawful (r.views k) s = subst (λ w. IsLawful w s) (sym own.view) (lawful x) in
-    let move : Moves k s old new = moves words (record { views = r.views; past = r.past; size = r.size; world = r.world; inside = own.inside; view = own.view; bound = fit.1 }) fits in
+    let move : Moves k s old new = moves words (record { views = r.views; past = r.past; size = r.size; world = r.world; sound = r.sound; inside = own.inside; view = own.view; bound = fit.1 }) fits in
     let turn : Turn r.views views' k (after (r.views k) s) = subst (λ w. Turn r.views views' k (after w s)) (sym own.view) (views_turn r.views k v') in
     let got = every_step s o old new r.views views' r.past k r.world own.inside law move turn in
     let mine : SeatFits o new views' r.owner id (Lane v' None) = (
@@ -82,6 +83,7 @@ allows o id v b i f step lawful moves st r _ here fits =
         past = past_after r.past (r.views k) s;
         size = length-set words i (f x) ∙ r.size;
         world = got.0;
+        sound = sound_kept o old r.views r.past r.world k own.inside new views' s r.sound law move turn;
         seats = λ j w q. ⊎_elim (λ (t : (j ≡ id) × (Lane v' None ≡ w)). let Q : ℕ → Knowledge → Type 0 = λ j w. SeatFits o new views' r.owner j w in subst (Q j) t.1 (subst (λ z. Q z (Lane v' None)) (sym t.0) mine))
             (λ (t : (j ≢ id) × (get_elem? st.views j ≡ some w)). seat_kept o old new r.views r.owner k v' id j own.owner_is t.0
             (λ u c ow ne. bound_kept o old new r.views r.past k s u c r.world own.inside ow.inside (λ e. ne e) ow.view law move) w (r.seats j w t.1)) (at_set st.views id j (Lane v' None) w q);

@@ -1,16 +1,16 @@
 -- What a lane's call asks of the table, from what its seat asks; and what the seat knows then.
-use Rattle.std.proofs.Common.{◌≡◌, ◌≢◌, ℕ, ◌+◌, ◌-◌, ◌*◌, ◌/◌, ◌%◌, ◌^◌, ◌<◌, ◌≤◌, cond, List, [], length, slice_index, set, Option, None, Some, bit_and, eqb, refl, sym, ap, ◌∙◌, subst, arith}
+use Rattle.std.proofs.Common.{◌≡◌, ℕ, ◌+◌, ◌-◌, ◌*◌, ◌/◌, ◌^◌, ◌<◌, cond, List, [], length, slice_index, set, Option, None, sym, ap, ◌∙◌, subst, arith}
 use Rattle.std.specs.Int.{bit_not, w64}
 use Rattle.atomic_table.specs.Table.{Me, Step as TableStep, Allows}
 use Rattle.pm_layout.specs.declared.shape.Shape.{Shape}
 use Rattle.pm_layout.specs.Areas.{page_bytes, page_words}
-use Rattle.pm_layout.specs.Chunks.{words_of, chunks_of, page_of_chunk}
-use Rattle.pm_view.specs.declared.occ.Occ.TheVariants.{Run, Zone}
+use Rattle.pm_layout.specs.Chunks.{words_of}
+use Rattle.pm_view.specs.declared.occ.Occ.TheVariants.{Run}
 use Rattle.pm_view.specs.Founds.{Found}
 use Rattle.pm_view.specs.Steps.{Step}
 use Rattle.pm_view.specs.View.{View}
 use Rattle.pm_view.specs.Views.{after}
-use Rattle.pm_world.specs.Lawful.{IsLawful, HasOcc}
+use Rattle.pm_world.specs.Lawful.{HasOcc}
 use Rattle.pm_world.specs.Memory.{Location, PoolWord, RunWord, CommitCounter}
 use Rattle.pm_world.specs.Moves.{Moves}
 use Rattle.pm_world.specs.World.{Opening}

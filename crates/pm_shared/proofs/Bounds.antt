@@ -1,5 +1,5 @@
 -- Bits of a zone's occupancy word are set by the lane alone that holds the zone's lock.
-use Rattle.std.proofs.Common.{◌≡◌, ◌≢◌, ℕ, suc, ◌/◌, ◌<◌, ⊎_elim, Bool, true, false, eqb, ◌==◌, Option, None, Some, bit_and, refl, sym, ap, ◌∙◌, subst, arith, eq-eqb}
+use Rattle.std.proofs.Common.{◌≡◌, ◌≢◌, ℕ, suc, ◌/◌, ◌<◌, ⊎_elim, Bool, true, false, ◌==◌, Option, None, Some, bit_and, sym, ap, ◌∙◌, subst, arith, eq-eqb}
 use Rattle.std.specs.Int.{bit_at, bit_not, w64}
 use Rattle.std.specs.List.{list_any}
 use Rattle.std.proofs.lemmas.Bool.{cases_eq, eqb-true}
@@ -11,11 +11,11 @@ use Rattle.pm_view.specs.Steps.{Step}
 use Rattle.pm_view.specs.Steps.Step.{Load, Store, Or, And, Flush, Drain, TakeWrite, TakeRead, Raise, Give, ZoneTry, ZoneGive, Occupied, Occupy, Vacate, Draw, NumberSeen, StopSeen, SetStop, Tell}
 use Rattle.pm_view.specs.View.{View}
 use Rattle.pm_world.specs.Lawful.{IsLawful}
-use Rattle.pm_world.specs.Memory.{Memory, Location, PoolWord, LockWord, RunWord, ZoneWord, ZoneLock, CommitCounter, StopWord, IsSame, IsSameBut, bit}
+use Rattle.pm_world.specs.Memory.{Memory, Location, PoolWord, LockWord, RunWord, ZoneWord, ZoneLock, CommitCounter, StopWord, IsSameBut, bit}
 use Rattle.pm_world.specs.Moves.{Moves}
 use Rattle.pm_world.specs.World.{Opening, Views, Past, World}
 use Rattle.pm_shared.specs.Placing.{sort_of}
-use Rattle.pm_shared.specs.Rule.{Bound, BoundHolds, BoundFits}
+use Rattle.pm_shared.specs.Rule.{Bound, BoundFits}
 
 -- the zone's lock has one holder
 one_holder : (o : Opening) (mem : Memory) (views : Views) (g : Past) → World o mem views g → (j k zone : ℕ) → j < o.lanes → k < o.lanes

@@ -7,3 +7,15 @@ pub mod Allows
 pub mod Moving
 pub mod Asked
 pub mod Looks
+pub mod PoolWords
+pub mod EntriesKept
+pub mod Sound
+pub mod MarkedChunks
+pub mod StoresFind
+pub mod StoresTold
+pub mod Crews
+pub mod Tallying
+pub mod Seats
+pub mod Beginnings
+pub mod Ends
+pub mod Pools

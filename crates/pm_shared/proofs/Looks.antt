@@ -1,8 +1,7 @@
 -- Calls by which a lane looks before its step, and the steps that rest on what it saw.
-use Rattle.std.proofs.Common.{◌≡◌, ◌≢◌, ℕ, zero, suc, ◌+◌, ◌-◌, ◌/◌, ◌^◌, ◌<◌, ⊎_elim, Bool, true, false, cond, not, eqb, List, [], ◌∷◌, length, slice_index, set, Option, None, Some, bit_and, bit_or, refl, sym, ap, ◌∙◌, subst, arith, eq-eqb, ne_eqb}
+use Rattle.std.proofs.Common.{◌≡◌, ◌≢◌, ℕ, zero, suc, ◌-◌, ◌/◌, ◌^◌, ◌<◌, ⊎_elim, Bool, true, false, cond, not, eqb, List, [], ◌∷◌, length, slice_index, set, Option, None, Some, bit_and, bit_or, refl, sym, ap, ◌∙◌, subst, eq-eqb, ne_eqb}
 use Rattle.std.specs.Int.{bit_not, w64}
-use Rattle.std.specs.List.{list_any}
-use Rattle.std.proofs.lemmas.Bool.{cases_eq, cases_Bool, eqb-true, both_ways}
+use Rattle.std.proofs.lemmas.Bool.{cases_eq, both_ways}
 use mathlib.Core.Option.{some, none}
 use lib.ListN.{get_elem?}
 use prog.Atomic.{either}
@@ -10,26 +9,25 @@ use Rattle.atomic_table.specs.Table.{State, Me, Step as TableStep, keeps, Allows
 use Rattle.atomic_table.proofs.Lists.{at_set, set_again}
 use Rattle.pm_layout.specs.declared.shape.Shape.{Shape}
 use Rattle.pm_layout.specs.Chunks.{words_of}
-use Rattle.pm_view.specs.declared.occ.Occ.TheVariants.{Run, Zone}
-use Rattle.pm_view.specs.Claims.{locked, holds}
+use Rattle.pm_view.specs.declared.occ.Occ.TheVariants.{Zone}
+use Rattle.pm_view.specs.Claims.{locked}
 use Rattle.pm_view.specs.LockWords.{reader_bit, writer_bit}
-use Rattle.pm_view.specs.Steps.{Step}
 use Rattle.pm_view.specs.Steps.Step.{Give, Occupy}
 use Rattle.pm_view.specs.View.{View}
 use Rattle.pm_world.specs.Lawful.{IsLawful}
-use Rattle.pm_world.specs.Memory.{Location, LockWord, ZoneWord, bit}
+use Rattle.pm_world.specs.Memory.{LockWord, ZoneWord, bit}
 use Rattle.pm_world.specs.Moves.{Moves}
 use Rattle.pm_world.specs.World.{Opening}
 use Rattle.pm_shared.specs.declared.mem.SharedMem.{SharedMem}
 use Rattle.pm_shared.specs.Openings.{opening_of, TableAllows}
-use Rattle.pm_shared.specs.Placing.{sort_of, number_of, count_of, start_of, table_size, place, memory_of, kept_bits}
-use Rattle.pm_shared.specs.Plays.{tells, looks_at_lock, looks_at_zone, Looked, occupies_zone}
+use Rattle.pm_shared.specs.Placing.{start_of, table_size, place, memory_of, kept_bits}
+use Rattle.pm_shared.specs.Plays.{looks_at_lock, looks_at_zone, Looked, occupies_zone}
 use Rattle.pm_shared.specs.Rule.{Knowledge, Pool, Lane, Spent, Bound, BoundHolds, Made, Ruled, lane_of, SeatAsks, SeatMade, SeatFits, Owned}
 use Rattle.pm_shared.proofs.Allows.{Before, allows}
 use Rattle.pm_shared.proofs.Asked.{one_view, number_is, below_place, few_lanes}
 use Rattle.pm_shared.proofs.Moving.{At, found_at, mode_known, write_gives, read_gives, occupy_won, occupy_lost, clear_still}
 
-set_same : (l : List ℕ) (i : ℕ) → set l i (slice_index l i) ≡ l
+pub set_same : (l : List ℕ) (i : ℕ) → set l i (slice_index l i) ≡ l
 set_same [] i = refl
 set_same (x ∷ xs) zero = refl
 set_same (x ∷ xs) (suc i) = λ k. x ∷ set_same xs i k
@@ -39,8 +37,8 @@ words_same : (l : List ℕ) (i x : ℕ) → x ≡ slice_index l i → set l i x 
 words_same l i x e = ap (set l i) e ∙ set_same l i
 
 -- a seat's lane, in a state that meets the rule
-before : (o : Opening) (s : State ℕ Knowledge) (r : Ruled o s) (id : ℕ) (v : View) (b : Option Bound) → get_elem? s.views id ≡ some (Lane v b) → Before o s.words v b
-before o s r id v b here = let fit = r.seats id (Lane v b) here in record { views = r.views; past = r.past; size = r.size; world = r.world; inside = fit.0.inside; view = fit.0.view; bound = fit.1 }
+pub before : (o : Opening) (s : State ℕ Knowledge) (r : Ruled o s) (id : ℕ) (v : View) (b : Option Bound) → get_elem? s.views id ≡ some (Lane v b) → Before o s.words v b
+before o s r id v b here = let fit = r.seats id (Lane v b) here in record { views = r.views; past = r.past; size = r.size; world = r.world; sound = r.sound; inside = fit.0.inside; view = fit.0.view; bound = fit.1 }
 
 -- ---- HOW THE LANE HOLDS A LINE
 module _ (m : SharedMem) (lane : ℕ) (me : Me ℕ Knowledge) (line i : ℕ) (ask : SeatAsks m.shape lane me (λ r. Give line)) (few : lane < m.shape.lanes) (inside : line < words_of m.shape / 8) (is : i ≡ place m.shape (LockWord line)) where
@@ -148,6 +146,7 @@ module _ (m : SharedMem) (lane : ℕ) (me : Me ℕ Knowledge) (zone bits i : ℕ
           past = r.past;
           size = ap length kept ∙ r.size;
           world = subst (λ ws. Rattle.pm_world.specs.World.World o (memory_of o.shape ws) r.views r.past) (sym kept) r.world;
+          sound = subst (λ ws. Rattle.pm_shared.specs.Rule.Sound o (memory_of o.shape ws) r.views) (sym kept) r.sound;
           seats = λ j w q. subst (λ ws. SeatFits o (memory_of o.shape ws) r.views r.owner j w) (sym kept) (⊎_elim
               (λ (t : (j ≡ id) × (Lane ask.view (Some b) ≡ w)). subst (λ z. SeatFits o (memory_of o.shape s.words) r.views r.owner z w) (sym t.0) (subst (SeatFits o (memory_of o.shape s.words) r.views r.owner id) t.1 mine))
               (λ (t : (j ≢ id) × (get_elem? s.views j ≡ some w)). r.seats j w t.1) (at_set s.views id j (Lane ask.view (Some b)) w q));

@@ -1,9 +1,7 @@
 -- What each call of the table does to the memory is what the lane's step does to it.
-use Rattle.std.proofs.Common.{◌≡◌, ◌≢◌, ℕ, suc, ◌+◌, ◌-◌, ◌*◌, ◌/◌, ◌%◌, ◌^◌, ◌<◌, ◌≤◌, max, min, ⊎_elim, nat_lt, List, length, slice_index, set, Bool, true, false, cond, not, ◌&&◌, ◌||◌, eqb, ◌==◌, bit_and, bit_or, Option, None, Some, refl, sym, ap, ◌∙◌, subst, arith, eq-eqb, ne_eqb, lt-ltb}
+use Rattle.std.proofs.Common.{◌≡◌, ◌≢◌, ℕ, ◌+◌, ◌-◌, ◌*◌, ◌/◌, ◌%◌, ◌^◌, ◌<◌, ⊎_elim, nat_lt, List, length, slice_index, set, true, false, not, ◌&&◌, eqb, ◌==◌, bit_and, bit_or, Option, Some, refl, sym, ap, ◌∙◌, subst, arith, eq-eqb, ne_eqb}
 use Rattle.std.specs.Int.{bit_at, bit_not, w64}
-use Rattle.std.specs.List.{list_any}
-use Rattle.std.proofs.lemmas.Bool.{cases_eq, cases_lt, cases_Bool, eqb-true, both_ways, or_cases}
-use Rattle.std.proofs.lemmas.Nat.{and_le_l}
+use Rattle.std.proofs.lemmas.Bool.{cases_eq, cases_Bool, eqb-true, both_ways, or_cases}
 use Rattle.std.proofs.lemmas.Nat.Bits.{bit_at_and, bit_at_or, bit_at_above, bit_at-lt, bit_at-zero, bit_at-pow_same, bit_at-pow_other, bit_at_cat_high, and_pow, same_from_bits}
 use prog.Atomic.{either}
 use Rattle.pm_layout.specs.declared.shape.Shape.{Shape}
@@ -12,16 +10,16 @@ use Rattle.pm_view.specs.declared.occ.Occ.TheVariants.{Run, Zone}
 use Rattle.pm_view.specs.Claims.{locked, reads, holds}
 use Rattle.pm_view.specs.LockWords.{reader_bit, writer_bit, with_writer, with_reader, with_raised, without_lane}
 use Rattle.pm_view.specs.Steps.{Step}
-use Rattle.pm_view.specs.Steps.Step.{Load, Store, Or, And, Flush, Drain, TakeWrite, TakeRead, Raise, Give, ZoneTry, ZoneGive, Occupied, Occupy, Vacate, Draw, NumberSeen, StopSeen, SetStop, Tell}
+use Rattle.pm_view.specs.Steps.Step.{Load, Store, Or, And, TakeWrite, TakeRead, Raise, Give, ZoneTry, ZoneGive, Occupied, Occupy, Vacate, Draw, NumberSeen, StopSeen, SetStop}
 use Rattle.pm_view.specs.View.{View}
-use Rattle.pm_world.specs.Memory.{Memory, Location, PoolWord, LockWord, RunWord, ZoneWord, ZoneLock, CommitCounter, StopWord, IsSame, IsSameBut, occ_at, bit}
+use Rattle.pm_world.specs.Memory.{Location, PoolWord, LockWord, ZoneLock, CommitCounter, StopWord, IsSame, IsSameBut, occ_at, bit}
 use Rattle.pm_world.specs.Moves.{Moves}
-use Rattle.pm_world.specs.World.{Opening, Views, World}
-use Rattle.pm_shared.specs.Placing.{sort_of, number_of, count_of, start_of, table_size, place, pulse_place, lock_said, said, memory_of}
-use Rattle.pm_shared.specs.Rule.{Bound, BoundHolds}
+use Rattle.pm_world.specs.World.{Opening}
+use Rattle.pm_shared.specs.Placing.{table_size, place, pulse_place, lock_said, said, memory_of}
+use Rattle.pm_shared.specs.Rule.{Bound}
 use Rattle.pm_shared.proofs.Tables.{becomes, stays, pulses}
 use Rattle.pm_shared.proofs.Allows.{Before}
-use Rattle.pm_shared.proofs.LockSaid.{said_low, said_high, high_part, low_part, write_won, write_lost, read_won, read_lost, read_same, raise_won, raise_lost, reader_gave, writer_left, writer_gave}
+use Rattle.pm_shared.proofs.LockSaid.{said_low, high_part, write_won, write_lost, read_won, read_lost, read_same, raise_won, raise_lost, reader_gave, writer_gave}
 
 -- the call is at this location's word of the table
 pub record At (sh : Shape) (words : List ℕ) (i : ℕ) (at : Location) : Type 0 where

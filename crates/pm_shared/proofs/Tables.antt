@@ -1,10 +1,10 @@
 -- What a call changes of the memory: one word of the table, so one location, or none.
-use Rattle.std.proofs.Common.{◌≡◌, ◌≢◌, ℕ, ◌+◌, ◌<◌, ◌≤◌, ⊎_elim, List, length, slice_index, set, refl, sym, ap, ◌∙◌, subst, arith, get_or-set_other, get_or-set_same}
+use Rattle.std.proofs.Common.{◌≡◌, ◌≢◌, ℕ, ◌+◌, ◌<◌, ◌≤◌, ⊎_elim, List, length, set, refl, sym, ap, ◌∙◌, subst, arith, get_or-set_other, get_or-set_same}
 use Rattle.std.proofs.lemmas.Bool.{cases_eq}
 use Rattle.pm_layout.specs.declared.shape.Shape.{Shape}
 use Rattle.pm_world.specs.Memory.{Location, PoolWord, LockWord, RunWord, ZoneWord, ZoneLock, CommitCounter, StopWord, IsSame, IsSameBut}
-use Rattle.pm_shared.specs.Placing.{sort_of, number_of, count_of, start_of, table_size, place, pulse_place, said, memory_of}
-use Rattle.pm_shared.proofs.Injective.{Lies, lies, apart, start_after}
+use Rattle.pm_shared.specs.Placing.{sort_of, count_of, start_of, table_size, place, pulse_place, said, memory_of}
+use Rattle.pm_shared.proofs.Injective.{lies, apart, start_after}
 
 module _ (sh : Shape) (words : List ℕ) (x : ℕ) where
   -- a location elsewhere

@@ -57,8 +57,11 @@ table_words b = b.words.items ++ (replicate (words_of b.shape / 8) 0 ++ (b.runs.
 -- ---- LANES ARE HANDED OUT in their order, and come back
 
 -- lanes from `next` on are with the pool, and these came back
+abbrev pub pool_with : List View → Me ℕ Knowledge
+pool_with views = (Pool views, [])
+
 abbrev pub pool_of : Beginning → ℕ → List View → Me ℕ Knowledge
-pool_of b next back = (Pool (idle_from b next (b.lanes - next) ++ back), [])
+pool_of b next back = pool_with (idle_from b next (b.lanes - next) ++ back)
 
 -- the pool's seat without its first lane, and the first lane's seat
 abbrev pub rest_of : Knowledge → Knowledge

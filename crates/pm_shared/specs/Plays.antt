@@ -1,5 +1,5 @@
 -- WHAT EACH CALL OF THE TABLE IS TO A LANE: a step, named by the word, the operands and the number found.
-use Rattle.std.specs.Prelude.{◌≡◌, ◌≢◌, ℕ, ◌-◌, ◌*◌, ◌/◌, ◌^◌, ◌==◌, Bool, true, false, not, [], Option, None, Some, bit_and}
+use Rattle.std.specs.Prelude.{◌≡◌, ℕ, ◌-◌, ◌*◌, ◌/◌, ◌^◌, ◌==◌, Bool, true, false, not, [], Option, Some, IfSome, bit_and}
 use Rattle.std.specs.Int.{bit_not, w64}
 use Rattle.atomic_table.specs.Table.{Me, Step as TableStep}
 use Rattle.pm_layout.specs.Areas.{page_bytes}
@@ -11,8 +11,9 @@ use Rattle.pm_view.specs.Claims.{locked}
 use Rattle.pm_view.specs.Steps.{Step}
 use Rattle.pm_view.specs.Steps.Step.{Load, Store, Or, And, Flush, Drain, TakeWrite, TakeRead, Raise, Give, ZoneTry, ZoneGive, Occupied, Occupy, Vacate, Draw, NumberSeen, StopSeen, SetStop, Tell}
 use Rattle.pm_view.specs.View.{View}
+use Rattle.pm_view.specs.Views.{was_in}
 use Rattle.pm_shared.specs.Placing.{start_of}
-use Rattle.pm_shared.specs.Rule.{Knowledge, Pool, Lane, Spent, Bound, Made, lane_of}
+use Rattle.pm_shared.specs.Rule.{Knowledge, Lane, Bound, Made, lane_of}
 
 abbrev pub Told : Type 1
 Told = TableStep ℕ → Me ℕ Knowledge → ℕ → Me ℕ Knowledge → Type 0
@@ -35,8 +36,12 @@ zone_in v st = Zone (number_in v 3 st)
 abbrev pub loads : Told
 loads = tells (λ v st r. Load st.word r)
 
+-- a store finds what the word was to the lane, where the lane's view keeps that
+abbrev pub FindsWas : View → ℕ → ℕ → Type 0
+FindsWas v w found = IfSome (was_in v w) (λ x. found ≡ x)
+
 abbrev pub stores : Told
-stores = tells (λ v st r. Store st.word st.first)
+stores st m r n = (v : View) → m ≡ lane_of v → Made (λ _. Store st.word st.first) v r n × FindsWas v st.word r
 
 abbrev pub ors : Told
 ors = tells (λ v st r. Or st.word st.first r)

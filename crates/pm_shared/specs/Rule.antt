@@ -1,17 +1,21 @@
 -- THE RULE OF THE TABLE: there is a world whose memory its words are, and what each seat knows is a lane's view of that world, views that the pool has
 -- to hand out or has taken back, or nothing any more.
-use Rattle.std.specs.Prelude.{◌≡◌, ℕ, ◌<◌, Bool, true, ◌==◌, List, [], length, Option, None, Some}
+use Rattle.std.specs.Prelude.{◌≡◌, ◌≢◌, ℕ, ◌<◌, nat_le, Bool, true, ◌==◌, List, [], length, slice_get, Option, None, Some}
 use Rattle.std.specs.List.{list_any}
 use mathlib.Core.Option.{some}
 use lib.ListN.{get_elem?}
 use Rattle.atomic_table.specs.Table.{State, Me}
 use Rattle.pm_layout.specs.declared.shape.Shape.{Shape}
+use Rattle.pm_layout.specs.Chunks.{chunks_of, word_of_descriptor}
+use Rattle.pm_record.specs.declared.redo.Op.TheVariants as op
+use Rattle.pm_view.specs.Entries.{Entry}
+use Rattle.pm_view.specs.Places.{Place, InRun, InHuge, Descr, RootWord}
 use Rattle.pm_view.specs.Founds.{Found}
 use Rattle.pm_view.specs.Steps.{Step}
 use Rattle.pm_view.specs.View.{View}
 use Rattle.pm_view.specs.Views.{after}
 use Rattle.pm_world.specs.Lawful.{IsLawful}
-use Rattle.pm_world.specs.Memory.{Memory, ZoneWord, bit}
+use Rattle.pm_world.specs.Memory.{Memory, PoolWord, ZoneWord, bit}
 use Rattle.pm_world.specs.World.{Opening, Views, Past, World}
 use Rattle.pm_shared.specs.Placing.{table_size, memory_of}
 
@@ -52,6 +56,23 @@ SeatFits o mem views owner id (Pool vs) = Crew o views owner id vs
 SeatFits o mem views owner id (Lane v b) = Owned o views owner id v × BoundFits mem v b
 SeatFits o mem views owner id Spent = Unit {0}
 
+-- BESIDE THE WORLD: no chunk is told to be a run of blocks without lines, and of a run's words before its blocks no entry sets all bits
+abbrev pub DescriptorsFit : Shape → Memory → Type 0
+DescriptorsFit sh mem = (c : ℕ) → c < chunks_of sh → mem (PoolWord (word_of_descriptor sh c)) ≢ 1
+
+abbrev pub is_settable : Place → Bool
+is_settable (InRun c w) = nat_le 8 w
+is_settable (InHuge c w) = true
+is_settable (Descr c) = true
+is_settable RootWord = true
+
+abbrev pub SetsFit : List Entry → Type 0
+SetsFit entries = (i : ℕ) (e : Entry) (p : Place) → slice_get entries i ≡ Some e → e.op ≡ op.Set → e.place ≡ Some p → is_settable p ≡ true
+
+pub record Sound (o : Opening) (mem : Memory) (views : Views) : Type 0 where
+  pub descriptors : DescriptorsFit o.shape mem
+  pub sets : (k : ℕ) → SetsFit (views k).log.entries
+
 -- THE RULE. A lane's seat is named by `owner`, so that seats that come and go change nothing of the others
 pub record Ruled (o : Opening) (s : State ℕ Knowledge) : Type 0 where
   pub views : Views
@@ -59,6 +80,7 @@ pub record Ruled (o : Opening) (s : State ℕ Knowledge) : Type 0 where
   pub past : Past
   pub size : length s.words ≡ table_size o.shape
   pub world : World o (memory_of o.shape s.words) views past
+  pub sound : Sound o (memory_of o.shape s.words) views
   pub seats : (id : ℕ) (w : Knowledge) → get_elem? s.views id ≡ some w → SeatFits o (memory_of o.shape s.words) views owner id w
 
 -- ---- WHAT A CALL TELLS: one form for every kind of step

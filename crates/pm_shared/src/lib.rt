@@ -7,18 +7,30 @@
 //! word in a step before: a line's lock is released, and bits of a zone are taken. One lemma proves
 //! the steps of every kind from the world's law. No step waits, and none allocates.
 //!
-//! Still to come: the traits of a lane's memory over a seat; lanes split off the pool's seat and
-//! joined to it; how the table begins on a pool's words and ends; operations that are told in the
-//! history. Of these the definitions stand, in `Openings`, `Closings` and `Plays`. Until then
-//! nobody makes a `SharedMem`, and no lane runs on one. The crate stands on the kit's
-//! `atomic_table`.
+//! `SharedLane` is a lane over a seat: it has the traits of a lane's memory, `LawfulMem` among them,
+//! so that it takes each step that the lane's view allows. It counts its calls and keeps its
+//! undrained changes itself.
+//!
+//! `SharedMem::new` begins on a pool's recovered words, with a world of lanes that were asked
+//! nothing, all of them with the pool's seat. `split` hands the next lane out and `join` takes one
+//! back, so that lanes run in threads. `close` gives the words, which are those of a world that has
+//! the final view of each lane that came back. The crate stands on the kit's `atomic_table`.
 #![tactic(auto)]
 
+mod lane;
+mod lane_mem;
+mod lane_sync;
+mod lawful;
 mod mem;
 mod places;
 mod plays;
+mod pool;
 mod rule;
 mod steps;
+mod tally;
 
+pub use lane::{SharedLane, TableName};
 pub use mem::{LaneSeat, SharedMem};
+pub use pool::PoolSeat;
 pub use rule::{Beginning, Knows, WorldRule};
+pub use tally::Tally;

@@ -1,4 +1,4 @@
-ghost use Rattle.std.specs.Prelude.{◌≡◌, ◌<◌, length, bit_and, bit_or, ◌+◌, ◌%◌, ◌^◌, ◌==◌};
+ghost use Rattle.std.specs.Prelude.{◌≡◌, ◌<◌, ◌≤◌, length, bit_and, bit_or, ◌+◌, ◌%◌, ◌^◌, ◌==◌};
 ghost use mathlib.Core.Option.{none};
 ghost use prog.Atomic.{either};
 ghost use Rattle.atomic_table.specs.Table.{step};
@@ -9,6 +9,7 @@ ghost use Rattle.pm_shared.specs.Placing.{table_size};
 use crate::rule::{Beginning, Knows, WorldRule};
 use atomic_table::{Play, Seat, Table};
 use pm_layout::Shape;
+use pm_objects::Stops;
 use std::alloc::Global;
 
 /// A seat of the table: what its lane knows, and nothing when a program runs.
@@ -22,11 +23,14 @@ pub struct SharedMem {
     pub(crate) shape: Shape,
     pub(crate) words: u64,
     pub(crate) room: Vec<u64>,
+    pub(crate) stops: Stops,
     ghost sized: { table.shared.table_id.words ≡ table_size shape },
     ghost slotless: { table.shared.table_id.slots ≡ 0 },
     ghost shaped: { table.shared.key.shape ≡ shape },
     ghost counted: { words ≡ words_of shape },
     ghost roomy: { length room.items ≡ words_of shape },
+    ghost stopping: { stops ≡ table.shared.key.stops },
+    ghost lanes_in: { table.shared.key.lanes ≤ shape.lanes },
 }
 
 impl SharedMem {

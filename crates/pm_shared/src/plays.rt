@@ -1,7 +1,9 @@
-ghost use Rattle.pm_shared.specs.Plays.{loads, stores, ors, ands, flushes, drains, takes_write, takes_read, raises, looks_at_lock, gives, tries_zone, gives_zone, sees_run, sees_zone, occupies_run, looks_at_zone, occupies_zone, vacates_run, vacates_zone, draws, sees_number, sees_stop, sets_stop};
+ghost use Rattle.pm_shared.specs.Plays.{loads, stores, ors, ands, flushes, drains, takes_write, takes_read, raises, looks_at_lock, gives, tries_zone, gives_zone, sees_run, sees_zone, occupies_run, looks_at_zone, occupies_zone, vacates_run, vacates_zone, draws, sees_number, sees_stop, sets_stop, adds};
 
 use crate::rule::Knows;
 use atomic_table::Play;
+use pm_world::Adds;
+use std::marker::PhantomData;
 
 /// A pool word is loaded.
 pub struct Loads;
@@ -169,4 +171,13 @@ pub struct SetsStop;
 
 impl Play<u8, Knows> for SetsStop {
     ghost then = { sets_stop };
+}
+
+/// An operation is told, which A names.
+pub struct Tells<A: Adds> {
+    names: PhantomData<A>,
+}
+
+impl<A: Adds> Play<u8, Knows> for Tells<A> {
+    ghost then = { adds A.operation A.reply };
 }

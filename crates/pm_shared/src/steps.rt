@@ -4,7 +4,9 @@ ghost use Rattle.pm_view.specs.declared.occ.Occ.TheVariants.{Run, Zone};
 ghost use Rattle.pm_view.specs.LockWords.{reader_bit, writer_bit};
 ghost use Rattle.pm_view.specs.Steps.Step.{Load, Store, Or, And, Flush, Drain, TakeWrite, TakeRead, Raise, Give, ZoneTry, ZoneGive, Occupied, Occupy, Vacate, Draw, NumberSeen, StopSeen, SetStop};
 ghost use Rattle.pm_shared.specs.Placing.{kept_bits};
-ghost use Rattle.pm_shared.specs.Rule.{SeatAsks, SeatMade};
+ghost use Rattle.pm_shared.specs.Plays.{FindsWas};
+ghost use Rattle.pm_shared.specs.Rule.{SeatAsks, SeatMade, lane_of};
+ghost use Rattle.pm_view.specs.View.{View};
 
 use crate::mem::LaneSeat;
 use crate::{SharedMem, plays};
@@ -64,6 +66,7 @@ impl SharedMem {
         requires asks { SeatAsks self.now.shape lane seat.old.me (λ r. Store word value) }
         ensures table { seat.new.table_id ≡ seat.old.table_id }
         ensures made { SeatMade seat.old.me seat.new.me (Store word value) }
+        ensures found { (v : View) → seat.old.me ≡ lane_of v → FindsWas v word result }
     {
         self.store::<plays::Stores>(seat, self.word_at(word), value)
     }

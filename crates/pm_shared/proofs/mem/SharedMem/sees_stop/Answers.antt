@@ -1,17 +1,9 @@
-use Rattle.std.proofs.Common.{◌≡◌, ℕ, ◌+◌, ◌*◌, ◌/◌, ◌%◌, ◌^◌, ◌<◌, ◌-◌, bit_and, bit_or, eqb, not, ap, refl, sym, ◌∙◌, subst, arith}
-use Rattle.std.specs.Int.{bit_not, w64}
+use Rattle.std.proofs.Common.{◌<◌, eqb, not, refl, arith}
 use mathlib.Core.Option.{none}
-use prog.Atomic.{either}
 use Rattle.atomic_table.specs.Table.{step}
-use Rattle.pm_layout.specs.declared.shape.Shape.{Shape}
-use Rattle.pm_layout.specs.Areas.{page_bytes, page_words}
-use Rattle.pm_layout.specs.Chunks.{words_of}
-use Rattle.pm_view.specs.declared.occ.Occ.TheVariants.{Run, Zone}
-use Rattle.pm_view.specs.LockWords.{reader_bit, writer_bit}
-use Rattle.pm_view.specs.Steps.Step.{Load, Store, Or, And, Flush, Drain, TakeWrite, TakeRead, Raise, Give, ZoneTry, ZoneGive, Occupied, Occupy, Vacate, Draw, NumberSeen, StopSeen, SetStop}
-use Rattle.pm_world.specs.Memory.{PoolWord, LockWord, RunWord, ZoneWord, ZoneLock, CommitCounter, StopWord}
-use Rattle.pm_shared.specs.Placing.{start_of}
-use Rattle.pm_shared.proofs.Asked.{asked, gave, in_shape, at_inside, below_place, word_is, number_is, run_inside, run_whole, run_is, twice_not, few_lanes, draw_room}
+use Rattle.pm_view.specs.Steps.Step.{StopSeen}
+use Rattle.pm_world.specs.Memory.{StopWord}
+use Rattle.pm_shared.proofs.Asked.{asked, below_place}
 use Rattle.pm_shared.proofs.Moving as moves
 use Rattle.pm_shared.proofs.mem.SharedMem.sees_stop.Goals as goal
 
