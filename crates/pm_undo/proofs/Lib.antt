@@ -1,0 +1,11 @@
+pub mod Notes
+pub mod AreaParts
+pub mod Moved
+pub mod Logging
+pub mod Slots
+pub mod Recording
+pub mod Rising
+pub mod Apart
+pub mod Snapshotted
+pub mod Snapshotting
+pub mod Standing

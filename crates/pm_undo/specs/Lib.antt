@@ -1,0 +1,4 @@
+pub mod Spans
+pub mod Records
+pub mod Plans
+pub mod Working

@@ -1,0 +1,5 @@
+#![tactic(auto)]
+
+mod undo_log;
+
+pub use undo_log::{KeptRecord, UndoLog};
