@@ -9,3 +9,5 @@ pub mod Apart
 pub mod Snapshotted
 pub mod Snapshotting
 pub mod Standing
+pub mod Putting
+pub mod Restored

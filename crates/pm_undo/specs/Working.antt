@@ -7,7 +7,7 @@ use Rattle.pm_layout.specs.Chunks.{page_of_zone}
 use Rattle.pm_view.specs.Changes.{Undrained}
 use Rattle.pm_view.specs.Claims.{Claim, Knows, Drained, SawBitmap, class, making}
 use Rattle.pm_view.specs.Founds.{knows}
-use Rattle.pm_view.specs.Log.{Phase, Open, Recorded, next_log, old_in}
+use Rattle.pm_view.specs.Log.{Phase, Idle, Open, Drawn, Recorded, next_log, old_in}
 use Rattle.pm_view.specs.Places.{Place, word_of, place_after, is_data, is_place}
 use Rattle.pm_view.specs.View.{View}
 use Rattle.pm_view.specs.Views.{value_in}
@@ -107,19 +107,40 @@ pub record IsSnapshot (v : View) (spans : List Span) (w : View) : Type 0 where
 
 -- ---- putting back
 
--- EVERY RECORDED WORD IS AS IT WAS RECORDED, and that is persistent; others are known as they were
+-- EVERY RECORDED WORD IS AS IT WAS RECORDED, and that is persistent; other data are known as they were
 pub record IsRestored (v w : View) : Type 0 where
   pub same : w ≡ record v { claims = w.claims; changes = []; calls = w.calls }
   pub noted : HasNoted v w
   pub restored : AreRestored (picture w.fixed.shape w.claims) w.log.records
-  pub known : (p : Place) → is_data p ≡ true → is_place v.fixed.shape p ≡ true → is_recorded v.log.records p ≡ false → knows w (word_of v.fixed.shape p) ≡ knows v (word_of v.fixed.shape p)
+  pub known : (p : Place) → is_data p ≡ true → place_in v (word_of v.fixed.shape p) ≡ Some p → is_recorded v.log.records p ≡ false → knows w (word_of v.fixed.shape p) ≡ knows v (word_of v.fixed.shape p)
   pub working : IsWorking w
 
 -- ---- ending the generation
 
+-- the records of an aborted call are restored; those of a call with its number just end
+abbrev pub CanEndAt : View → Phase → Type 0
+CanEndAt v Open = AreRestored (picture v.fixed.shape v.claims) v.log.records
+CanEndAt v (Drawn n) = Unit {0}
+CanEndAt v phase = ⊥
+
+abbrev pub phase_ended : Phase → Phase
+phase_ended Open = Open
+phase_ended phase = Idle
+
+-- the lane may end its generation: nothing is undrained, and no entry is stored
+pub record CanRetire (v : View) : Type 0 where
+  pub ends : CanEndAt v v.log.phase
+  pub whole : (v.log.slot ≡ []) × (v.log.pair ≡ [])
+  pub unentered : v.log.entries ≡ []
+  pub below : v.log.generation < greatest_generation v.fixed.shape
+  pub lane : v.fixed.lane < v.fixed.shape.lanes
+  pub unmaking : (c : ℕ) → making v.fixed.shape v.claims c ≡ false
+  pub drained : v.changes ≡ []
+  pub known : value_in v (word_of_generation v.fixed.shape v.fixed.lane) ≡ Some v.log.generation
+
 -- THE GENERATION IS ENDED: no records are left, nothing is undrained, and the lane knows the next generation
-pub record IsRetired (phase : Phase) (v w : View) : Type 0 where
-  pub same : w ≡ record v { claims = w.claims; changes = []; calls = w.calls; log = next_log phase v.log }
+pub record IsRetired (v w : View) : Type 0 where
+  pub same : w ≡ record v { claims = w.claims; changes = []; calls = w.calls; log = next_log (phase_ended v.log.phase) v.log }
   pub noted : HasNoted v w
   pub known : (u : ℕ) → IsBeyond v.fixed.shape u → knows w u ≡ knows v u
   pub next : value_in w (word_of_generation v.fixed.shape v.fixed.lane) ≡ Some (v.log.generation + 1)
