@@ -11,3 +11,4 @@ pub mod Snapshotting
 pub mod Standing
 pub mod Putting
 pub mod Restored
+pub mod Retired
