@@ -1,5 +1,6 @@
 -- How plans are put together.
-use Rattle.std.proofs.Common.{◌≡◌, ◌+◌, ◌-◌, ℕ, zero, suc, ◌<◌, ◌≤◌, List, [], ◌∷◌, ◌++◌, take, length-append, Result, Ok, Err, refl, sym, ap, ◌∙◌, subst, T, IsErr, arith, rules}
+use Rattle.std.proofs.Common.{◌≡◌, ◌+◌, ◌-◌, ℕ, zero, suc, ◌<◌, ◌≤◌, ◌⊎◌, ⊎_elim, List, [], ◌∷◌, ◌++◌, take, length-append, Result, Ok, Err, refl, sym, ap, ◌∙◌, subst, T, IsErr, arith, rules}
+use Rattle.std.proofs.Math.Nat.{eq-or-lt_of_le}
 use Rattle.std.proofs.lemmas.List.{take-append-le}
 use Rattle.std.specs.Prelude.{Some, unwrap_or}
 use Rattle.pm_memory.proofs.Runs.{stops_after, stops_at_once}
@@ -202,3 +203,14 @@ module _ (old : View → Type 0) (plans : ℕ → Plan) where
   repeated_err S T n k mid new answer stopped result below runs step error =
       answered_by_error T old new (repeated plans n) stopped result error
       (stopped_up T (n - suc k) (suc k) n new stopped (omega (arith, below)) (more k mid new answer (Err stopped) runs step))
+
+-- of so many plans in turn each may be carried out from where those before it end
+pub repeated_ready : (plans : ℕ → Plan) (v : View) (n k : ℕ) → k < n → Ready v (repeated plans n v) → Ready v (repeated plans k v) × Ready (after_all v (repeated plans k v)) (plans k (after_all v (repeated plans k v)))
+unfolding repeated in_turn
+repeated_ready plans v zero k below r = absurd (omega (arith, below))
+repeated_ready plans v (suc n) k below r =
+    ⊎_elim
+    (λ (same : k ≡ n). subst (λ j. Ready v (repeated plans j v) × Ready (after_all v (repeated plans j v)) (plans j (after_all v (repeated plans j v)))) (sym same)
+    (ready_left v (repeated plans n v) (plans n (after_all v (repeated plans n v))) r, ready_right v (repeated plans n v) (plans n (after_all v (repeated plans n v))) r))
+    (λ (lower : k < n). repeated_ready plans v n k lower (ready_left v (repeated plans n v) (plans n (after_all v (repeated plans n v))) r))
+    (eq-or-lt_of_le (let e : k ≤ n = omega (arith, below) in e))

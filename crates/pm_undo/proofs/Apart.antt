@@ -11,8 +11,8 @@ use Rattle.pm_world.specs.Sights.{is_recorded}
 use Rattle.pm_world.specs.LaneFields.{span_of}
 use Rattle.pm_world.proofs.Basics.{given_cases}
 use Rattle.pm_world.proofs.Recording.{old_in_at, place_is}
+use Rattle.pm_undo.specs.Spans.{ArePast}
 use Rattle.pm_undo.specs.Working.{AreOnce}
-use Rattle.pm_undo.proofs.Rising.{ArePast}
 
 -- a word of a record is so many words after its first
 pub word_after : (sh : Shape) (p : Place) (n : ℕ) → is_data (place_after p n) ≡ true → word_of sh (place_after p n) ≡ word_of sh p + n

@@ -3,7 +3,7 @@ pub mod AreaParts
 pub mod Moved
 pub mod Logging
 pub mod Slots
-pub mod Recording
+pub mod OneRecord
 pub mod Rising
 pub mod Apart
 pub mod Snapshotted
@@ -12,3 +12,9 @@ pub mod Standing
 pub mod Putting
 pub mod Restored
 pub mod Retired
+pub mod Planning
+pub mod Looking
+pub mod Engines
+pub mod Kept
+pub mod Fitting
+pub mod Snapped

@@ -18,7 +18,7 @@ use Rattle.pm_world.specs.Lawful.{MayStore, StoreFits}
 use Rattle.pm_plan.specs.Plans.{IsPersisted, Ready, claims_persisted, in_turn, log_persisted, one, persists, stores}
 use Rattle.pm_plan.proofs.Dropping.{flush_drops}
 use Rattle.pm_plan.proofs.Going.{Goes, goes_one, goes_stores, goes_then}
-use Rattle.pm_undo.specs.Plans.{ends_generation, retires}
+use Rattle.pm_undo.specs.Plans.{ends_word, retires}
 use Rattle.pm_undo.specs.Working.{CanEndAt, CanRetire, DrainedTo, IsRetired, Valued, IsBeyond, phase_ended}
 use Rattle.pm_undo.proofs.AreaParts.{part_generation}
 use Rattle.pm_undo.proofs.Notes.{known_noted}
@@ -117,8 +117,8 @@ module _ (v : View) (can : CanRetire v) where
   marked : mark line (change false) ≡ change true
   marked = cond-true (is_in_line line (change false)) (change true) (change false) (eq-eqb (w / 8) line refl)
 
-  all_ended : Goes Before (ends_generation sh v.fixed.lane v.log.generation) Ended
-  unfolding ends_generation persists
+  all_ended : Goes Before (ends_word w v.log.generation) Ended
+  unfolding ends_word persists
   all_ended = goes_then Before (StoredSo false) Ended (stores w x) (in_turn (one (Flush line)) (one Drain))
       (goes_stores Before (StoredSo false) w x stays (λ u same room. (subst (λ (y : View). MayStore y w x) (sym same) (may u.calls), stored u same)))
       (goes_then (StoredSo false) (StoredSo true) Ended (one (Flush line)) (one Drain)
@@ -134,7 +134,7 @@ module _ (v : View) (can : CanRetire v) where
   unfolding retires
   retire_lawful =
       let t = all_ended v refl in
-      let u : View = after_all v (ends_generation sh v.fixed.lane v.log.generation v) in
+      let u : View = after_all v (ends_word w v.log.generation v) in
       let claims : u.claims ≡ Drained [] ∷ Knows w x ∷ v.claims = ap (λ (y : View). y.claims) t.1 in
       (t.0, record {
         same = t.1 ∙ ap (λ c. record v { claims = c; changes = []; calls = u.calls; log = next_log (phase_ended v.log.phase) v.log }) (sym claims);

@@ -5,17 +5,12 @@ use Rattle.std.proofs.lemmas.Bool.{eqb-true}
 use Rattle.pm_model.specs.Transaction.{covered_words, records_from, records_of, new_words}
 use Rattle.pm_model.specs.Items.{is_among}
 use Rattle.pm_world.specs.declared.lane.Span.{Span}
-use Rattle.pm_undo.specs.Spans.{plan_of, span_in, spans_for, words_in}
+use Rattle.pm_undo.specs.Spans.{ArePast, plan_of, span_in, spans_for, words_in}
 
 -- each word is above those before it, and none is below this one
 abbrev IsRising : ℕ → List ℕ → Type 0
 IsRising b [] = Unit {0}
 IsRising b (w ∷ ws) = (b ≤ w) × IsRising (w + 1) ws
-
--- each record begins past the end of the one before, and none before this word
-abbrev pub ArePast : ℕ → List Span → Type 0
-ArePast b [] = Unit {0}
-ArePast b (s ∷ spans) = (b ≤ s.word) × ArePast (s.word + s.count) spans
 
 rising_lower : (b c : ℕ) (ws : List ℕ) → c ≤ b → IsRising b ws → IsRising c ws
 rising_lower b c [] le r = tt

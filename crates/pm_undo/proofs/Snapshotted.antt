@@ -28,15 +28,14 @@ use Rattle.pm_plan.specs.Plans.{in_turn, known_word, looks, nothing, one, repeat
 use Rattle.pm_plan.proofs.Going.{Goes, goes_look, goes_nothing, goes_one, goes_repeated, goes_then, goes_weaker}
 use Rattle.pm_undo.specs.Plans.{looks_at, looks_from, logs, writes_record, writes_records}
 use Rattle.pm_undo.specs.Records.{kept_in, kept_of, record_at, recorded_in, words_of_span, no_record}
-use Rattle.pm_undo.specs.Spans.{no_span, span_at}
+use Rattle.pm_undo.specs.Spans.{ArePast, no_span, span_at}
 use Rattle.pm_undo.specs.Working.{IsBeyond, Valued, DrainedTo, Looked}
 use Rattle.pm_undo.specs.declared.undo_log.KeptRecord.{KeptRecord}
 use Rattle.pm_undo.proofs.AreaParts.{data_beyond, data_part}
 use Rattle.pm_undo.proofs.Apart.{IsPlain, early_none, no_recorded, not_in_both, word_after}
 use Rattle.pm_undo.proofs.Logging.{Logging, class_so, fixed_so, log_so, no_making, phase_so}
 use Rattle.pm_undo.proofs.Notes.{known_again, known_noted}
-use Rattle.pm_undo.proofs.Recording.{IsAside, Written, record_written, same_after}
-use Rattle.pm_undo.proofs.Rising.{ArePast}
+use Rattle.pm_undo.proofs.OneRecord.{IsAside, Written, record_written, same_after}
 
 -- the words after a place of a chunk are of the same use
 pub use_after : (sh : Shape) (class : ℕ → ℕ) (p : Place) (i : ℕ) → is_data (place_after p i) ≡ true → place_at sh class (word_of sh p) ≡ Some p → is_place sh (place_after p i) ≡ true → place_at sh class (word_of sh (place_after p i)) ≡ Some (place_after p i)

@@ -24,16 +24,16 @@ use Rattle.pm_world.specs.declared.lane.Span.{Span}
 use Rattle.pm_world.proofs.PlacesAt.{is_at}
 use Rattle.pm_plan.specs.Plans.{Plan, Ready, in_turn, known_word, looks, nothing, one, repeated}
 use Rattle.pm_plan.proofs.Going.{Goes, goes_look, goes_nothing, goes_one, goes_repeated, goes_then, goes_weaker}
-use Rattle.pm_undo.specs.Plans.{looks_at, looks_from, logs, records_all, snapshots, writes_record, writes_records}
+use Rattle.pm_undo.specs.Plans.{looks_at, looks_first, looks_from, logs, records_all, snapshots, writes_record, writes_records}
 use Rattle.pm_undo.specs.Records.{kept_in, kept_of, no_record, record_at, recorded_in, spans_of}
-use Rattle.pm_undo.specs.Spans.{no_span, plan_of, span_at}
+use Rattle.pm_undo.specs.Spans.{ArePast, no_span, plan_of, span_at}
 use Rattle.pm_undo.specs.Working.{CanSnapshot, HasNoted, IsBeyond, IsSnapshot, IsStanding, IsWorking, Valued, DrainedTo, Looked, noted}
 use Rattle.pm_undo.proofs.AreaParts.{data_beyond, data_part}
 use Rattle.pm_undo.proofs.Apart.{IsPlain, apart_from, early_none, no_recorded, not_in_both, once_both, past_once, word_after}
 use Rattle.pm_undo.proofs.Logging.{Logging, class_so, fixed_so, log_so, no_making, phase_so}
 use Rattle.pm_undo.proofs.Notes.{class_same, known_again, known_noted, pictured_noted}
-use Rattle.pm_undo.proofs.Recording.{IsAside, Written, record_written}
-use Rattle.pm_undo.proofs.Rising.{ArePast, plan_past}
+use Rattle.pm_undo.proofs.OneRecord.{IsAside, Written, record_written}
+use Rattle.pm_undo.proofs.Rising.{plan_past}
 use Rattle.pm_undo.proofs.Snapshotted.{all_kept, all_past, all_plain, aside_beyond, at_index, drained_open, left_beyond, looks_so, use_after}
 
 module _ (v : View) (working : IsWorking v) where
@@ -95,10 +95,18 @@ module _ (v : View) (working : IsWorking v) where
         d : Rattle.pm_undo.proofs.AreaParts.OfChunk sh (class v.claims) v.fixed.lane (s.word + i) l.place
         d = data_part sh (class v.claims) v.fixed.lane (s.word + i) l.place working.lane l.plain l.at
 
+    pub looks_some : (s : Span) → CanRecord v (recorded_in v s) → (m : ℕ) → m ≤ s.count → Goes (HasClean before) (looks_from s.word m) (HasClean before)
+    unfolding looks_from
+    looks_some s is m most = goes_repeated (λ _. HasClean before) (λ i. looks (s.word + i)) m (λ i small. look_word s is i (omega (arith, small, most)))
+
+    pub looks_firsts : (n : ℕ) → n ≤ length spans → Goes (HasClean before) (looks_first spans n) (HasClean before)
+    unfolding looks_first
+    looks_firsts n most = goes_repeated (λ _. HasClean before) (λ i. looks_from (span_at spans i).word (span_at spans i).count) n
+        (λ k low. looks_some (span_at spans k) (at_index (λ (s : Span). CanRecord v (recorded_in v s)) spans no_span k can (omega (arith, low, most))) (span_at spans k).count (omega arith))
+
     pub looks_all : Goes (HasClean before) (looks_at spans) (HasClean before)
-    unfolding looks_at looks_from
-    looks_all = goes_repeated (λ _. HasClean before) (λ i. looks_from (span_at spans i).word (span_at spans i).count) (length spans)
-        (λ k low. goes_repeated (λ _. HasClean before) (λ i. looks ((span_at spans k).word + i)) (span_at spans k).count (λ i small. look_word (span_at spans k) (at_index (λ (s : Span). CanRecord v (recorded_in v s)) spans no_span k can low) i small))
+    unfolding looks_at
+    looks_all = looks_firsts (length spans) (omega arith)
 
     -- ---- writing the records
     module _ (past : ArePast 0 spans) (room : length before + length spans ≤ 64) where

@@ -15,13 +15,13 @@ use Rattle.pm_world.specs.Sights.{is_recorded}
 use Rattle.pm_world.specs.declared.lane.Span.{Span}
 use Rattle.pm_plan.specs.Plans.{Ready, in_turn, one, nothing}
 use Rattle.pm_plan.proofs.Going.{Goes, goes_nothing, goes_then, goes_weaker}
-use Rattle.pm_undo.specs.Plans.{looks_at, logs, records_all, snapshots, writes_records}
+use Rattle.pm_undo.specs.Plans.{looks_at, logs, logs_here, records_all, snapshots, writes_all, writes_records}
 use Rattle.pm_undo.specs.Records.{kept_in, kept_of, recorded_in, spans_of}
-use Rattle.pm_undo.specs.Spans.{plan_of}
-use Rattle.pm_undo.specs.Working.{AreOnce, CanSnapshot, IsBeyond, IsSnapshot, IsStanding, IsWorking}
+use Rattle.pm_undo.specs.Spans.{ArePast, plan_of}
+use Rattle.pm_undo.specs.Working.{AreOnce, CanSnapshot, HasSlots, IsBeyond, IsSnapshot, IsStanding, IsWorking}
 use Rattle.pm_undo.proofs.Apart.{apart_from, once_both, past_once}
 use Rattle.pm_undo.proofs.Logging.{Logging, class_so, fixed_so, log_so, no_making, phase_so}
-use Rattle.pm_undo.proofs.Rising.{ArePast, plan_past}
+use Rattle.pm_undo.proofs.Rising.{plan_past}
 use Rattle.pm_undo.proofs.Snapshotted.{all_kept, all_past, all_plain, aside_beyond, use_after}
 use Rattle.pm_undo.proofs.Snapshotting.{HasClean, Stand, starts, looks_all, written, drained_all}
 
@@ -68,7 +68,7 @@ module _ (v : View) (working : IsWorking v) where
 
   logs_all : (spans : List Span) → AllByRecursion (λ (s : Span). CanRecord v (recorded_in v s)) spans → ArePast 0 spans → length v.log.records + length spans ≤ 64
       → Goes (HasClean v working v.log.records) (logs sh v.fixed.lane v.log.generation (length v.log.records) (map (kept_in v) spans)) (HasClean v working (v.log.records ++ map (recorded_in v) spans))
-  unfolding logs
+  unfolding logs writes_all
   logs_all [] can past room = goes_weaker (HasClean v working v.log.records) (HasClean v working v.log.records) (HasClean v working v.log.records) (HasClean v working (v.log.records ++ [])) nothing (λ u p. p) (λ u p. subst (λ rs. HasClean v working rs u) (sym (append-nil v.log.records)) p) (goes_nothing (HasClean v working v.log.records))
   logs_all (s ∷ spans) can past room = subst (λ ks. Goes (HasClean v working v.log.records) (in_turn (writes_records sh v.fixed.lane v.log.generation (length v.log.records) ks) (one Drain)) (HasClean v working (v.log.records ++ map (recorded_in v) (s ∷ spans)))) (sym (all_kept v (s ∷ spans) can))
       (goes_weaker (Stand v working (s ∷ spans) can past room 0) (HasClean v working v.log.records) (HasClean v working (v.log.records ++ map (recorded_in v) (s ∷ spans))) (HasClean v working (v.log.records ++ map (recorded_in v) (s ∷ spans)))
@@ -77,6 +77,12 @@ module _ (v : View) (working : IsWorking v) where
       (goes_then (Stand v working (s ∷ spans) can past room 0) (Stand v working (s ∷ spans) can past room (length (map (recorded_in v) (s ∷ spans)))) (HasClean v working (v.log.records ++ map (recorded_in v) (s ∷ spans)))
       (writes_records sh v.fixed.lane v.log.generation (length v.log.records) (map (kept_of sh) (map (recorded_in v) (s ∷ spans)))) (one Drain)
       (written v working (s ∷ spans) can past room) (drained_all v working (s ∷ spans) can past room (omega arith))))
+
+  logs_here_all : (spans : List Span) → AllByRecursion (λ (s : Span). CanRecord v (recorded_in v s)) spans → ArePast 0 spans → length v.log.records + length spans ≤ 64
+      → Goes (HasClean v working v.log.records) (logs_here sh v.log.generation (length v.log.records) (map (kept_in v) spans)) (HasClean v working (v.log.records ++ map (recorded_in v) spans))
+  unfolding logs_here
+  logs_here_all spans can past room u p = subst (λ (g : Constants). Ready u (logs sh g.lane v.log.generation (length v.log.records) (map (kept_in v) spans) u) × HasClean v working (v.log.records ++ map (recorded_in v) spans) (after_all u (logs sh g.lane v.log.generation (length v.log.records) (map (kept_in v) spans) u)))
+      (sym (fixed_so v working.unmaking working.is_open v.log.records [] u p.0)) (logs_all spans can past room u p)
 
   -- where the log is so, the lane is at work
   still_working : (u : View) (records : List Recorded) → HasClean v working records u → length records ≤ 64 → AllByRecursion (IsStanding u) records → AreOnce records → IsWorking u
@@ -100,13 +106,13 @@ module _ (v : View) (working : IsWorking v) where
       }
 
   -- A SNAPSHOT IS LAWFUL, AND LEAVES ITS RECORDS
-  pub recorded_lawful : (spans : List Span) → ArePast 0 spans → CanSnapshot v spans → Ready v (records_all spans v) × IsSnapshot v spans (after_all v (records_all spans v))
+  pub recorded_lawful : (spans : List Span) → ArePast 0 spans → CanSnapshot v spans → HasSlots v spans → Ready v (records_all spans v) × IsSnapshot v spans (after_all v (records_all spans v))
   unfolding records_all
-  recorded_lawful spans past can =
+  recorded_lawful spans past can room =
       let all : List Recorded = v.log.records ++ map (recorded_in v) spans in
-      let t = goes_then (HasClean v working v.log.records) (HasClean v working v.log.records) (HasClean v working all) (looks_at spans) (logs sh v.fixed.lane v.log.generation (length v.log.records) (map (kept_in v) spans))
-      (looks_all v working spans can.each) (logs_all spans can.each past can.room) v (starts v working) in
-      let w : View = after_all v (in_turn (looks_at spans) (logs sh v.fixed.lane v.log.generation (length v.log.records) (map (kept_in v) spans)) v) in
+      let t = goes_then (HasClean v working v.log.records) (HasClean v working v.log.records) (HasClean v working all) (looks_at spans) (logs_here sh v.log.generation (length v.log.records) (map (kept_in v) spans))
+      (looks_all v working spans can.each) (logs_here_all spans can.each past room) v (starts v working) in
+      let w : View = after_all v (in_turn (looks_at spans) (logs_here sh v.log.generation (length v.log.records) (map (kept_in v) spans)) v) in
       let p : HasClean v working all w = t.1 in
       let f = fixed_so v working.unmaking working.is_open all [] w p.0 in
       let cl = class_so v working.unmaking working.is_open all [] w p.0 in
@@ -115,11 +121,11 @@ module _ (v : View) (working : IsWorking v) where
         noted = record { notes = p.0.notes; are = p.0.are; each = p.0.each };
         changes = p.1;
         known = p.0.known_;
-        working = still_working w all p (let a = length-append v.log.records (map (recorded_in v) spans) in let b = length-map spans (recorded_in v) in let c = can.room in omega (arith, a, b, c))
+        working = still_working w all p (let a = length-append v.log.records (map (recorded_in v) spans) in let b = length-map spans (recorded_in v) in omega (arith, a, b, room))
             (both_all (IsStanding w) v.log.records (map (recorded_in v) spans) (all_still v w v.log.records f cl working.standing) (all_new v w spans f cl can.each))
             (once_both v.log.records (map (recorded_in v) spans) working.once (past_once sh 0 (map (recorded_in v) spans) (all_past v 0 spans can.each past) (all_plain v spans can.each)) (apart_from v.log.records (map (recorded_in v) spans) (new_words_ v spans can.each)));
       })
 
-pub snapshot_lawful : (v : View) (place len : ℕ) → CanSnapshot v (plan_of (spans_of v) place len) → Ready v (snapshots place len v) × IsSnapshot v (plan_of (spans_of v) place len) (after_all v (snapshots place len v))
+pub snapshot_lawful : (v : View) (place len : ℕ) → CanSnapshot v (plan_of (spans_of v) place len) → HasSlots v (plan_of (spans_of v) place len) → Ready v (snapshots place len v) × IsSnapshot v (plan_of (spans_of v) place len) (after_all v (snapshots place len v))
 unfolding snapshots
-snapshot_lawful v place len can = recorded_lawful v can.working (plan_of (spans_of v) place len) (plan_past (spans_of v) place len) can
+snapshot_lawful v place len can room = recorded_lawful v can.working (plan_of (spans_of v) place len) (plan_past (spans_of v) place len) can room

@@ -2,3 +2,4 @@ pub mod Spans
 pub mod Records
 pub mod Plans
 pub mod Working
+pub mod Undoing

@@ -35,7 +35,7 @@ abbrev pub kept_in : View → Span → KeptRecord
 kept_in v s = record { word = s.word; count = s.count; old = padded (words_of_span v s) }
 
 abbrev pub no_record : KeptRecord
-no_record = record { word = 0; count = 0; old = 0 ∷ 0 ∷ 0 ∷ 0 ∷ [] }
+no_record = record { word = 0; count = 0; old = [] }
 
 abbrev pub record_at : List KeptRecord → ℕ → KeptRecord
 record_at records i = slice_index_or records i no_record

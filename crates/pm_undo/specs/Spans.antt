@@ -1,5 +1,5 @@
 -- Which words a range still needs records for: docs/FORMAT.md, "Undo slots".
-use Rattle.std.specs.Prelude.{◌≡◌, ℕ, ◌^◌, ◌<◌, ◌≤◌, List, map, slice_index_or}
+use Rattle.std.specs.Prelude.{◌≡◌, ℕ, ◌+◌, ◌^◌, ◌<◌, ◌≤◌, List, [], ◌∷◌, map, slice_index_or}
 use Rattle.std.specs.List.{flat_map, range_with_len}
 use Rattle.pm_model.specs.Transaction.{covered_words, new_words, records_of}
 use Rattle.pm_world.specs.declared.lane.Span.{Span}
@@ -34,3 +34,8 @@ no_span = record { word = 0; count = 0 }
 
 abbrev pub span_at : List Span → ℕ → Span
 span_at spans i = slice_index_or spans i no_span
+
+-- each record begins past the end of the one before, and none before this word
+abbrev pub ArePast : ℕ → List Span → Type 0
+ArePast b [] = Unit {0}
+ArePast b (s ∷ spans) = (b ≤ s.word) × ArePast (s.word + s.count) spans

@@ -91,11 +91,13 @@ pub record HasNoted (v w : View) : Type 0 where
 
 -- ---- a snapshot
 
--- the lane may record each of these spans, and has slots for them
+-- the lane is at work, and may record each of these spans; and has slots for so many
 pub record CanSnapshot (v : View) (spans : List Span) : Type 0 where
   pub working : IsWorking v
   pub each : AllByRecursion (λ (s : Span). CanRecord v (recorded_in v s)) spans
-  pub room : length v.log.records + length spans ≤ undo_slots v.fixed.shape
+
+abbrev pub HasSlots : View → List Span → Type 0
+HasSlots v spans = length v.log.records + length spans ≤ undo_slots v.fixed.shape
 
 -- THEIR RECORDS STAND after those that there were, drained as they are, with the words as they were known; these are known so still
 pub record IsSnapshot (v : View) (spans : List Span) (w : View) : Type 0 where

@@ -21,7 +21,7 @@ use Rattle.pm_world.specs.Sights.{is_recorded}
 use Rattle.pm_plan.specs.Plans.{IsPersisted, in_turn, one, repeated, stores}
 use Rattle.pm_plan.proofs.Dropping.{flush_drops}
 use Rattle.pm_plan.proofs.Going.{Goes, goes_one, goes_repeated, goes_stores, goes_then, goes_weaker}
-use Rattle.pm_undo.specs.Plans.{stores_from, writes_record}
+use Rattle.pm_undo.specs.Plans.{stores_from, writes_record, writes_slot}
 use Rattle.pm_undo.specs.Records.{kept_of}
 use Rattle.pm_undo.specs.Working.{IsBeyond, Valued}
 use Rattle.pm_undo.proofs.AreaParts.{part_slot}
@@ -152,7 +152,7 @@ module _ (v : View) (unmaking : (c : ℕ) → making v.fixed.shape v.claims c �
     pub drops : DropsSome u.changes
 
   pub record_written : Goes (λ u. Logging v records [] u × AllByRecursion (IsAside sh) u.changes) (writes_record sh v.fixed.lane v.log.generation (length records) (kept_of sh r)) Written
-  unfolding writes_record stores_from repeated
+  unfolding writes_slot stores_from repeated
   record_written = goes_then (λ u. Logging v records [] u × AllByRecursion (IsAside sh) u.changes) Whole Written (repeated step (length words)) (one (Flush line)) all_stored
       (goes_one Whole Written (Flush line) (λ u p. (p.last, tt, record { at = record { notes = p.at.notes; are = p.at.are; each = p.at.each; same = ap (λ (y : View). record y { changes = flushed line u.changes; calls = u.calls + 1 }) p.at.same; known_ = p.at.known_; ends = p.at.ends }; aside = flushed_aside sh line u.changes p.aside; drops = flush_drops line u.changes p.last })))
     where
