@@ -1,5 +1,5 @@
 -- From each view all that is undrained may be made persistent, and nothing is undrained then; and what plans lead to.
-use Rattle.std.proofs.Common.{◌≡◌, ℕ, zero, suc, ◌+◌, ◌/◌, ◌<◌, ◌≤◌, Bool, true, false, not, cond, eqb, ◌&&◌, ◌⊎◌, inl, inr, ⊎_elim, List, [], ◌∷◌, map, length, slice_index, refl, sym, ap, ◌∙◌, subst, IsTrue, Some, arith, rules, eq-eqb}
+use Rattle.std.proofs.Common.{◌≡◌, ℕ, zero, suc, ◌+◌, ◌/◌, ◌<◌, ◌≤◌, Bool, true, false, not, cond, eqb, ◌&&◌, inl, inr, ⊎_elim, List, [], ◌∷◌, map, length, slice_index, refl, sym, ap, ◌∙◌, subst, Some, arith, rules, eq-eqb}
 use Rattle.std.specs.List.{filter, range_with_len}
 use Rattle.std.proofs.lemmas.Bool.{cond-true, cond-false, or_parts, lt-ltb, le-ltb, cases_lt, eqb-true, eqb-false}
 use Rattle.pm_layout.specs.Chunks.{words_of}
@@ -104,10 +104,12 @@ drain_after v w marked = at (eqb (length w.changes) 0) refl where
 
   at : (b : Bool) → eqb (length w.changes) 0 ≡ b → Ready w (cond b [] (Drain ∷ [])) × IsPersisted v (after_all w (cond b [] (Drain ∷ [])))
   at true b =
-      let zero_ : length w.changes ≡ 0 = eqb-true (length w.changes) 0 b in
-      (tt, marked.same ∙ ap (λ changes. record v { changes = changes; calls = w.calls }) (length_zero w.changes zero_)
-      ∙ ap (λ log. record v { changes = []; calls = w.calls; log = log }) (sym (log_kept v.changes v.log (sym many ∙ zero_)))
-      ∙ ap (λ claims. record v { claims = claims; changes = []; calls = w.calls; log = log_persisted v.changes v.log }) (sym (claims_kept v.changes v.log v.claims (sym many ∙ zero_))))
+      let zero_ : length w.changes ≡ 0 = eqb-true (length w.changes) 0 b in (
+        tt,
+        marked.same ∙ ap (λ changes. record v { changes = changes; calls = w.calls }) (length_zero w.changes zero_)
+            ∙ ap (λ log. record v { changes = []; calls = w.calls; log = log }) (sym (log_kept v.changes v.log (sym many ∙ zero_)))
+            ∙ ap (λ claims. record v { claims = claims; changes = []; calls = w.calls; log = log_persisted v.changes v.log }) (sym (claims_kept v.changes v.log v.claims (sym many ∙ zero_))),
+      )
   at false b =
       let some : 0 < length w.changes = (let no = eqb-false (length w.changes) 0 b in omega (arith, no)) in (
         (emptied_drops w.changes marked.none some, tt, tt),

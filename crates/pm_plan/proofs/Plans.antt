@@ -1,5 +1,5 @@
 -- How plans are put together.
-use Rattle.std.proofs.Common.{◌≡◌, ◌+◌, ◌-◌, ℕ, zero, suc, ◌<◌, ◌≤◌, ◌⊎◌, ⊎_elim, List, [], ◌∷◌, ◌++◌, take, length-append, Result, Ok, Err, refl, sym, ap, ◌∙◌, subst, T, IsErr, arith, rules}
+use Rattle.std.proofs.Common.{◌≡◌, ◌+◌, ◌-◌, ℕ, zero, suc, ◌<◌, ◌≤◌, ⊎_elim, List, [], ◌∷◌, ◌++◌, take, length-append, Result, Ok, Err, refl, sym, ap, ◌∙◌, subst, T, IsErr, arith, rules}
 use Rattle.std.proofs.Math.Nat.{eq-or-lt_of_le}
 use Rattle.std.proofs.lemmas.List.{take-append-le}
 use Rattle.std.specs.Prelude.{Some, unwrap_or}
@@ -13,7 +13,7 @@ use Rattle.pm_view.specs.Steps.Step.{Load}
 use Rattle.pm_view.specs.View.{View}
 use Rattle.pm_view.specs.Views.{after, after_all}
 use Rattle.pm_world.specs.Lawful.{Allowed}
-use Rattle.pm_plan.specs.Plans.{Plan, nothing, one, in_turn, repeated, by_view, looks, known_word, IsForeseen, Ready, IsReady, Runs}
+use Rattle.pm_plan.specs.Plans.{Plan, nothing, one, in_turn, repeated, by_view, looks, known_word, Ready, IsReady, Runs}
 
 -- ---- steps one after the other
 pub after_all-append : (v : View) (first second : List Step) → after_all v (first ++ second) ≡ after_all (after_all v first) second

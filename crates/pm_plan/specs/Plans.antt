@@ -1,5 +1,5 @@
 -- PLANS: the exact memory calls of an operation, as a function of the lane's view before them (docs/FORMAT.md, "Sequences").
-use Rattle.std.specs.Prelude.{◌≡◌, ◌⊎◌, ◌≤◌, ℕ, zero, suc, ◌==◌, nat_lt, if◌then◌else◌, List, [], ◌∷◌, ◌++◌, length, map, Option, Some, unwrap_or, Result, Ok, Err}
+use Rattle.std.specs.Prelude.{◌≡◌, ◌⊎◌, ◌≤◌, ℕ, zero, suc, ◌==◌, nat_lt, if◌then◌else◌, List, [], ◌∷◌, ◌++◌, length, map, Some, unwrap_or, Result, Ok, Err}
 use Rattle.pm_memory.specs.Runs.{Ran}
 use Rattle.pm_memory.specs.declared.lane_mem.Stopped.{Stopped}
 use Rattle.pm_view.specs.Changes.{Undrained}

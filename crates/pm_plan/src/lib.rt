@@ -7,8 +7,10 @@
 //! `pm_world` for lawful steps; docs/FORMAT.md, "Sequences".
 #![tactic(auto)]
 
+mod laws;
 mod steps;
 mod stores;
 
+pub use laws::{all_may_be_persisted, room_may_be_made};
 pub use steps::{drain, flush, look, persist};
 pub use stores::{persist_all, store};

@@ -1,5 +1,5 @@
 -- Records of spans that lie one after another have no common word.
-use Rattle.std.proofs.Common.{◌≡◌, ℕ, zero, suc, ◌+◌, ◌<◌, ◌≤◌, ◌⊎◌, ⊎_elim, Bool, true, false, List, [], ◌∷◌, ◌++◌, length, map, take, get_or, refl, sym, ap, ◌∙◌, subst, arith, Option, None, Some}
+use Rattle.std.proofs.Common.{◌≡◌, ℕ, zero, suc, ◌+◌, ◌<◌, ◌≤◌, true, false, List, [], ◌∷◌, ◌++◌, length, map, take, get_or, refl, ap, subst, arith, Option, None, Some}
 use Rattle.std.specs.List.{AllByRecursion}
 use Rattle.std.proofs.lemmas.Bool.{both_ways, false_from_ne_true}
 use Rattle.pm_layout.specs.declared.shape.Shape.{Shape}
@@ -54,8 +54,10 @@ apart_from xs (y ∷ ys) all p e = neither (old_in y p) (old_of ys p)
 
 pub once_both : (xs ys : List Recorded) → AreOnce xs → AreOnce ys → ((p : Place) → is_recorded xs p ≡ true → is_recorded ys p ≡ false) → AreOnce (xs ++ ys)
 once_both [] ys a b apart = b
-once_both (x ∷ xs) ys a b apart = (λ p e. not_in_both xs ys p (a.0 p e) (apart p (Rattle.pm_world.proofs.Basics.first_given (old_in x p) (old_of xs p) e)),
-    once_both xs ys a.1 b (λ p e. apart p (Rattle.pm_world.proofs.Basics.second_given (old_in x p) (old_of xs p) e)))
+once_both (x ∷ xs) ys a b apart = (
+  λ p e. not_in_both xs ys p (a.0 p e) (apart p (Rattle.pm_world.proofs.Basics.first_given (old_in x p) (old_of xs p) e)),
+  once_both xs ys a.1 b (λ p e. apart p (Rattle.pm_world.proofs.Basics.second_given (old_in x p) (old_of xs p) e)),
+)
 
 module _ (sh : Shape) where
   -- no word before b is in records of spans past it
@@ -68,9 +70,10 @@ module _ (sh : Shape) where
   pub past_once : (b : ℕ) (records : List Recorded) → ArePast b (map (span_of sh) records) → AllByRecursion IsPlain records → AreOnce records
   past_once b [] past plain = tt
   past_once b (r ∷ records) past plain = (
-      (λ p t. let a = at_of r p t in let w = word_after sh r.place a.i (plain.0 a.i a.low) in let s : word_of sh (place_after r.place a.i) ≡ word_of sh p = ap (word_of sh) a.is in let l = a.low in
-      past_none (word_of sh r.place + length r.old) records past.1 plain.1 p (omega (arith, w, s, l))),
-      past_once (word_of sh r.place + length r.old) records past.1 plain.1)
+    (λ p t. let a = at_of r p t in let w = word_after sh r.place a.i (plain.0 a.i a.low) in let s : word_of sh (place_after r.place a.i) ≡ word_of sh p = ap (word_of sh) a.is in let l = a.low in
+        past_none (word_of sh r.place + length r.old) records past.1 plain.1 p (omega (arith, w, s, l))),
+    past_once (word_of sh r.place + length r.old) records past.1 plain.1,
+  )
 
 abbrev pub no_recorded : Recorded
 no_recorded = record { place = RootWord; old = [] }

@@ -1,11 +1,10 @@
 -- What the words are to a lane that undo logging steps on: its slots, its generation, and data of chunks.
-use Rattle.std.proofs.Common.{◌≡◌, ◌≢◌, ℕ, zero, suc, ◌+◌, ◌*◌, ◌/◌, ◌%◌, ◌<◌, ◌≤◌, nat_le, nat_lt, Bool, true, false, cond, ◌==◌, ◌&&◌, refl, sym, ap, ◌∙◌, subst, arith, eq-eqb, ne_eqb, Option, None, Some}
-use Rattle.std.proofs.lemmas.Bool.{and_from, and_left, and_right, both_ways, cond-true, cond-false, false_from_ne_true, le-leb, lt-ltb, leb-true, ltb-true}
+use Rattle.std.proofs.Common.{◌≡◌, ℕ, zero, suc, ◌+◌, ◌*◌, ◌<◌, ◌≤◌, nat_le, nat_lt, true, false, cond, ◌==◌, refl, sym, ap, ◌∙◌, subst, arith, eq-eqb, ne_eqb, Some}
+use Rattle.std.proofs.lemmas.Bool.{and_from, and_right, both_ways, cond-true, cond-false, false_from_ne_true, le-leb, lt-ltb, leb-true, ltb-true}
 use Rattle.std.proofs.lemmas.Option.{none-some, same_Some}
 use Rattle.pm_layout.specs.declared.shape.Shape.{Shape}
 use Rattle.pm_layout.specs.Areas.{redo_entries, undo_slots, word_of_generation, word_of_seal, word_of_entry, line_of_slot}
-use Rattle.pm_layout.specs.Chunks.{page_of_zone, word_of_chunk}
-use Rattle.pm_view.specs.Places.{Place, InRun, InHuge, Descr, RootWord, is_data, is_place, word_of}
+use Rattle.pm_view.specs.Places.{Place, InRun, InHuge, Descr, RootWord, is_data, word_of}
 use Rattle.pm_view.specs.Parts.{Part, GenerationPart, SealPart, EntryPart, SlotPart, RootPart, DescriptorPart, ChunkPart, OtherPart, is_entry_word, is_slot_word, part_of, place_in, chunk_place, pool_part}
 use Rattle.pm_world.proofs.PlacesAt.{is_at}
 use Rattle.pm_undo.specs.Working.{IsBeyond}

@@ -2,16 +2,13 @@
 use Rattle.std.proofs.Common.{◌≡◌, ℕ, ◌+◌, ◌^◌, ◌<◌, ◌≤◌, List, [], ◌∷◌, length, map, refl, sym, ap, ◌∙◌, subst, arith, rules, Result, Ok, Err, IsErr}
 use Rattle.std.specs.List.{All, AllByRecursion}
 use Rattle.std.proofs.lemmas.List.Elements.{All-from_recursion}
-use Rattle.pm_layout.specs.declared.shape.Shape.{Shape}
 use Rattle.pm_layout.specs.Areas.{word_of_generation}
 use Rattle.pm_memory.specs.declared.lane_mem.Stopped.{Stopped}
 use Rattle.pm_view.specs.Log.{Recorded}
 use Rattle.pm_view.specs.Places.{place_after, word_of}
-use Rattle.pm_view.specs.View.{View, Constants}
+use Rattle.pm_view.specs.View.{View}
 use Rattle.pm_view.specs.Views.{after_all}
 use Rattle.pm_world.specs.declared.lane.Lane.{Lane}
-use Rattle.pm_world.specs.declared.lane.Span.{Span}
-use Rattle.pm_world.specs.LaneFields.{span_of}
 use Rattle.pm_plan.specs.Plans.{IsReady, Ready, Runs, in_turn, persists_all}
 use Rattle.pm_undo.specs.Plans.{ends_word, puts_back, restores, retires}
 use Rattle.pm_undo.specs.Records.{kept_log, kept_of, log_of, spans_of}
@@ -54,13 +51,15 @@ module _ {M : Type 0} (at : M → View → Type 0) (lane : Lane M) (log : UndoLo
       retired_ok spans kept runs lane_is none ended v k can =
           let t = retire_lawful v can in
           let same = ap (λ w. ends_word w log.generation v) is ∙ ends_so v k in
-          let there : at new (after_all v (retires v)) = subst (λ steps. at new (after_all v steps)) same (runs v k.memory (subst (Ready v) (sym same) t.0)) in
-          (record {
-            memory = subst (λ m. at m (after_all v (retires v))) (sym (ap (λ (l : Lane M). l.memory) lane_is)) there;
-            shape = ap (λ (l : Lane M). l.shape) lane_is ∙ (k.shape ∙ ap (λ (y : View). y.fixed.shape) (sym t.1.same));
-            spans = none ∙ ap (λ (y : View). spans_of y) (sym t.1.same);
-            kept = ended ∙ (ap (λ (g : ℕ). (g + 1, [])) (generation_so v k) ∙ ap log_of (sym t.1.same));
-          }, lane_is ∙ ap (λ m. record lane { memory = m; records = spans.records }) (sym (ap (λ (l : Lane M). l.memory) lane_is)))
+          let there : at new (after_all v (retires v)) = subst (λ steps. at new (after_all v steps)) same (runs v k.memory (subst (Ready v) (sym same) t.0)) in (
+            record {
+              memory = subst (λ m. at m (after_all v (retires v))) (sym (ap (λ (l : Lane M). l.memory) lane_is)) there;
+              shape = ap (λ (l : Lane M). l.shape) lane_is ∙ (k.shape ∙ ap (λ (y : View). y.fixed.shape) (sym t.1.same));
+              spans = none ∙ ap (λ (y : View). spans_of y) (sym t.1.same);
+              kept = ended ∙ (ap (λ (g : ℕ). (g + 1, [])) (generation_so v k) ∙ ap log_of (sym t.1.same));
+            },
+            lane_is ∙ ap (λ m. record lane { memory = m; records = spans.records }) (sym (ap (λ (l : Lane M). l.memory) lane_is)),
+          )
 
   -- ---- putting back
   fit_all : (v : View) (rs : List Recorded) → v.fixed.shape.lanes ≤ 32 → v.fixed.shape.zones ≤ 32 → AllByRecursion (IsStanding v) rs → AllByRecursion IsKept (map (kept_of v.fixed.shape) rs)

@@ -7,9 +7,7 @@ use Rattle.std.proofs.lemmas.List.Elements.{All-filter, All-map, All-from_recurs
 use Rattle.pm_model.specs.Transaction.{covered_words, records_from, records_of, new_words}
 use Rattle.pm_model.specs.Items.{is_among}
 use Rattle.pm_world.specs.declared.lane.Span.{Span}
-
 use Rattle.pm_undo.specs.Spans.{span_in, spans_for, plan_of, words_in, IsSpan}
-
 
 abbrev IsLow : ℕ → Type 0
 IsLow w = w < 2 ^ 60

@@ -1,11 +1,9 @@
 -- What is read of spans is what the lane knows of them.
-use Rattle.std.proofs.Common.{◌≡◌, ℕ, zero, suc, ◌+◌, ◌-◌, ◌<◌, ◌≤◌, List, [], ◌∷◌, ◌++◌, length, map, take, get_or, replicate, refl, sym, ap, ◌∙◌, subst, arith, Option}
+use Rattle.std.proofs.Common.{◌≡◌, ℕ, zero, suc, ◌+◌, ◌<◌, ◌≤◌, List, [], ◌∷◌, ◌++◌, length, map, take, refl, sym, ap, ◌∙◌, subst, arith, Option}
 use Rattle.std.specs.Prelude.{unwrap_or}
 use Rattle.std.specs.List.{AllByRecursion, range_with_len}
-use Rattle.std.proofs.lemmas.List.{length-map, map-append, take_all, take_more}
-use Rattle.std.proofs.lemmas.List.FromFn.{length-map-range_with_len, map-range_with_len_more}
-use Rattle.pm_layout.specs.declared.shape.Shape.{Shape}
-use Rattle.pm_view.specs.Founds.{knows}
+use Rattle.std.proofs.lemmas.List.{map-append, take_all, take_more}
+use Rattle.std.proofs.lemmas.List.FromFn.{map-range_with_len_more}
 use Rattle.pm_view.specs.View.{View}
 use Rattle.pm_view.specs.Views.{after_all}
 use Rattle.pm_world.specs.Lawful.{CanRecord}
@@ -14,7 +12,7 @@ use Rattle.pm_world.specs.declared.lane.Span.{Span}
 use Rattle.pm_world.proofs.PlacesAt.{is_at}
 use Rattle.pm_plan.specs.Plans.{known_word}
 use Rattle.pm_undo.specs.Plans.{looked_first, looked_span, looked_words, looks_first, looks_from}
-use Rattle.pm_undo.specs.Records.{kept_in, padded, recorded_in, words_of_span}
+use Rattle.pm_undo.specs.Records.{kept_in, padded, recorded_in}
 use Rattle.pm_undo.specs.Spans.{no_span, span_at}
 use Rattle.pm_undo.specs.Working.{IsBeyond, IsWorking}
 use Rattle.pm_undo.specs.declared.undo_log.KeptRecord.{KeptRecord}

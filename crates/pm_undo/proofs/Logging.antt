@@ -1,8 +1,5 @@
 -- One step of a lane that logs: where its view has come since the log began to grow.
-use Rattle.std.proofs.Common.{◌≡◌, ◌≢◌, ℕ, zero, suc, ◌+◌, ◌*◌, ◌/◌, ◌^◌, ◌<◌, ◌≤◌, ◌⊎◌, inl, inr, ⊎_elim, Bool, true, false, cond, ◌==◌, List, [], ◌∷◌, ◌++◌, length, take, refl, sym, ap, ◌∙◌, subst, arith, eq-eqb, ne_eqb, Option, None, Some}
-use Rattle.std.specs.Prelude.{slice_index}
-use Rattle.std.proofs.lemmas.Bool.{cond-true, cond-false}
-use Rattle.pm_layout.specs.declared.shape.Shape.{Shape}
+use Rattle.std.proofs.Common.{◌≡◌, ◌≢◌, ℕ, ◌+◌, ◌*◌, ◌^◌, ◌<◌, ◌⊎◌, inl, inr, ⊎_elim, false, List, [], ◌∷◌, ◌++◌, length, take, refl, sym, ap, ◌∙◌, subst, None}
 use Rattle.pm_layout.specs.Areas.{line_of_slot, word_of_generation}
 use Rattle.pm_layout.specs.Chunks.{words_of}
 use Rattle.pm_view.specs.Bits.{all_bits}
@@ -11,17 +8,16 @@ use Rattle.pm_view.specs.Claims.{Claim, Knows, class, first, here, known, making
 use Rattle.pm_view.specs.Counts.{HasRoom}
 use Rattle.pm_view.specs.Founds.{knows}
 use Rattle.pm_view.specs.Log.{Log, Phase, Open, Recorded, log_stored, with_slot}
-use Rattle.pm_view.specs.Parts.{Part, SlotPart, ChunkPart}
-use Rattle.pm_view.specs.Places.{Block, Place, place_after}
-use Rattle.pm_view.specs.Steps.Step.{Load, Store}
+use Rattle.pm_view.specs.Parts.{SlotPart}
+use Rattle.pm_view.specs.Places.{place_after}
+use Rattle.pm_view.specs.Steps.Step.{Store}
 use Rattle.pm_view.specs.View.{View, runs_one}
 use Rattle.pm_view.specs.Views.{after, part_in, learned, marked_by, value_in, was_of, changed_from}
-use Rattle.pm_world.specs.Lawful.{CanRecord, AppendsToSlot, MayStore, StoreFits}
+use Rattle.pm_world.specs.Lawful.{CanRecord, MayStore, StoreFits}
 use Rattle.pm_world.specs.Logs.{spelled}
 use Rattle.pm_world.specs.Sights.{is_recorded}
 use Rattle.pm_plan.specs.Plans.{IsPersisted, claims_persisted, log_persisted}
-use Rattle.pm_undo.specs.Working.{Note, Valued, DrainedTo, Looked, noted, AreNotes, IsBeyond}
-use Rattle.pm_undo.proofs.AreaParts.{OfChunk, part_slot}
+use Rattle.pm_undo.specs.Working.{Note, Valued, DrainedTo, noted, AreNotes, IsBeyond}
 use Rattle.pm_undo.proofs.Moved.{moved_record}
 use Rattle.pm_undo.proofs.Notes.{class_same, first_same, here_same, making_same, known_noted, known_again, pictured_noted}
 
@@ -68,18 +64,28 @@ module _ (v : View) (unmaking : (c : ℕ) → making v.fixed.shape v.claims c �
   persisted_log (c ∷ changes) log open_ = ap (λ ph. Rattle.pm_view.specs.Log.log_drained ph log) open_
 
   pub still_logging : (w : View) → IsPersisted u w → Logging v records slot w × (w.changes ≡ [])
-  still_logging w is = (⊎_elim
-      (λ (e : claims_persisted u.changes u.log u.claims ≡ u.claims). record {
-        notes = at.notes; are = claims_so ∙ (e ∙ at.are); each = at.each; same = all_same;
-        known_ = λ x far. knows_so x ∙ (ap (λ t. known u.fixed.shape (runs_one u) t x) e ∙ at.known_ x far);
-        ends = ap (λ t. pictured v.fixed.shape t (word_of_generation v.fixed.shape v.fixed.lane)) (claims_so ∙ e) ∙ at.ends })
-      (λ (e : claims_persisted u.changes u.log u.claims ≡ Rattle.pm_view.specs.Claims.Drained [] ∷ u.claims). record {
-        notes = DrainedTo [] ∷ at.notes; are = claims_so ∙ (e ∙ ap (λ t. Rattle.pm_view.specs.Claims.Drained [] ∷ t) at.are);
-        each = (subst (λ t. (c : ℕ) → making v.fixed.shape t c ≡ false) at.are no_making, at.each); same = all_same;
-        known_ = λ x far. knows_so x ∙ (ap (λ t. known u.fixed.shape (runs_one u) t x) e
-            ∙ (known_noted u.fixed.shape u.claims (runs_one u) (DrainedTo []) (subst (λ f. (c : ℕ) → making f u.claims c ≡ false) (ap (λ (y : Rattle.pm_view.specs.View.Constants). y.shape) (sym fixed_so)) no_making) x tt ∙ at.known_ x far));
-        ends = ap (λ t. pictured v.fixed.shape t (word_of_generation v.fixed.shape v.fixed.lane)) (claims_so ∙ e) ∙ at.ends })
-      (persisted_claims u.changes u.log u.claims phase_so), ap (λ (y : View). y.changes) is)
+  still_logging w is = (
+    ⊎_elim
+        (λ (e : claims_persisted u.changes u.log u.claims ≡ u.claims). record {
+          notes = at.notes;
+          are = claims_so ∙ (e ∙ at.are);
+          each = at.each;
+          same = all_same;
+          known_ = λ x far. knows_so x ∙ (ap (λ t. known u.fixed.shape (runs_one u) t x) e ∙ at.known_ x far);
+          ends = ap (λ t. pictured v.fixed.shape t (word_of_generation v.fixed.shape v.fixed.lane)) (claims_so ∙ e) ∙ at.ends;
+        })
+        (λ (e : claims_persisted u.changes u.log u.claims ≡ Rattle.pm_view.specs.Claims.Drained [] ∷ u.claims). record {
+          notes = DrainedTo [] ∷ at.notes;
+          are = claims_so ∙ (e ∙ ap (λ t. Rattle.pm_view.specs.Claims.Drained [] ∷ t) at.are);
+          each = (subst (λ t. (c : ℕ) → making v.fixed.shape t c ≡ false) at.are no_making, at.each);
+          same = all_same;
+          known_ = λ x far. knows_so x ∙ (ap (λ t. known u.fixed.shape (runs_one u) t x) e
+              ∙ (known_noted u.fixed.shape u.claims (runs_one u) (DrainedTo []) (subst (λ f. (c : ℕ) → making f u.claims c ≡ false) (ap (λ (y : Rattle.pm_view.specs.View.Constants). y.shape) (sym fixed_so)) no_making) x tt ∙ at.known_ x far));
+          ends = ap (λ t. pictured v.fixed.shape t (word_of_generation v.fixed.shape v.fixed.lane)) (claims_so ∙ e) ∙ at.ends;
+        })
+        (persisted_claims u.changes u.log u.claims phase_so),
+    ap (λ (y : View). y.changes) is,
+  )
     where
       claims_so : w.claims ≡ claims_persisted u.changes u.log u.claims
       claims_so = ap (λ (y : View). y.claims) is
@@ -106,14 +112,14 @@ module _ (v : View) (unmaking : (c : ℕ) → making v.fixed.shape v.claims c �
         → w ≢ word_of_generation v.fixed.shape v.fixed.lane
         → with_slot v.fixed.shape (class v.claims) (slot ++ x ∷ []) (record v.log { records = records; slot = slot }) ≡ record v.log { records = records'; slot = slot' } → Logging v records' slot' (after u (Store w x))
     slot_logging records' slot' other apart grows = subst (Logging v records' slot') (sym slot_stored) (record {
-        notes = Valued w x ∷ at.notes;
-        are = ap (λ t. Knows w x ∷ t) at.are;
-        each = (tt, at.each);
-        same = ap (λ l. record u { claims = Knows w x ∷ u.claims; changes = changed_slot ∷ u.changes; calls = u.calls + 1; log = l }) log_grows
-            ∙ ap (λ (y : View). record y { claims = Knows w x ∷ u.claims; changes = changed_slot ∷ u.changes; calls = u.calls + 1; log = record v.log { records = records'; slot = slot' } }) at.same;
-        known_ = λ y far. known_noted u.fixed.shape u.claims (runs_one u) (Valued w x) tt y (other y far) ∙ at.known_ y far;
-        ends = pictured_noted v.fixed.shape u.claims (Valued w x) tt (word_of_generation v.fixed.shape v.fixed.lane) apart ∙ at.ends;
-      })
+      notes = Valued w x ∷ at.notes;
+      are = ap (λ t. Knows w x ∷ t) at.are;
+      each = (tt, at.each);
+      same = ap (λ l. record u { claims = Knows w x ∷ u.claims; changes = changed_slot ∷ u.changes; calls = u.calls + 1; log = l }) log_grows
+          ∙ ap (λ (y : View). record y { claims = Knows w x ∷ u.claims; changes = changed_slot ∷ u.changes; calls = u.calls + 1; log = record v.log { records = records'; slot = slot' } }) at.same;
+      known_ = λ y far. known_noted u.fixed.shape u.claims (runs_one u) (Valued w x) tt y (other y far) ∙ at.known_ y far;
+      ends = pictured_noted v.fixed.shape u.claims (Valued w x) tt (word_of_generation v.fixed.shape v.fixed.lane) apart ∙ at.ends;
+    })
       where
         log_grows : with_slot u.fixed.shape (class u.claims) (u.log.slot ++ x ∷ []) u.log ≡ record v.log { records = records'; slot = slot' }
         log_grows = ap (λ (l : Log). with_slot u.fixed.shape (class u.claims) (l.slot ++ x ∷ []) l) log_so

@@ -1,17 +1,13 @@
 -- What loads of known words find.
-use Rattle.std.proofs.Common.{◌≡◌, ℕ, zero, suc, ◌+◌, ◌-◌, ◌<◌, ◌≤◌, List, [], ◌∷◌, ◌++◌, length, map, replicate, set, get_or, refl, sym, ap, ◌∙◌, subst, arith, length-append, Ok}
-use Rattle.std.specs.List.{AllByRecursion, range_with_len}
+use Rattle.std.proofs.Common.{◌≡◌, ℕ, zero, suc, ◌+◌, ◌-◌, ◌<◌, List, [], ◌∷◌, ◌++◌, length, replicate, set, refl, sym, ap, ◌∙◌, arith, length-append}
 use Rattle.std.proofs.lemmas.List.{append_assoc, set-append_right}
-use Rattle.std.proofs.lemmas.List.FromFn.{map-range_with_len_more}
 use Rattle.pm_view.specs.View.{View}
 use Rattle.pm_view.specs.Views.{after_all}
-use Rattle.pm_world.specs.Lawful.{CanRecord}
 use Rattle.pm_world.specs.declared.lane.Span.{Span}
 use Rattle.pm_plan.specs.Plans.{IsMade, Ready, Runs, known_word, looks, repeated}
 use Rattle.pm_plan.proofs.Plans.{repeated_ready}
 use Rattle.pm_undo.specs.Plans.{looked_first, looked_span, looked_words, looks_at, looks_first, looks_from}
-use Rattle.pm_undo.specs.Records.{kept_in, recorded_in}
-use Rattle.pm_undo.specs.Spans.{no_span, span_at}
+use Rattle.pm_undo.specs.Spans.{span_at}
 
 pub many_looked : (word n : ℕ) (v : View) → length (looked_words word n v) ≡ n
 unfolding looked_words

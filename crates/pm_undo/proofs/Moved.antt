@@ -1,5 +1,5 @@
 -- What a lane may record it may record as well once it noted something, and has other changes and another log.
-use Rattle.std.proofs.Common.{◌≡◌, ℕ, ◌+◌, ◌-◌, ◌*◌, ◌/◌, ◌<◌, ◌≤◌, Bool, true, false, ◌==◌, List, length, refl, sym, ap, ◌∙◌, subst, arith, Option, None, Some, IsTrue}
+use Rattle.std.proofs.Common.{◌≡◌, ℕ, ◌+◌, ◌-◌, ◌*◌, ◌/◌, ◌<◌, ◌≤◌, false, List, length, refl, sym, ap, ◌∙◌, subst, arith, Some, IsTrue}
 use Rattle.std.proofs.lemmas.Bool.{both_ways}
 use Rattle.pm_layout.specs.declared.shape.Shape.{Shape}
 use Rattle.pm_layout.specs.Chunks.{word_of_chunk}
@@ -11,7 +11,6 @@ use Rattle.pm_view.specs.View.{View, runs_one}
 use Rattle.pm_world.specs.Lawful.{CanRecord, CanRecordAt, is_guarded}
 use Rattle.pm_world.specs.Sights.{is_recorded}
 use Rattle.pm_undo.specs.Working.{IsBeyond}
-use Rattle.pm_undo.proofs.AreaParts.{data_beyond}
 
 module _ (u : View) (t : List Claim) (changes : List Undrained) (calls : ℕ) (log : Log) (classes : class t ≡ class u.claims) (firsts : first u.fixed.shape t ≡ first u.fixed.shape u.claims)
     (heres : (B : Block) → here u.fixed.shape t B ≡ here u.fixed.shape u.claims B) (knowns : (w : ℕ) → IsBeyond u.fixed.shape w → known u.fixed.shape (runs_one u) t w ≡ known u.fixed.shape (runs_one u) u.claims w) where

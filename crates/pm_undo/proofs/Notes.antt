@@ -6,7 +6,7 @@ use Rattle.pm_layout.specs.declared.shape.Shape.{Shape}
 use Rattle.pm_layout.specs.Chunks.{word_of_descriptor, word_of_root}
 use Rattle.pm_layout.specs.Sizes.{blocks_of}
 use Rattle.pm_view.specs.Changes.{Undrained, is_dirty}
-use Rattle.pm_view.specs.Claims.{Claim, Knows, Drained, SawBitmap, locked, reads, holds, class, making, becomes, header_in, found, here, mine, span, first, geometry, shown_by_bitmap, pictured, is_new, is_held, is_held_at, block_at, known}
+use Rattle.pm_view.specs.Claims.{Claim, Knows, Drained, SawBitmap, locked, holds, class, making, becomes, header_in, found, here, mine, first, geometry, shown_by_bitmap, pictured, is_new, is_held, is_held_at, block_at, known}
 use Rattle.pm_view.specs.Places.{Place, Block, Small, Big, Root, block_of, is_data}
 use Rattle.pm_view.specs.Log.{place_at}
 use Rattle.pm_undo.specs.Working.{Note, Valued, DrainedTo, Looked, claim_of, noted, IsNote, AreNotes}

@@ -5,9 +5,9 @@ use Rattle.std.specs.List.{AllByRecursion}
 use Rattle.std.proofs.lemmas.Bool.{cond-true, cond-false, and_parts, ltb-true}
 use Rattle.std.proofs.lemmas.List.{take_more, take_all, length-take-le}
 use Rattle.pm_layout.specs.declared.shape.Shape.{Shape}
-use Rattle.pm_layout.specs.Areas.{line_of_slot, undo_slots, greatest_generation}
-use Rattle.pm_view.specs.Changes.{Undrained, flushed, is_in_line, mark}
-use Rattle.pm_view.specs.Claims.{Claim, class, making}
+use Rattle.pm_layout.specs.Areas.{line_of_slot, greatest_generation}
+use Rattle.pm_view.specs.Changes.{Undrained, flushed, is_in_line}
+use Rattle.pm_view.specs.Claims.{class, making}
 use Rattle.pm_view.specs.Counts.{DropsSome, FlushesSome, HasRoom}
 use Rattle.pm_view.specs.Log.{Log, Open, Recorded, with_slot}
 use Rattle.pm_view.specs.Parts.{SlotPart}
@@ -23,10 +23,9 @@ use Rattle.pm_plan.proofs.Dropping.{flush_drops}
 use Rattle.pm_plan.proofs.Going.{Goes, goes_one, goes_repeated, goes_stores, goes_then, goes_weaker}
 use Rattle.pm_undo.specs.Plans.{stores_from, writes_record, writes_slot}
 use Rattle.pm_undo.specs.Records.{kept_of}
-use Rattle.pm_undo.specs.Working.{IsBeyond, Valued}
+use Rattle.pm_undo.specs.Working.{IsBeyond}
 use Rattle.pm_undo.proofs.AreaParts.{part_slot}
-use Rattle.pm_undo.proofs.Logging.{Logging, can_still, class_so, fixed_so, log_so, may_store_slot, slot_logging, slot_stored, still_logging, changed_slot}
-use Rattle.pm_undo.proofs.Notes.{IsOther}
+use Rattle.pm_undo.proofs.Logging.{Logging, can_still, fixed_so, log_so, may_store_slot, slot_logging, slot_stored, still_logging}
 use Rattle.pm_undo.proofs.Slots.{length_spelled, small_spelled, slot_short, slot_whole, spelled_back}
 
 -- a change that is past the areas, or flushed; or of this line
@@ -110,7 +109,7 @@ module _ (v : View) (unmaking : (c : ℕ) → making v.fixed.shape v.claims c �
       (subst (λ (k : Log). k.generation < 2 ^ 62) (sym l) below)
       (subst (λ (k : Log). length k.records < 64) (sym l) free)
       (ap (λ (k : Log). k.slot ++ slice_index words i ∷ []) l ∙ (sym (take_more words i 0 (omega (arith, eight, small)))
-          ∙ (ap (λ n. take (n + 1) words) (sym long) ∙ (ap (λ (k : Log). take (length k.slot + 1) (spelled sh k.generation r)) (sym l) ∙ ap (λ (g : Constants). take (length u.log.slot + 1) (spelled g.shape u.log.generation r)) (sym f)))))
+      ∙ (ap (λ n. take (n + 1) words) (sym long) ∙ (ap (λ (k : Log). take (length k.slot + 1) (spelled sh k.generation r)) (sym l) ∙ ap (λ (g : Constants). take (length u.log.slot + 1) (spelled g.shape u.log.generation r)) (sym f)))))
       (ap (λ n. 8 * line + n) (sym long) ∙ (ap (λ (k : Log). 8 * line_of_slot sh v.fixed.lane (length k.records) + length k.slot) (sym l) ∙ ap (λ (g : Constants). 8 * line_of_slot g.shape g.lane (length u.log.records) + length u.log.slot) (sym f)))
 
   -- and leaves the slot with one word more

@@ -4,8 +4,7 @@ use Rattle.std.specs.Prelude.{slice_index}
 use Rattle.std.specs.Int.{bit_at}
 use Rattle.std.specs.List.{AllByRecursion, list_any}
 use Rattle.std.specs.Option.{option_map}
-use Rattle.std.proofs.lemmas.Bool.{and_from, and_parts, both_ways, cond-true, le-leb, leb-true, lt-ltb, ltb-true, or_left, or_right, or_from}
-use Rattle.std.proofs.lemmas.List.{get_or-map, length-map}
+use Rattle.std.proofs.lemmas.Bool.{and_from, and_parts, both_ways, cond-true, le-leb, lt-ltb, ltb-true, or_left, or_right, or_from}
 use Rattle.std.proofs.lemmas.Option.{same_Some}
 use Rattle.std.proofs.Math.Nat.{eq-or-lt_of_le}
 use Rattle.pm_layout.specs.declared.shape.Shape.{Shape}
@@ -13,11 +12,11 @@ use Rattle.pm_layout.specs.Areas.{line_of_slot, word_of_generation}
 use Rattle.pm_layout.specs.Chunks.{words_of, chunks_of}
 use Rattle.pm_view.specs.Bits.{all_bits}
 use Rattle.pm_view.specs.Changes.{Undrained, is_in_line}
-use Rattle.pm_view.specs.Claims.{Claim, Knows, Drained, class, known, making, pictured}
+use Rattle.pm_view.specs.Claims.{Knows, Drained, class, known, making, pictured}
 use Rattle.pm_view.specs.Counts.{HasRoom}
 use Rattle.pm_view.specs.Founds.{knows}
 use Rattle.pm_view.specs.Log.{Log, Open, Recorded, log_drained, log_stored, old_in, old_of, place_at}
-use Rattle.pm_view.specs.Parts.{Part, ChunkPart, part_of}
+use Rattle.pm_view.specs.Parts.{ChunkPart, part_of}
 use Rattle.pm_view.specs.Places.{Place, InRun, InHuge, Descr, RootWord, place_after, is_data, is_place, word_of, is_after, distance}
 use Rattle.pm_view.specs.Steps.Step.{Store}
 use Rattle.pm_view.specs.View.{View, Constants, runs_one}
@@ -26,7 +25,6 @@ use Rattle.pm_world.specs.States.{given}
 use Rattle.pm_world.specs.Lawful.{MayStore, StoreFits, place_in}
 use Rattle.pm_world.specs.Sights.{is_logged_from, is_recorded, is_slot_drained}
 use Rattle.pm_world.proofs.Basics.{first_given, second_given}
-use Rattle.pm_world.proofs.PlacesAt.{is_at}
 use Rattle.pm_plan.specs.Plans.{IsPersisted, claims_persisted, log_persisted}
 use Rattle.pm_undo.specs.Working.{AreOnce, IsBeyond, IsStanding, IsWorking, Note, Valued, DrainedTo, noted, AreNotes}
 use Rattle.pm_undo.proofs.AreaParts.{OfChunk, data_beyond, data_part}
@@ -116,11 +114,14 @@ module _ (v : View) (working : IsWorking v) where
 
     -- all is made persistent
     pub still_putting : (w : View) → IsPersisted u w → Putting k j w × (w.changes ≡ [])
-    still_putting w is = (⊎_elim
-        (λ (e : claims_persisted u.changes u.log u.claims ≡ u.claims). with_notes p.notes (claims_so ∙ (e ∙ p.are)) p.each (λ y. ap (λ t. known sh (runs_one v) t y) (claims_so ∙ e)) (λ y. ap (λ t. pictured sh t y) (claims_so ∙ e)))
-        (λ (e : claims_persisted u.changes u.log u.claims ≡ Drained [] ∷ u.claims). with_notes (DrainedTo [] ∷ p.notes) (claims_so ∙ (e ∙ ap (λ t. Drained [] ∷ t) p.are)) (subst (λ t. (c : ℕ) → making sh t c ≡ false) p.are unmaking_, p.each)
-            (λ y. ap (λ t. known sh (runs_one v) t y) (claims_so ∙ e) ∙ known_noted sh u.claims (runs_one v) (DrainedTo []) unmaking_ y tt) (λ y. ap (λ t. pictured sh t y) (claims_so ∙ e)))
-        (choice u.changes u.log phase_), ap (λ (y : View). y.changes) is)
+    still_putting w is = (
+      ⊎_elim
+          (λ (e : claims_persisted u.changes u.log u.claims ≡ u.claims). with_notes p.notes (claims_so ∙ (e ∙ p.are)) p.each (λ y. ap (λ t. known sh (runs_one v) t y) (claims_so ∙ e)) (λ y. ap (λ t. pictured sh t y) (claims_so ∙ e)))
+          (λ (e : claims_persisted u.changes u.log u.claims ≡ Drained [] ∷ u.claims). with_notes (DrainedTo [] ∷ p.notes) (claims_so ∙ (e ∙ ap (λ t. Drained [] ∷ t) p.are)) (subst (λ t. (c : ℕ) → making sh t c ≡ false) p.are unmaking_, p.each)
+          (λ y. ap (λ t. known sh (runs_one v) t y) (claims_so ∙ e) ∙ known_noted sh u.claims (runs_one v) (DrainedTo []) unmaking_ y tt) (λ y. ap (λ t. pictured sh t y) (claims_so ∙ e)))
+          (choice u.changes u.log phase_),
+      ap (λ (y : View). y.changes) is,
+    )
       where
         choice : (changes : List Undrained) (log : Log) → log.phase ≡ Open → (claims_persisted changes log u.claims ≡ u.claims) ⊎ (claims_persisted changes log u.claims ≡ Drained [] ∷ u.claims)
         choice [] log open_ = inl refl
@@ -135,7 +136,9 @@ module _ (v : View) (working : IsWorking v) where
 
         with_notes : (notes : List Note) → w.claims ≡ noted notes v.claims → AreNotes sh v.claims notes → ((y : ℕ) → known sh (runs_one v) w.claims y ≡ known sh (runs_one v) u.claims y) → ((y : ℕ) → pictured sh w.claims y ≡ pictured sh u.claims y) → Putting k j w
         with_notes notes are each kn pi = record {
-          notes = notes; are = are; each = each;
+          notes = notes;
+          are = are;
+          each = each;
           same = is ∙ (ap (λ l. record u { claims = claims_persisted u.changes u.log u.claims; changes = []; calls = w.calls; log = l }) (log_stays u.changes u.log phase_)
               ∙ (ap (λ (y : View). record y { claims = claims_persisted u.changes u.log u.claims; changes = []; calls = w.calls }) p.same ∙ ap (λ (y : View). record v { claims = y.claims; changes = y.changes; calls = w.calls }) (sym is)));
           far = subst (AllByRecursion (λ (c : Undrained). IsBeyond sh c.word)) (sym (ap (λ (y : View). y.changes) is)) tt;
@@ -213,7 +216,7 @@ module _ (v : View) (working : IsWorking v) where
       earlier m i d lower smaller = let s = at_index (IsStanding v) records no_recorded m working.standing lower in
           ⊎_elim (λ (less : m < k). other_word (place_after (get_or records m no_recorded).place i) (s.use_ i smaller) (λ e. once_at records m k q working.once less low (subst (λ y. given (old_in (get_or records m no_recorded) y) ≡ true) e (old_at (get_or records m no_recorded) i (s.data_ i smaller) smaller)) has_))
           (λ (here : (m ≡ k) × (i < j)). λ e. let a = word_after sh (get_or records m no_recorded).place i (s.data_ i smaller) in let b = word_after sh r.place j (stands.data_ j small) in
-              let c : word_of sh (get_or records m no_recorded).place ≡ word_of sh r.place = ap (λ n. word_of sh (get_or records n no_recorded).place) here.0 in let l = here.1 in omega (arith, a, b, c, l, e)) d
+          let c : word_of sh (get_or records m no_recorded).place ≡ word_of sh r.place = ap (λ n. word_of sh (get_or records n no_recorded).place) here.0 in let l = here.1 in omega (arith, a, b, c, l, e)) d
 
       pub put_on : Putting k (j + 1) (after u (Store w x))
       put_on = subst (Putting k (j + 1)) (sym put_is) (record {

@@ -1,5 +1,5 @@
 -- Putting back is lawful, and restores every recorded word.
-use Rattle.std.proofs.Common.{◌≡◌, ℕ, zero, suc, ◌+◌, ◌-◌, ◌^◌, ◌<◌, ◌≤◌, ◌⊎◌, inl, inr, ⊎_elim, Bool, true, false, cond, ◌==◌, ◌&&◌, nat_lt, nat_le, List, [], ◌∷◌, ◌++◌, length, map, take, get_or, replicate, refl, sym, ap, ◌∙◌, subst, arith, Option, None, Some}
+use Rattle.std.proofs.Common.{◌≡◌, ℕ, suc, ◌+◌, ◌-◌, ◌^◌, ◌<◌, ◌≤◌, ◌⊎◌, inl, inr, ⊎_elim, true, false, ◌==◌, nat_lt, List, [], ◌∷◌, length, map, take, get_or, replicate, refl, sym, ap, ◌∙◌, subst, arith, Option, None, Some}
 use Rattle.std.specs.Prelude.{slice_index}
 use Rattle.std.specs.Int.{bit_at}
 use Rattle.std.specs.List.{AllByRecursion}
@@ -14,18 +14,17 @@ use Rattle.pm_view.specs.Claims.{class, known, making, pictured}
 use Rattle.pm_view.specs.Entries.{first_of_two}
 use Rattle.pm_view.specs.Log.{Log, Recorded, old_in, old_of}
 use Rattle.pm_view.specs.Places.{Place, InRun, InHuge, Descr, RootWord, place_after, is_data, is_place, word_of, distance}
-use Rattle.pm_view.specs.Steps.Step.{Store}
-use Rattle.pm_view.specs.View.{View, Constants, runs_one}
-use Rattle.pm_view.specs.Views.{after, after_all}
+use Rattle.pm_view.specs.View.{View, Constants}
+use Rattle.pm_view.specs.Views.{after_all}
 use Rattle.pm_world.specs.Logs.{AreRestored}
 use Rattle.pm_world.specs.States.{given}
 use Rattle.pm_world.specs.Sights.{is_pictured, picture}
 use Rattle.pm_world.proofs.Recording.{old_in_at, old_in_is, place_is}
 use Rattle.pm_plan.specs.Plans.{Ready, in_turn, persists_all, repeated, stores}
-use Rattle.pm_plan.proofs.Going.{Goes, goes_repeated, goes_stores, goes_then, goes_weaker, persists_all_lawful}
+use Rattle.pm_plan.proofs.Going.{Goes, goes_repeated, goes_stores, goes_weaker, persists_all_lawful}
 use Rattle.pm_plan.proofs.Plans.{after_all-append, ready_both}
 use Rattle.pm_undo.specs.Plans.{puts_back, restores, restores_record, stores_from}
-use Rattle.pm_undo.specs.Records.{kept_of, no_record, padded, record_at}
+use Rattle.pm_undo.specs.Records.{kept_of, no_record, record_at}
 use Rattle.pm_undo.specs.Working.{AreOnce, IsBeyond, IsRestored, IsStanding, IsWorking}
 use Rattle.pm_undo.specs.declared.undo_log.KeptRecord.{KeptRecord}
 use Rattle.pm_undo.proofs.Apart.{no_recorded, word_after}
@@ -72,7 +71,13 @@ module _ (v : View) (working : IsWorking v) where
     where
       next : (u : View) → Putting v working k (length (get_or records k no_recorded).old) u → Putting v working (k + 1) 0 u
       next u p = record {
-        notes = p.notes; are = p.are; each = p.each; same = p.same; far = p.far; others = p.others; ends = p.ends;
+        notes = p.notes;
+        are = p.are;
+        each = p.each;
+        same = p.same;
+        far = p.far;
+        others = p.others;
+        ends = p.ends;
         done = λ m i d lower smaller. p.done m i (⊎_elim (λ (less : m < k + 1). split m i less smaller) (λ (here : (m ≡ k + 1) × (i < 0)). absurd (let z = here.1 in omega (arith, z))) d) lower smaller;
       }
         where

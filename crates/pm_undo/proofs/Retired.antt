@@ -3,23 +3,21 @@ use Rattle.std.proofs.Common.{◌≡◌, ◌≢◌, ℕ, zero, suc, ◌+◌, ◌
 use Rattle.std.specs.Option.{option_map}
 use Rattle.std.proofs.lemmas.Bool.{both_ways, cond-true}
 use Rattle.pm_layout.specs.declared.shape.Shape.{Shape}
-use Rattle.pm_layout.specs.Areas.{greatest_generation, word_of_generation}
-use Rattle.pm_layout.specs.Chunks.{words_of}
+use Rattle.pm_layout.specs.Areas.{word_of_generation}
 use Rattle.pm_view.specs.Bits.{all_bits}
 use Rattle.pm_view.specs.Changes.{Undrained, is_in_line, mark}
-use Rattle.pm_view.specs.Claims.{Claim, Knows, Drained, class, known, making, pictured}
+use Rattle.pm_view.specs.Claims.{Knows, Drained, class, known, pictured}
 use Rattle.pm_view.specs.Counts.{HasRoom}
-use Rattle.pm_view.specs.Log.{Log, Phase, Idle, Open, Drawn, Sealing, Applying, Clearing, Retiring, Voiding, log_stored, next_log}
+use Rattle.pm_view.specs.Log.{Phase, Idle, Open, Drawn, Sealing, Applying, Clearing, Retiring, Voiding, log_stored, next_log}
 use Rattle.pm_view.specs.Parts.{GenerationPart}
 use Rattle.pm_view.specs.Steps.Step.{Store, Flush, Drain}
 use Rattle.pm_view.specs.View.{View, runs_one}
-use Rattle.pm_view.specs.Views.{after, after_all, changed_from, drained_to, marked_by, part_in, value_in, was_of}
+use Rattle.pm_view.specs.Views.{after, after_all, changed_from, drained_to, marked_by, value_in, was_of}
 use Rattle.pm_world.specs.Lawful.{MayStore, StoreFits}
 use Rattle.pm_plan.specs.Plans.{IsPersisted, Ready, claims_persisted, in_turn, log_persisted, one, persists, stores}
-use Rattle.pm_plan.proofs.Dropping.{flush_drops}
 use Rattle.pm_plan.proofs.Going.{Goes, goes_one, goes_stores, goes_then}
 use Rattle.pm_undo.specs.Plans.{ends_word, retires}
-use Rattle.pm_undo.specs.Working.{CanEndAt, CanRetire, DrainedTo, IsRetired, Valued, IsBeyond, phase_ended}
+use Rattle.pm_undo.specs.Working.{CanEndAt, CanRetire, DrainedTo, IsRetired, Valued, phase_ended}
 use Rattle.pm_undo.proofs.AreaParts.{part_generation}
 use Rattle.pm_undo.proofs.Notes.{known_noted}
 
@@ -123,11 +121,15 @@ module _ (v : View) (can : CanRetire v) where
       (goes_stores Before (StoredSo false) w x stays (λ u same room. (subst (λ (y : View). MayStore y w x) (sym same) (may u.calls), stored u same)))
       (goes_then (StoredSo false) (StoredSo true) Ended (one (Flush line)) (one Drain)
       (goes_one (StoredSo false) (StoredSo true) (Flush line) (λ u same. (
-      subst (λ (y : View). Rattle.pm_view.specs.Counts.FlushesSome line y.changes) (sym same) (0, change false, omega arith, refl, (is_true (w / 8 == line) (eq-eqb (w / 8) line refl), refl)), tt,
-      ap (λ (y : View). after y (Flush line)) same ∙ ap (λ c. record v { claims = Knows w x ∷ v.claims; changes = c ∷ []; calls = u.calls + 1; log = record v.log { phase = phase_stored v.log.phase; bumped = true } }) marked)))
+        subst (λ (y : View). Rattle.pm_view.specs.Counts.FlushesSome line y.changes) (sym same) (0, change false, omega arith, refl, (is_true (w / 8 == line) (eq-eqb (w / 8) line refl), refl)),
+        tt,
+        ap (λ (y : View). after y (Flush line)) same ∙ ap (λ c. record v { claims = Knows w x ∷ v.claims; changes = c ∷ []; calls = u.calls + 1; log = record v.log { phase = phase_stored v.log.phase; bumped = true } }) marked,
+      )))
       (goes_one (StoredSo true) Ended Drain (λ u same. (
-      subst (λ (y : View). Rattle.pm_view.specs.Counts.DropsSome y.changes) (sym same) (0, change true, omega arith, refl, refl), tt,
-      ap (λ (y : View). after y Drain) same ∙ drains_to v.log.phase can.ends u.calls))))
+        subst (λ (y : View). Rattle.pm_view.specs.Counts.DropsSome y.changes) (sym same) (0, change true, omega arith, refl, refl),
+        tt,
+        ap (λ (y : View). after y Drain) same ∙ drains_to v.log.phase can.ends u.calls,
+      ))))
 
   -- ENDING THE GENERATION IS LAWFUL
   pub retire_lawful : Ready v (retires v) × IsRetired v (after_all v (retires v))
@@ -135,11 +137,13 @@ module _ (v : View) (can : CanRetire v) where
   retire_lawful =
       let t = all_ended v refl in
       let u : View = after_all v (ends_word w v.log.generation v) in
-      let claims : u.claims ≡ Drained [] ∷ Knows w x ∷ v.claims = ap (λ (y : View). y.claims) t.1 in
-      (t.0, record {
-        same = t.1 ∙ ap (λ c. record v { claims = c; changes = []; calls = u.calls; log = next_log (phase_ended v.log.phase) v.log }) (sym claims);
-        noted = record { notes = DrainedTo [] ∷ Valued w x ∷ []; are = claims; each = (can.unmaking, (tt, tt)) };
-        known = λ y far. ap (λ (z : View). known z.fixed.shape (runs_one z) z.claims y) t.1
-            ∙ (known_noted sh (Knows w x ∷ v.claims) (runs_one v) (DrainedTo []) can.unmaking y tt ∙ known_noted sh v.claims (runs_one v) (Valued w x) tt y (λ e. let low = can.lane in omega (arith, e, low, far)));
-        next = ap (λ (z : View). value_in z w) t.1 ∙ cond-true (w == w) (Some x) (pictured sh v.claims w) (eq-eqb w w refl);
-      })
+      let claims : u.claims ≡ Drained [] ∷ Knows w x ∷ v.claims = ap (λ (y : View). y.claims) t.1 in (
+        t.0,
+        record {
+          same = t.1 ∙ ap (λ c. record v { claims = c; changes = []; calls = u.calls; log = next_log (phase_ended v.log.phase) v.log }) (sym claims);
+          noted = record { notes = DrainedTo [] ∷ Valued w x ∷ []; are = claims; each = (can.unmaking, (tt, tt)) };
+          known = λ y far. ap (λ (z : View). known z.fixed.shape (runs_one z) z.claims y) t.1
+              ∙ (known_noted sh (Knows w x ∷ v.claims) (runs_one v) (DrainedTo []) can.unmaking y tt ∙ known_noted sh v.claims (runs_one v) (Valued w x) tt y (λ e. let low = can.lane in omega (arith, e, low, far)));
+          next = ap (λ (z : View). value_in z w) t.1 ∙ cond-true (w == w) (Some x) (pictured sh v.claims w) (eq-eqb w w refl);
+        },
+      )

@@ -1,10 +1,9 @@
 -- What the words of a slot make of the log, one after another.
-use Rattle.std.proofs.Common.{◌≡◌, ℕ, zero, suc, ◌+◌, ◌-◌, ◌*◌, ◌/◌, ◌^◌, ◌<◌, ◌≤◌, List, [], ◌∷◌, ◌++◌, length, replicate, take, Some, None, Option, refl, ap, ◌∙◌, arith, length-append, ◌==◌, eq-eqb, ne_eqb}
+use Rattle.std.proofs.Common.{◌≡◌, ℕ, zero, suc, ◌*◌, ◌/◌, ◌^◌, ◌<◌, ◌≤◌, List, [], ◌∷◌, ◌++◌, length, Some, refl, ap, ◌∙◌, arith, ◌==◌, eq-eqb, ne_eqb}
 use Rattle.std.specs.Prelude.{slice_index, unwrap_or}
 use Rattle.std.specs.List.{AllByRecursion}
 use Rattle.std.proofs.lemmas.Bool.{cond-true, cond-false}
 use Rattle.pm_layout.specs.declared.shape.Shape.{Shape}
-use Rattle.pm_layout.specs.Chunks.{chunks_of}
 use Rattle.pm_words.specs.Sums.{sum64}
 use Rattle.pm_view.specs.Log.{Log, Recorded, place_at, recorded, with_slot}
 use Rattle.pm_view.specs.Places.{Place, RootWord, word_of}

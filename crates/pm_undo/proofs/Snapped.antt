@@ -1,11 +1,11 @@
 -- How a snapshot leaves its lane, from how its parts leave the memory.
-use Rattle.std.proofs.Common.{◌≡◌, ℕ, ◌+◌, ◌^◌, ◌<◌, ◌≤◌, List, [], ◌∷◌, ◌++◌, length, map, refl, sym, ap, ◌∙◌, subst, arith, rules, Result, Ok, Err, IsErr, length-append}
+use Rattle.std.proofs.Common.{◌≡◌, ℕ, ◌+◌, ◌^◌, ◌<◌, ◌≤◌, List, [], ◌∷◌, ◌++◌, length, map, refl, sym, ap, ◌∙◌, subst, arith, Result, Ok, Err}
 use Rattle.std.specs.List.{All, AllByRecursion}
 use Rattle.std.proofs.lemmas.List.{length-map, map-append}
-use Rattle.std.proofs.lemmas.List.Elements.{All-map, All-from_recursion, recursion_from_All}
+use Rattle.std.proofs.lemmas.List.Elements.{All-from_recursion, recursion_from_All}
 use Rattle.pm_layout.specs.declared.shape.Shape.{Shape}
 use Rattle.pm_memory.specs.declared.lane_mem.Stopped.{Stopped}
-use Rattle.pm_memory.specs.Runs.{Ran, Stops}
+use Rattle.pm_memory.specs.Runs.{Ran}
 use Rattle.pm_model.specs.Transaction.{covered_words, new_words}
 use Rattle.pm_objects.specs.declared.refusal.Refusal.TheVariants as refusal
 use Rattle.pm_view.specs.View.{View, Constants}
@@ -13,12 +13,12 @@ use Rattle.pm_view.specs.Views.{after_all}
 use Rattle.pm_world.specs.declared.lane.Lane.{Lane}
 use Rattle.pm_world.specs.declared.lane.Span.{Span}
 use Rattle.pm_world.specs.LaneFields.{span_of}
-use Rattle.pm_plan.specs.Plans.{IsMade, IsReady, Plan, Ready, Runs, in_turn, nothing}
-use Rattle.pm_plan.proofs.Plans.{ready_first, ready_left, ready_then, runs_nothing, runs_then}
+use Rattle.pm_plan.specs.Plans.{IsMade, IsReady, Ready, Runs, in_turn, nothing}
+use Rattle.pm_plan.proofs.Plans.{ready_left, ready_then, runs_then}
 use Rattle.pm_undo.specs.Plans.{logs, logs_here, looked_first, looks_at, records_all, snapshots, writes_all}
 use Rattle.pm_undo.specs.Records.{kept_in, kept_log, kept_of, log_of, recorded_in, spans_of}
 use Rattle.pm_undo.specs.Spans.{IsSpan, plan_of, words_in}
-use Rattle.pm_undo.specs.Undoing.{KeepsLog, Snapshotted, SnapshottedAs, Stands, needed}
+use Rattle.pm_undo.specs.Undoing.{KeepsLog, Snapshotted, Stands, needed}
 use Rattle.pm_undo.specs.Working.{CanSnapshot, HasSlots}
 use Rattle.pm_undo.specs.declared.undo_log.KeptRecord.{KeptRecord}
 use Rattle.pm_undo.specs.declared.undo_log.UndoLog.{UndoLog}
@@ -108,9 +108,11 @@ module _ {M : Type 0} (at : M → View → Type 0) (lane : Lane M) (log : UndoLo
           let v : View = s.0 in
           let c = can_so v s.1 s.2 in
           let ready = ready_left v (looks_at spans v) (logs_here lane.shape log.generation slot (map (kept_in v) spans) (after_all v (looks_at spans v))) (plan_ready v s.1 s.2 (map (kept_in v) spans) refl) in
-          let clean = (Rattle.pm_undo.proofs.Snapshotting.looks_all v c.working spans c.each v (Rattle.pm_undo.proofs.Snapshotting.starts v c.working)).1 in
-          (after_all v (looks_at spans v), made v s.1.memory ready,
-          subst (λ (sh : Shape). (after_all v (looks_at spans v)).fixed.lane < sh.lanes) (sym s.1.shape) (subst (λ (g : Constants). g.lane < v.fixed.shape.lanes) (sym (Rattle.pm_undo.proofs.Logging.fixed_so v c.working.unmaking c.working.is_open v.log.records [] (after_all v (looks_at spans v)) clean.0)) c.working.lane))
+          let clean = (Rattle.pm_undo.proofs.Snapshotting.looks_all v c.working spans c.each v (Rattle.pm_undo.proofs.Snapshotting.starts v c.working)).1 in (
+            after_all v (looks_at spans v),
+            made v s.1.memory ready,
+            subst (λ (sh : Shape). (after_all v (looks_at spans v)).fixed.lane < sh.lanes) (sym s.1.shape) (subst (λ (g : Constants). g.lane < v.fixed.shape.lanes) (sym (Rattle.pm_undo.proofs.Logging.fixed_so v c.working.unmaking c.working.is_open v.log.records [] (after_all v (looks_at spans v)) clean.0)) c.working.lane),
+          )
 
       low_spans : (v : View) (ss : List Span) → AllByRecursion IsSpan ss → AllByRecursion (λ (r : KeptRecord). r.word < 2 ^ 60) (map (kept_in v) ss)
       low_spans v [] all = tt
@@ -137,13 +139,17 @@ module _ {M : Type 0} (at : M → View → Type 0) (lane : Lane M) (log : UndoLo
           let t = (snapshot_lawful v place len can (room_so v k)).1 in
           let c = can_so v k can in
           let w : View = after_all v (snapshots place len v) in
-          let records = v.log.records ++ map (recorded_in v) (needed v place len) in
-          (room_so v k, counted ∙ ap (λ (ss : List Span). length (new_words (words_in ss) (covered_words place len))) k.spans, record {
-            memory = whole_runs new.memory (Ok tt) runs v k can;
-            shape = ap (λ (l : Lane M). l.shape) lane_is ∙ (k.shape ∙ ap (λ (y : View). y.fixed.shape) (sym t.same));
-            spans = grown ∙ (ap (λ (ss : List Span). ss ++ spans) k.spans ∙ (ap (λ (ss : List Span). spans_of v ++ ss) (sym (spans_again v spans c.each)) ∙ (sym (map-append (span_of v.fixed.shape) v.log.records (map (recorded_in v) spans))
-                ∙ (ap (λ ss. map (span_of v.fixed.shape) (v.log.records ++ map (recorded_in v) ss)) (spans_so v k) ∙ ap (λ (y : View). spans_of y) (sym t.same)))));
-            kept = logged ∙ (ap (λ g. (g, log.records.items ++ kept)) (generation_so at lane log v k) ∙ (ap (λ (ks : List KeptRecord). (v.log.generation, ks ++ kept)) (records_so at lane log v k) ∙ (ap (λ ks. (v.log.generation, map (kept_of v.fixed.shape) v.log.records ++ ks)) (kept_so v k can ∙ all_kept v spans c.each)
-                ∙ (ap (λ ks. (v.log.generation, ks)) (sym (map-append (kept_of v.fixed.shape) v.log.records (map (recorded_in v) spans)))
-                ∙ (ap (λ ss. (v.log.generation, map (kept_of v.fixed.shape) (v.log.records ++ map (recorded_in v) ss))) (spans_so v k) ∙ ap log_of (sym t.same))))));
-          }, lane_is)
+          let records = v.log.records ++ map (recorded_in v) (needed v place len) in (
+            room_so v k,
+            counted ∙ ap (λ (ss : List Span). length (new_words (words_in ss) (covered_words place len))) k.spans,
+            record {
+              memory = whole_runs new.memory (Ok tt) runs v k can;
+              shape = ap (λ (l : Lane M). l.shape) lane_is ∙ (k.shape ∙ ap (λ (y : View). y.fixed.shape) (sym t.same));
+              spans = grown ∙ (ap (λ (ss : List Span). ss ++ spans) k.spans ∙ (ap (λ (ss : List Span). spans_of v ++ ss) (sym (spans_again v spans c.each)) ∙ (sym (map-append (span_of v.fixed.shape) v.log.records (map (recorded_in v) spans))
+                  ∙ (ap (λ ss. map (span_of v.fixed.shape) (v.log.records ++ map (recorded_in v) ss)) (spans_so v k) ∙ ap (λ (y : View). spans_of y) (sym t.same)))));
+              kept = logged ∙ (ap (λ g. (g, log.records.items ++ kept)) (generation_so at lane log v k) ∙ (ap (λ (ks : List KeptRecord). (v.log.generation, ks ++ kept)) (records_so at lane log v k) ∙ (ap (λ ks. (v.log.generation, map (kept_of v.fixed.shape) v.log.records ++ ks)) (kept_so v k can ∙ all_kept v spans c.each)
+                  ∙ (ap (λ ks. (v.log.generation, ks)) (sym (map-append (kept_of v.fixed.shape) v.log.records (map (recorded_in v) spans)))
+                  ∙ (ap (λ ss. (v.log.generation, map (kept_of v.fixed.shape) (v.log.records ++ map (recorded_in v) ss))) (spans_so v k) ∙ ap log_of (sym t.same))))));
+            },
+            lane_is,
+          )

@@ -1,41 +1,31 @@
 -- A snapshot is lawful, and leaves its records.
-use Rattle.std.proofs.Common.{◌≡◌, ◌≢◌, ℕ, zero, suc, ◌+◌, ◌-◌, ◌*◌, ◌/◌, ◌^◌, ◌<◌, ◌≤◌, ◌⊎◌, inl, inr, ⊎_elim, Bool, true, false, cond, not, ◌==◌, ◌&&◌, nat_lt, nat_le, List, [], ◌∷◌, ◌++◌, length, map, take, get_or, refl, sym, ap, ◌∙◌, subst, arith, Option, None, Some, length-append}
+use Rattle.std.proofs.Common.{◌≡◌, ◌≢◌, ℕ, zero, suc, ◌+◌, ◌<◌, inl, ⊎_elim, Bool, true, false, cond, not, nat_lt, List, [], ◌∷◌, length, map, get_or, refl, sym, ap, ◌∙◌, subst, arith, Option, None, Some}
 use Rattle.std.specs.Prelude.{slice_index, unwrap_or}
-use Rattle.std.specs.List.{AllByRecursion, All, range_with_len}
-use Rattle.std.proofs.lemmas.Bool.{both_ways, and_parts, cond-true, cond-false, ltb-true}
-use Rattle.std.proofs.lemmas.List.{append_assoc, append-nil, get_or-map, length-map, take_more, take_all, length-take-le}
+use Rattle.std.specs.List.{AllByRecursion}
+use Rattle.std.proofs.lemmas.Bool.{both_ways, and_parts, ltb-true}
 use Rattle.std.proofs.lemmas.List.FromFn.{length-map-range_with_len}
-use Rattle.std.proofs.lemmas.List.Elements.{recursion_from_All}
 use Rattle.pm_layout.specs.declared.shape.Shape.{Shape}
-use Rattle.pm_layout.specs.Chunks.{chunks_of, words_of, word_of_chunk}
+use Rattle.pm_layout.specs.Chunks.{chunks_of, words_of}
 use Rattle.pm_view.specs.Changes.{Undrained, drained}
-use Rattle.pm_view.specs.Claims.{Claim, Knows, SawBitmap, Drained, class, known, making}
-use Rattle.pm_view.specs.Counts.{DropsSome}
+use Rattle.pm_view.specs.Claims.{Drained, class}
 use Rattle.pm_view.specs.Founds.{knows}
-use Rattle.pm_view.specs.Log.{Log, Open, Recorded, place_at, log_drained}
-use Rattle.pm_view.specs.Parts.{Part, ChunkPart, chunk_place, pool_part, place_in as place_by}
+use Rattle.pm_view.specs.Log.{Open, Recorded, place_at, log_drained}
+use Rattle.pm_view.specs.Parts.{chunk_place, place_in as place_by}
 use Rattle.pm_view.specs.Places.{Place, InRun, InHuge, Descr, RootWord, place_after, is_data, is_place, word_of}
-use Rattle.pm_view.specs.Steps.Step.{Load, Drain}
-use Rattle.pm_view.specs.View.{View, Constants, runs_one}
-use Rattle.pm_view.specs.Views.{after, part_in, learned, drained_to, claims_drained, log_left, decided_by}
+use Rattle.pm_view.specs.View.{View}
+use Rattle.pm_view.specs.Views.{drained_to, decided_by}
 use Rattle.pm_world.specs.Lawful.{CanRecord, place_in}
 use Rattle.pm_world.specs.LaneFields.{span_of}
-use Rattle.pm_world.specs.Sights.{is_recorded}
 use Rattle.pm_world.specs.declared.lane.Span.{Span}
-use Rattle.pm_world.proofs.PlacesAt.{HasUse, is_at}
+use Rattle.pm_world.proofs.PlacesAt.{is_at}
 use Rattle.pm_world.proofs.WordPlaces.{chunk_part}
-use Rattle.pm_plan.specs.Plans.{in_turn, known_word, looks, nothing, one, repeated}
-use Rattle.pm_plan.proofs.Going.{Goes, goes_look, goes_nothing, goes_one, goes_repeated, goes_then, goes_weaker}
-use Rattle.pm_undo.specs.Plans.{looks_at, looks_from, logs, writes_record, writes_records}
+use Rattle.pm_plan.specs.Plans.{known_word}
 use Rattle.pm_undo.specs.Records.{kept_in, kept_of, record_at, recorded_in, words_of_span, no_record}
-use Rattle.pm_undo.specs.Spans.{ArePast, no_span, span_at}
-use Rattle.pm_undo.specs.Working.{IsBeyond, Valued, DrainedTo, Looked}
+use Rattle.pm_undo.specs.Spans.{ArePast}
+use Rattle.pm_undo.specs.Working.{IsBeyond}
 use Rattle.pm_undo.specs.declared.undo_log.KeptRecord.{KeptRecord}
-use Rattle.pm_undo.proofs.AreaParts.{data_beyond, data_part}
-use Rattle.pm_undo.proofs.Apart.{IsPlain, early_none, no_recorded, not_in_both, word_after}
-use Rattle.pm_undo.proofs.Logging.{Logging, class_so, fixed_so, log_so, no_making, phase_so}
-use Rattle.pm_undo.proofs.Notes.{known_again, known_noted}
-use Rattle.pm_undo.proofs.OneRecord.{IsAside, Written, record_written, same_after}
+use Rattle.pm_undo.proofs.Apart.{IsPlain, word_after}
+use Rattle.pm_undo.proofs.OneRecord.{IsAside, same_after}
 
 -- the words after a place of a chunk are of the same use
 pub use_after : (sh : Shape) (class : ℕ → ℕ) (p : Place) (i : ℕ) → is_data (place_after p i) ≡ true → place_at sh class (word_of sh p) ≡ Some p → is_place sh (place_after p i) ≡ true → place_at sh class (word_of sh (place_after p i)) ≡ Some (place_after p i)

@@ -1,39 +1,36 @@
 -- A snapshot is lawful, and leaves its records.
-use Rattle.std.proofs.Common.{◌≡◌, ◌≢◌, ℕ, zero, suc, ◌+◌, ◌*◌, ◌<◌, ◌≤◌, Bool, true, false, List, [], ◌∷◌, ◌++◌, length, map, take, get_or, refl, sym, ap, ◌∙◌, subst, arith, Option, None, Some, length-append}
-use Rattle.std.specs.Prelude.{slice_index, unwrap_or}
-use Rattle.std.specs.List.{AllByRecursion, All}
-use Rattle.std.proofs.lemmas.List.{append_assoc, append-nil, get_or-map, length-map, take_more, take_all, length-take-le}
-use Rattle.std.proofs.lemmas.List.Elements.{recursion_from_All}
+use Rattle.std.proofs.Common.{◌≡◌, ◌≢◌, ℕ, zero, suc, ◌+◌, ◌<◌, ◌≤◌, false, List, [], ◌∷◌, ◌++◌, length, map, take, get_or, refl, sym, ap, ◌∙◌, subst, arith, Some, length-append}
+use Rattle.std.specs.Prelude.{unwrap_or}
+use Rattle.std.specs.List.{AllByRecursion}
+use Rattle.std.proofs.lemmas.List.{append_assoc, get_or-map, length-map, take_more, take_all, length-take-le}
 use Rattle.pm_layout.specs.declared.shape.Shape.{Shape}
 use Rattle.pm_layout.specs.Areas.{word_of_generation}
 use Rattle.pm_layout.specs.Chunks.{words_of}
 use Rattle.pm_view.specs.Changes.{Undrained, drained}
-use Rattle.pm_view.specs.Claims.{Claim, Knows, SawBitmap, Drained, class, known, making, pictured}
+use Rattle.pm_view.specs.Claims.{Knows, SawBitmap, Drained, class, making}
 use Rattle.pm_view.specs.Counts.{DropsSome}
 use Rattle.pm_view.specs.Founds.{knows}
-use Rattle.pm_view.specs.Log.{Log, Open, Recorded, place_at}
-use Rattle.pm_view.specs.Parts.{Part, ChunkPart, part_of}
-use Rattle.pm_view.specs.Places.{Place, place_after, word_of}
+use Rattle.pm_view.specs.Log.{Recorded}
+use Rattle.pm_view.specs.Parts.{ChunkPart, part_of}
+use Rattle.pm_view.specs.Places.{place_after}
 use Rattle.pm_view.specs.Steps.Step.{Load, Drain}
 use Rattle.pm_view.specs.View.{View, Constants, runs_one}
-use Rattle.pm_view.specs.Views.{after, after_all, part_in, learned, seen_by, drained_to}
-use Rattle.pm_world.specs.Lawful.{CanRecord, CanRecordAt, place_in}
-use Rattle.pm_world.specs.LaneFields.{span_of}
+use Rattle.pm_view.specs.Views.{after, part_in, learned, seen_by}
+use Rattle.pm_world.specs.Lawful.{CanRecord}
 use Rattle.pm_world.specs.Sights.{is_recorded}
 use Rattle.pm_world.specs.declared.lane.Span.{Span}
 use Rattle.pm_world.proofs.PlacesAt.{is_at}
-use Rattle.pm_plan.specs.Plans.{Plan, Ready, in_turn, known_word, looks, nothing, one, repeated}
-use Rattle.pm_plan.proofs.Going.{Goes, goes_look, goes_nothing, goes_one, goes_repeated, goes_then, goes_weaker}
-use Rattle.pm_undo.specs.Plans.{looks_at, looks_first, looks_from, logs, records_all, snapshots, writes_record, writes_records}
-use Rattle.pm_undo.specs.Records.{kept_in, kept_of, no_record, record_at, recorded_in, spans_of}
-use Rattle.pm_undo.specs.Spans.{ArePast, no_span, plan_of, span_at}
-use Rattle.pm_undo.specs.Working.{CanSnapshot, HasNoted, IsBeyond, IsSnapshot, IsStanding, IsWorking, Valued, DrainedTo, Looked, noted}
+use Rattle.pm_plan.specs.Plans.{known_word, looks, one, repeated}
+use Rattle.pm_plan.proofs.Going.{Goes, goes_look, goes_one, goes_repeated, goes_weaker}
+use Rattle.pm_undo.specs.Plans.{looks_at, looks_first, looks_from, writes_record, writes_records}
+use Rattle.pm_undo.specs.Records.{kept_of, no_record, record_at, recorded_in}
+use Rattle.pm_undo.specs.Spans.{ArePast, no_span, span_at}
+use Rattle.pm_undo.specs.Working.{IsBeyond, IsWorking, Valued, DrainedTo, Looked}
 use Rattle.pm_undo.proofs.AreaParts.{data_beyond, data_part}
-use Rattle.pm_undo.proofs.Apart.{IsPlain, apart_from, early_none, no_recorded, not_in_both, once_both, past_once, word_after}
-use Rattle.pm_undo.proofs.Logging.{Logging, class_so, fixed_so, log_so, no_making, phase_so}
+use Rattle.pm_undo.proofs.Apart.{early_none, no_recorded, not_in_both, word_after}
+use Rattle.pm_undo.proofs.Logging.{Logging, class_so, fixed_so, no_making, phase_so}
 use Rattle.pm_undo.proofs.Notes.{class_same, known_again, known_noted, pictured_noted}
 use Rattle.pm_undo.proofs.OneRecord.{IsAside, Written, record_written}
-use Rattle.pm_undo.proofs.Rising.{plan_past}
 use Rattle.pm_undo.proofs.Snapshotted.{all_kept, all_past, all_plain, aside_beyond, at_index, drained_open, left_beyond, looks_so, use_after}
 
 module _ (v : View) (working : IsWorking v) where
@@ -156,12 +153,18 @@ module _ (v : View) (working : IsWorking v) where
       drained_all some = goes_one (Stand (length records)) (HasClean (before ++ records)) Drain (λ u p.
           let left : List Undrained = drained u.changes in
           let e = drained_open u left (phase_so v working.unmaking working.is_open (before ++ take (length records) records) [] u p.at) in
-          let quiet = no_making v working.unmaking working.is_open (before ++ take (length records) records) [] u p.at in
-          (p.drops some, tt, subst (HasClean (before ++ records)) (sym e) (subst (λ rs. Logging v (before ++ rs) [] (record u { claims = Drained left ∷ u.claims; changes = left; calls = u.calls + 1 })) (take_all (length records) records (omega arith)) (record {
-            notes = DrainedTo left ∷ p.at.notes;
-            are = ap (λ t. Drained left ∷ t) p.at.are;
-            each = (subst (λ t. (c : ℕ) → making sh t c ≡ false) p.at.are quiet, p.at.each);
-            same = ap (λ (y : View). record y { claims = Drained left ∷ u.claims; changes = left; calls = u.calls + 1 }) p.at.same;
-            known_ = λ y far. known_noted u.fixed.shape u.claims (runs_one u) (DrainedTo left) (subst (λ f. (c : ℕ) → making f u.claims c ≡ false) (ap (λ (g : Constants). g.shape) (sym (fixed_so v working.unmaking working.is_open (before ++ take (length records) records) [] u p.at))) quiet) y tt ∙ p.at.known_ y far;
-            ends = p.at.ends;
-          }), left_beyond sh u.changes p.aside)))
+          let quiet = no_making v working.unmaking working.is_open (before ++ take (length records) records) [] u p.at in (
+            p.drops some,
+            tt,
+            subst (HasClean (before ++ records)) (sym e) (
+              subst (λ rs. Logging v (before ++ rs) [] (record u { claims = Drained left ∷ u.claims; changes = left; calls = u.calls + 1 })) (take_all (length records) records (omega arith)) (record {
+                notes = DrainedTo left ∷ p.at.notes;
+                are = ap (λ t. Drained left ∷ t) p.at.are;
+                each = (subst (λ t. (c : ℕ) → making sh t c ≡ false) p.at.are quiet, p.at.each);
+                same = ap (λ (y : View). record y { claims = Drained left ∷ u.claims; changes = left; calls = u.calls + 1 }) p.at.same;
+                known_ = λ y far. known_noted u.fixed.shape u.claims (runs_one u) (DrainedTo left) (subst (λ f. (c : ℕ) → making f u.claims c ≡ false) (ap (λ (g : Constants). g.shape) (sym (fixed_so v working.unmaking working.is_open (before ++ take (length records) records) [] u p.at))) quiet) y tt ∙ p.at.known_ y far;
+                ends = p.at.ends;
+              }),
+              left_beyond sh u.changes p.aside,
+            ),
+          ))

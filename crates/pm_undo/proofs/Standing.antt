@@ -1,15 +1,15 @@
 -- What a snapshot leaves: a lane at work, whose records may be put back.
-use Rattle.std.proofs.Common.{◌≡◌, ℕ, zero, suc, ◌+◌, ◌^◌, ◌<◌, ◌≤◌, true, false, List, [], ◌∷◌, ◌++◌, length, map, refl, sym, ap, ◌∙◌, subst, arith, Some, length-append}
+use Rattle.std.proofs.Common.{◌≡◌, ℕ, ◌+◌, ◌^◌, ◌<◌, ◌≤◌, false, List, [], ◌∷◌, ◌++◌, length, map, sym, ap, ◌∙◌, subst, arith, Some, length-append}
 use Rattle.std.specs.List.{AllByRecursion}
 use Rattle.std.proofs.lemmas.List.{append-nil, length-map}
 use Rattle.pm_layout.specs.declared.shape.Shape.{Shape}
 use Rattle.pm_view.specs.Changes.{Undrained}
 use Rattle.pm_view.specs.Claims.{class, making}
-use Rattle.pm_view.specs.Log.{Log, Open, Recorded, place_at}
+use Rattle.pm_view.specs.Log.{Log, Recorded, place_at}
 use Rattle.pm_view.specs.Places.{place_after, word_of}
 use Rattle.pm_view.specs.Steps.Step.{Drain}
 use Rattle.pm_view.specs.View.{View, Constants}
-use Rattle.pm_view.specs.Views.{after_all, value_in}
+use Rattle.pm_view.specs.Views.{after_all}
 use Rattle.pm_world.specs.Lawful.{CanRecord}
 use Rattle.pm_world.specs.Sights.{is_recorded}
 use Rattle.pm_world.specs.declared.lane.Span.{Span}
@@ -115,16 +115,18 @@ module _ (v : View) (working : IsWorking v) where
       let w : View = after_all v (in_turn (looks_at spans) (logs_here sh v.log.generation (length v.log.records) (map (kept_in v) spans)) v) in
       let p : HasClean v working all w = t.1 in
       let f = fixed_so v working.unmaking working.is_open all [] w p.0 in
-      let cl = class_so v working.unmaking working.is_open all [] w p.0 in
-      (t.0, record {
-        same = p.0.same ∙ ap (λ s. record v { claims = w.claims; changes = w.changes; calls = w.calls; log = record v.log { records = all; slot = s } }) (sym working.whole.0);
-        noted = record { notes = p.0.notes; are = p.0.are; each = p.0.each };
-        changes = p.1;
-        known = p.0.known_;
-        working = still_working w all p (let a = length-append v.log.records (map (recorded_in v) spans) in let b = length-map spans (recorded_in v) in omega (arith, a, b, room))
-            (both_all (IsStanding w) v.log.records (map (recorded_in v) spans) (all_still v w v.log.records f cl working.standing) (all_new v w spans f cl can.each))
-            (once_both v.log.records (map (recorded_in v) spans) working.once (past_once sh 0 (map (recorded_in v) spans) (all_past v 0 spans can.each past) (all_plain v spans can.each)) (apart_from v.log.records (map (recorded_in v) spans) (new_words_ v spans can.each)));
-      })
+      let cl = class_so v working.unmaking working.is_open all [] w p.0 in (
+        t.0,
+        record {
+          same = p.0.same ∙ ap (λ s. record v { claims = w.claims; changes = w.changes; calls = w.calls; log = record v.log { records = all; slot = s } }) (sym working.whole.0);
+          noted = record { notes = p.0.notes; are = p.0.are; each = p.0.each };
+          changes = p.1;
+          known = p.0.known_;
+          working = still_working w all p (let a = length-append v.log.records (map (recorded_in v) spans) in let b = length-map spans (recorded_in v) in omega (arith, a, b, room))
+              (both_all (IsStanding w) v.log.records (map (recorded_in v) spans) (all_still v w v.log.records f cl working.standing) (all_new v w spans f cl can.each))
+              (once_both v.log.records (map (recorded_in v) spans) working.once (past_once sh 0 (map (recorded_in v) spans) (all_past v 0 spans can.each past) (all_plain v spans can.each)) (apart_from v.log.records (map (recorded_in v) spans) (new_words_ v spans can.each)));
+        },
+      )
 
 pub snapshot_lawful : (v : View) (place len : ℕ) → CanSnapshot v (plan_of (spans_of v) place len) → HasSlots v (plan_of (spans_of v) place len) → Ready v (snapshots place len v) × IsSnapshot v (plan_of (spans_of v) place len) (after_all v (snapshots place len v))
 unfolding snapshots

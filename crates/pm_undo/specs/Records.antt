@@ -1,8 +1,7 @@
 -- Undo records: as a lane's view has them, as the lane keeps them, and as a slot spells them.
-use Rattle.std.specs.Prelude.{ℕ, ◌*◌, ◌-◌, List, [], ◌∷◌, ◌++◌, length, map, replicate, slice_index_or, unwrap_or}
+use Rattle.std.specs.Prelude.{ℕ, ◌*◌, ◌-◌, List, [], ◌++◌, length, map, replicate, slice_index_or, unwrap_or}
 use Rattle.std.specs.List.{range_with_len}
 use Rattle.pm_layout.specs.declared.shape.Shape.{Shape}
-use Rattle.pm_layout.specs.Areas.{old_words}
 use Rattle.pm_record.specs.Undo.{undo_words}
 use Rattle.pm_view.specs.Log.{Recorded}
 use Rattle.pm_view.specs.Places.{RootWord, word_of}

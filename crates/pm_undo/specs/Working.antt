@@ -1,5 +1,5 @@
 -- A lane whose log may grow, be put back and be retired, on its view alone; and what each of these leaves of the view.
-use Rattle.std.specs.Prelude.{◌≡◌, ◌⊎◌, ℕ, ◌+◌, ◌*◌, ◌^◌, ◌<◌, ◌≤◌, true, false, List, [], ◌∷◌, ◌++◌, length, map, slice_index, Some}
+use Rattle.std.specs.Prelude.{◌≡◌, ℕ, ◌+◌, ◌*◌, ◌^◌, ◌<◌, ◌≤◌, true, false, List, [], ◌∷◌, ◌++◌, length, map, slice_index, Some}
 use Rattle.std.specs.List.{AllByRecursion}
 use Rattle.pm_layout.specs.declared.shape.Shape.{Shape}
 use Rattle.pm_layout.specs.Areas.{greatest_generation, undo_slots, old_words, word_of_generation}
@@ -16,8 +16,7 @@ use Rattle.pm_world.specs.States.{given}
 use Rattle.pm_world.specs.Sights.{is_recorded, picture}
 use Rattle.pm_world.specs.Logs.{AreRestored}
 use Rattle.pm_world.specs.declared.lane.Span.{Span}
-use Rattle.pm_undo.specs.Records.{recorded_in, spans_of}
-use Rattle.pm_undo.specs.Spans.{plan_of}
+use Rattle.pm_undo.specs.Records.{recorded_in}
 
 -- a record that may be put back: its words are data of chunks of the pool, used as the lane knows
 pub record IsStanding (v : View) (r : Recorded) : Type 0 where

@@ -9,12 +9,12 @@
 #![tactic(auto)]
 
 mod laws;
-mod spans;
 mod reading;
 mod recording;
 mod restoring;
 mod retiring;
 mod snapshots;
+mod spans;
 mod undo_log;
 
 pub use laws::{generations_may_end, recorded_words_may_be_put_back, snapshots_are_lawful};
@@ -22,3 +22,6 @@ pub use restoring::restore;
 pub use retiring::retire;
 pub use snapshots::snapshot;
 pub use undo_log::{KeptRecord, UndoLog};
+
+#[cfg(test)]
+mod tests;

@@ -138,7 +138,7 @@ fn log_in<M: LawfulMem>(
 }
 
 /// Writes some records of this lane after those that there are, and drains them, where there are any.
-pub fn log<M: LawfulMem>(
+pub fn write_new<M: LawfulMem>(
     mem: &mut M,
     shape: Shape,
     generation: u64,

@@ -5,9 +5,9 @@ ghost use Rattle.pm_undo.specs.Spans.{IsSpan};
 ghost use Rattle.pm_undo.specs.Undoing.{Snapshotted, Stands, needed};
 ghost use Rattle.pm_undo.specs.Working.{CanSnapshot};
 
-use crate::spans::plan;
 use crate::reading::read_all;
-use crate::recording::log as write;
+use crate::recording::write_new;
+use crate::spans::plan;
 use crate::undo_log::{KeptRecord, UndoLog};
 use arrayvec::ArrayVec;
 use pm_memory::Stopped;
@@ -36,7 +36,13 @@ pub fn snapshot<M: LawfulMem>(
     };
     let slot = lane.records.len() as u64;
     let kept = read_all(&mut lane.memory, spans.as_slice());
-    match write(&mut lane.memory, lane.shape, log.generation, slot, kept.as_slice()) {
+    match write_new(
+        &mut lane.memory,
+        lane.shape,
+        log.generation,
+        slot,
+        kept.as_slice(),
+    ) {
         Ok(()) => {
             extend(&mut log.records, kept.as_slice());
             Ok(keep(&mut lane.records, spans.as_slice()))

@@ -1,4 +1,4 @@
-use Rattle.std.proofs.Common.{Ok, Err}
+use Rattle.std.proofs.Common.{Ok}
 use Rattle.pm_view.specs.Steps.Step.{Flush}
 use Rattle.pm_plan.proofs.Plans.{granted}
 use Rattle.pm_plan.proofs.Persisting.{flushed_none, may_flush_next, flushed_more, flush_stopped, flushed_all, flushed_up}

@@ -1,7 +1,7 @@
-use Rattle.std.proofs.Common.{◌≡◌, ◌+◌, ℕ, ◌++◌, ◌∷◌, [], length, refl, sym, ap, ◌∙◌, subst, arith, rules, length-append}
+use Rattle.std.proofs.Common.{◌≡◌, ◌+◌, ℕ, ◌++◌, ◌∷◌, [], length, sym, ap, ◌∙◌, subst, rules, length-append}
 use Rattle.pm_plan.specs.Plans.{IsMade, repeated}
 use Rattle.pm_plan.proofs.Plans.{repeated_none, repeated_next, repeated_more}
-use Rattle.pm_undo.specs.Plans.{looked_first, looks_at, looks_first, looks_from}
+use Rattle.pm_undo.specs.Plans.{looks_at, looks_first, looks_from}
 use Rattle.pm_undo.specs.Spans.{span_at}
 use Rattle.pm_undo.proofs.Looking.{none_found, span_found}
 use Rattle.pm_undo.proofs.reading.read_all.Goals as goal

@@ -1,4 +1,4 @@
-use Rattle.std.proofs.Common.{◌≡◌, ◌+◌, ◌-◌, ◌++◌, ℕ, replicate, refl, sym, ap, ◌∙◌, subst, arith, rules}
+use Rattle.std.proofs.Common.{◌≡◌, ◌+◌, ◌-◌, ◌++◌, ℕ, replicate, sym, ap, ◌∙◌, subst, arith, rules}
 use Rattle.pm_plan.specs.Plans.{IsMade, looks, repeated}
 use Rattle.pm_plan.proofs.Plans.{repeated_none, repeated_next, repeated_more}
 use Rattle.pm_undo.specs.Plans.{looked_words, looks_from}

@@ -1,4 +1,4 @@
-use Rattle.std.proofs.Common.{◌≡◌, ◌+◌, ◌^◌, ◌<◌, ◌≤◌, ◌++◌, ◌∷◌, [], List, ℕ, length, sum_by, refl, sym, ap, ◌∙◌, subst, arith, rules, Ok, Err}
+use Rattle.std.proofs.Common.{◌≡◌, ◌+◌, ◌^◌, ◌<◌, ◌≤◌, ◌++◌, List, ℕ, length, sum_by, refl, sym, ap, ◌∙◌, subst, arith, rules, Ok, Err}
 use Rattle.std.specs.List.{All}
 use Rattle.pm_world.specs.declared.lane.Span.{Span}
 use Rattle.pm_plan.specs.Plans.{IsReady, Runs}
@@ -28,29 +28,29 @@ read_all-kept-requires-clause-spans g c = fits c.as_slice-2.result.now c.args.la
 pub read_all-kept-requires-clause-ready : goal.read_all-kept-requires-clause-ready
 read_all-kept-requires-clause-ready g c = look_ready g.M.LaneMem.at c.args.lane.now c.args.log.now c.args.place c.args.len c.as_slice-2.result.now (planned c.args.lane.now.records.items c.as_slice.result.now c.in-Some.spans.items c.as_slice-2.result.now c.args.place c.args.len c.as_slice.ensures.value c.in-Some.ensures.some c.as_slice-2.ensures.value) (has_room c.args.lane.now.records.items c.as_slice.result.now c.in-Some.spans.items c.as_slice-2.result.now c.as_slice.ensures.value c.in-Some.ensures.room c.as_slice-2.ensures.value) c.len-slot.result c.len-slot.ensures.value c.requires.stands
 
-pub log-requires-clause-lane : goal.log-requires-clause-lane
-log-requires-clause-lane g c = write_lane g.M.LaneMem.at c.args.lane.now c.args.log.now c.args.place c.args.len c.as_slice-2.result.now (planned c.args.lane.now.records.items c.as_slice.result.now c.in-Some.spans.items c.as_slice-2.result.now c.args.place c.args.len c.as_slice.ensures.value c.in-Some.ensures.some c.as_slice-2.ensures.value) (has_room c.args.lane.now.records.items c.as_slice.result.now c.in-Some.spans.items c.as_slice-2.result.now c.as_slice.ensures.value c.in-Some.ensures.room c.as_slice-2.ensures.value) c.len-slot.result c.len-slot.ensures.value c.read_all-kept.new.mem c.read_all-kept.result.items c.read_all-kept.ensures.made c.read_all-kept.ensures.found c.requires.stands
+pub write_new-requires-clause-lane : goal.write_new-requires-clause-lane
+write_new-requires-clause-lane g c = write_lane g.M.LaneMem.at c.args.lane.now c.args.log.now c.args.place c.args.len c.as_slice-2.result.now (planned c.args.lane.now.records.items c.as_slice.result.now c.in-Some.spans.items c.as_slice-2.result.now c.args.place c.args.len c.as_slice.ensures.value c.in-Some.ensures.some c.as_slice-2.ensures.value) (has_room c.args.lane.now.records.items c.as_slice.result.now c.in-Some.spans.items c.as_slice-2.result.now c.as_slice.ensures.value c.in-Some.ensures.room c.as_slice-2.ensures.value) c.len-slot.result c.len-slot.ensures.value c.read_all-kept.new.mem c.read_all-kept.result.items c.read_all-kept.ensures.made c.read_all-kept.ensures.found c.requires.stands
 
-pub log-requires-clause-low : goal.log-requires-clause-low
-log-requires-clause-low g c = subst (λ (ks : List KeptRecord). All (λ (r : KeptRecord). r.word < 2 ^ 60) ks) (sym c.as_slice-3.ensures.value)
+pub write_new-requires-clause-low : goal.write_new-requires-clause-low
+write_new-requires-clause-low g c = subst (λ (ks : List KeptRecord). All (λ (r : KeptRecord). r.word < 2 ^ 60) ks) (sym c.as_slice-3.ensures.value)
     (write_low g.M.LaneMem.at c.args.lane.now c.args.log.now c.args.place c.args.len c.as_slice-2.result.now (planned c.args.lane.now.records.items c.as_slice.result.now c.in-Some.spans.items c.as_slice-2.result.now c.args.place c.args.len c.as_slice.ensures.value c.in-Some.ensures.some c.as_slice-2.ensures.value) (has_room c.args.lane.now.records.items c.as_slice.result.now c.in-Some.spans.items c.as_slice-2.result.now c.as_slice.ensures.value c.in-Some.ensures.room c.as_slice-2.ensures.value) c.len-slot.result c.len-slot.ensures.value c.read_all-kept.new.mem c.read_all-kept.result.items c.read_all-kept.ensures.made c.read_all-kept.ensures.found c.requires.stands (fits c.as_slice-2.result.now c.args.lane.now.records.items c.args.place c.args.len (planned c.args.lane.now.records.items c.as_slice.result.now c.in-Some.spans.items c.as_slice-2.result.now c.args.place c.args.len c.as_slice.ensures.value c.in-Some.ensures.some c.as_slice-2.ensures.value) c.requires.range))
 
-pub log-requires-clause-ready : goal.log-requires-clause-ready
-log-requires-clause-ready g c = subst (λ (ks : List KeptRecord). IsReady (g.M.LaneMem.at c.read_all-kept.new.mem) (logs_here c.args.lane.now.shape c.args.log.now.generation c.len-slot.result ks)) (sym c.as_slice-3.ensures.value)
+pub write_new-requires-clause-ready : goal.write_new-requires-clause-ready
+write_new-requires-clause-ready g c = subst (λ (ks : List KeptRecord). IsReady (g.M.LaneMem.at c.read_all-kept.new.mem) (logs_here c.args.lane.now.shape c.args.log.now.generation c.len-slot.result ks)) (sym c.as_slice-3.ensures.value)
     (write_ready g.M.LaneMem.at c.args.lane.now c.args.log.now c.args.place c.args.len c.as_slice-2.result.now (planned c.args.lane.now.records.items c.as_slice.result.now c.in-Some.spans.items c.as_slice-2.result.now c.args.place c.args.len c.as_slice.ensures.value c.in-Some.ensures.some c.as_slice-2.ensures.value) (has_room c.args.lane.now.records.items c.as_slice.result.now c.in-Some.spans.items c.as_slice-2.result.now c.as_slice.ensures.value c.in-Some.ensures.room c.as_slice-2.ensures.value) c.len-slot.result c.len-slot.ensures.value c.read_all-kept.new.mem c.read_all-kept.result.items c.read_all-kept.ensures.made c.read_all-kept.ensures.found c.requires.stands)
 
 pub keep-requires-clause-spans : goal.keep-requires-clause-spans
 keep-requires-clause-spans g c = fits c.as_slice-in-Ok-2.result.now c.args.lane.now.records.items c.args.place c.args.len (planned c.args.lane.now.records.items c.as_slice.result.now c.in-Some.spans.items c.as_slice-in-Ok-2.result.now c.args.place c.args.len c.as_slice.ensures.value c.in-Some.ensures.some c.as_slice-in-Ok-2.ensures.value) c.requires.range
 
 pub returns-in-Err : goal.returns-in-Err
-returns-in-Err g c = snapped_err g.M.LaneMem.at c.args.lane.now c.args.log.now c.args.place c.args.len c.as_slice-2.result.now (planned c.args.lane.now.records.items c.as_slice.result.now c.in-Some.spans.items c.as_slice-2.result.now c.args.place c.args.len c.as_slice.ensures.value c.in-Some.ensures.some c.as_slice-2.ensures.value) (has_room c.args.lane.now.records.items c.as_slice.result.now c.in-Some.spans.items c.as_slice-2.result.now c.as_slice.ensures.value c.in-Some.ensures.room c.as_slice-2.ensures.value) c.len-slot.result c.len-slot.ensures.value c.read_all-kept.new.mem c.read_all-kept.result.items c.read_all-kept.ensures.made c.read_all-kept.ensures.found c.log.new.mem c.in-Err.field-0
-    (subst (λ (ks : List KeptRecord). Runs {T = Unit {0}} (g.M.LaneMem.at c.read_all-kept.new.mem) (g.M.LaneMem.at c.log.new.mem) (logs_here c.args.lane.now.shape c.args.log.now.generation c.len-slot.result ks) (Err c.in-Err.field-0)) c.as_slice-3.ensures.value c.in-Err.ensures)
+returns-in-Err g c = snapped_err g.M.LaneMem.at c.args.lane.now c.args.log.now c.args.place c.args.len c.as_slice-2.result.now (planned c.args.lane.now.records.items c.as_slice.result.now c.in-Some.spans.items c.as_slice-2.result.now c.args.place c.args.len c.as_slice.ensures.value c.in-Some.ensures.some c.as_slice-2.ensures.value) (has_room c.args.lane.now.records.items c.as_slice.result.now c.in-Some.spans.items c.as_slice-2.result.now c.as_slice.ensures.value c.in-Some.ensures.room c.as_slice-2.ensures.value) c.len-slot.result c.len-slot.ensures.value c.read_all-kept.new.mem c.read_all-kept.result.items c.read_all-kept.ensures.made c.read_all-kept.ensures.found c.write_new.new.mem c.in-Err.field-0
+    (subst (λ (ks : List KeptRecord). Runs {T = Unit {0}} (g.M.LaneMem.at c.read_all-kept.new.mem) (g.M.LaneMem.at c.write_new.new.mem) (logs_here c.args.lane.now.shape c.args.log.now.generation c.len-slot.result ks) (Err c.in-Err.field-0)) c.as_slice-3.ensures.value c.in-Err.ensures)
 
 pub returns-in-Ok : goal.returns-in-Ok
 returns-in-Ok g c = snapped_ok g.M.LaneMem.at c.args.lane.now c.args.log.now c.args.place c.args.len c.as_slice-2.result.now (planned c.args.lane.now.records.items c.as_slice.result.now c.in-Some.spans.items c.as_slice-2.result.now c.args.place c.args.len c.as_slice.ensures.value c.in-Some.ensures.some c.as_slice-2.ensures.value) (has_room c.args.lane.now.records.items c.as_slice.result.now c.in-Some.spans.items c.as_slice-2.result.now c.as_slice.ensures.value c.in-Some.ensures.room c.as_slice-2.ensures.value) c.len-slot.result c.len-slot.ensures.value c.read_all-kept.new.mem c.read_all-kept.result.items c.read_all-kept.ensures.made c.read_all-kept.ensures.found
-    (record c.args.lane.now { memory = c.log.new.mem; records = c.keep.new.records }) (record { generation = c.args.log.now.generation; records = c.extend.new.records }) c.keep.result
-    (subst (λ (ks : List KeptRecord). Runs {T = Unit {0}} (g.M.LaneMem.at c.read_all-kept.new.mem) (g.M.LaneMem.at c.log.new.mem) (logs_here c.args.lane.now.shape c.args.log.now.generation c.len-slot.result ks) (Ok tt)) c.as_slice-3.ensures.value c.in-Ok.ensures)
+    (record c.args.lane.now { memory = c.write_new.new.mem; records = c.keep.new.records }) (record { generation = c.args.log.now.generation; records = c.extend.new.records }) c.keep.result
+    (subst (λ (ks : List KeptRecord). Runs {T = Unit {0}} (g.M.LaneMem.at c.read_all-kept.new.mem) (g.M.LaneMem.at c.write_new.new.mem) (logs_here c.args.lane.now.shape c.args.log.now.generation c.len-slot.result ks) (Ok tt)) c.as_slice-3.ensures.value c.in-Ok.ensures)
     refl (c.keep.ensures.kept ∙ ap (λ (ss : List Span). c.args.lane.now.records.items ++ ss) (c.as_slice-in-Ok-2.ensures.value ∙ sym c.as_slice-2.ensures.value))
     (ap (λ items. (c.args.log.now.generation, items)) (c.extend.ensures ∙ ap (λ (ks : List KeptRecord). c.args.log.now.records.items ++ ks) c.as_slice-in-Ok.ensures.value))
     (c.keep.ensures.count ∙ (ap (sum_by (λ (s : Span). s.count)) (planned c.args.lane.now.records.items c.as_slice.result.now c.in-Some.spans.items c.as_slice-in-Ok-2.result.now c.args.place c.args.len c.as_slice.ensures.value c.in-Some.ensures.some c.as_slice-in-Ok-2.ensures.value)
-        ∙ counts_words c.args.lane.now.records.items c.args.place c.args.len))
+    ∙ counts_words c.args.lane.now.records.items c.args.place c.args.len))
