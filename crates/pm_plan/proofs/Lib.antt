@@ -1,0 +1,5 @@
+pub mod Plans
+pub mod Flushing
+pub mod Persisting
+pub mod Dropping
+pub mod Going

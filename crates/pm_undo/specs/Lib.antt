@@ -1,0 +1,5 @@
+pub mod Spans
+pub mod Records
+pub mod Plans
+pub mod Working
+pub mod Undoing

@@ -1,0 +1,115 @@
+ghost use Rattle.std.specs.Prelude.{◌≡◌, ◌+◌, ◌-◌, ◌^◌, ◌<◌, ◌≤◌, false, ℕ, List, ◌∷◌, [], ◌++◌, length, IsTrue, IsNone, IfSome};
+ghost use Rattle.std.specs.List.{range_with_len};
+ghost use Rattle.pm_model.specs.Transaction.{records_of};
+ghost use Rattle.pm_model.specs.Items.{is_among};
+ghost use Rattle.pm_undo.specs.Spans.{words_in, spans_for, plan_of, AreSpansOf};
+
+use arrayvec::ArrayVec;
+use pm_layout::{OLD_WORDS, UNDO_SLOTS, WORD_BYTES};
+use pm_world::Span;
+
+/// The records that a range of bytes still needs, in rising order: each of one to four consecutive words that no record
+/// has yet. Nothing exactly where they are more than are free.
+pub fn plan(spans: &[Span], place: u64, len: u64) -> Option<ArrayVec<Span, 64>>
+    requires range { place + len < 2 ^ 64 }
+    requires spans { length spans.now ≤ 64 }
+    ensures some { IfSome result (λ new. new.items ≡ plan_of spans.now place len) }
+    ensures room { IfSome result (λ new. length spans.now + length new.items ≤ 64) }
+    ensures none { IsNone result → 64 < length spans.now + length (plan_of spans.now place len) }
+{
+    if len == 0 {
+        return Some(ArrayVec::new());
+    }
+    let first = place / WORD_BYTES;
+    let last = (place + len - 1) / WORD_BYTES;
+    plan_words(spans, first, last + 1)
+}
+
+/// The same for the words from `first` on up to `end`.
+fn plan_words(spans: &[Span], first: u64, end: u64) -> Option<ArrayVec<Span, 64>>
+    requires order { first ≤ end }
+    requires spans { length spans.now ≤ 64 }
+    ensures some { IfSome result (λ new. new.items ≡ spans_for spans.now (range_with_len first (end - first))) }
+    ensures room { IfSome result (λ new. length spans.now + length new.items ≤ 64) }
+    ensures none { IsNone result → 64 < length spans.now + length (spans_for spans.now (range_with_len first (end - first))) }
+{
+    let free = UNDO_SLOTS as usize - spans.len();
+    let mut planned = ArrayVec::new();
+    for word in first..end {
+        if is_recorded(spans, word) {
+            continue;
+        }
+        if !add(&mut planned, word, free) {
+            return None;
+        }
+    }
+    Some(planned)
+}
+
+/// Whether the record has the word.
+fn has(span: Span, word: u64) -> bool
+    ensures yes { IsTrue result → (span.word ≤ word) × (word - span.word < span.count) }
+    ensures no_ { result ≡ false → span.word ≤ word → span.count ≤ word - span.word }
+{
+    span.word <= word && word - span.word < span.count
+}
+
+/// Whether one of the records has the word.
+fn is_recorded(spans: &[Span], word: u64) -> bool
+    ensures { result ≡ is_among (words_in spans.now) word }
+{
+    for span in spans {
+        if has(*span, word) {
+            return true;
+        }
+    }
+    false
+}
+
+/// Whether the word follows on the record, and there is room for it.
+fn continues(span: Span, word: u64) -> bool
+    ensures yes { IsTrue result → (span.word + span.count ≡ word) × (span.count < 4) }
+    ensures no_ { result ≡ false → span.word + span.count ≡ word → 4 ≤ span.count }
+{
+    span.count < OLD_WORDS && span.word.checked_add(span.count) == Some(word)
+}
+
+/// Begins a record of its own with the word. False where it would be one more than `most`.
+fn begin(planned: &mut ArrayVec<Span, 64>, word: u64, most: usize) -> bool
+    requires most { most ≤ 64 }
+    requires few { length planned.old.items ≤ most }
+    ensures begun { IsTrue result → planned.new.items ≡ planned.old.items ++ record { word = word; count = 1 } ∷ [] }
+    ensures few { IsTrue result → length planned.new.items ≤ most }
+    ensures full { result ≡ false → length planned.old.items ≡ most }
+{
+    if planned.len() == most {
+        return false;
+    }
+    planned.push(Span { word, count: 1 });
+    true
+}
+
+/// Adds a word to the records of some words, each lower than it: to the last of them where it follows on it, or as a record of
+/// its own. False where it would be one record more than `most`.
+fn add(planned: &mut ArrayVec<Span, 64>, word: u64, most: usize) -> bool
+    requires most { most ≤ 64 }
+    requires few { length planned.old.items ≤ most }
+    ensures added { (words : List ℕ) → AreSpansOf planned.old.items words → IsTrue result → AreSpansOf planned.new.items (words ++ word ∷ []) }
+    ensures few { IsTrue result → length planned.new.items ≤ most }
+    ensures many { (words : List ℕ) → AreSpansOf planned.old.items words → result ≡ false → most < length (records_of (words ++ word ∷ [])) }
+{
+    match planned.pop() {
+        Some(last) if continues(last, word) => {
+            planned.push(Span {
+                count: last.count + 1,
+                ..last
+            });
+            true
+        }
+        Some(last) => {
+            planned.push(last);
+            begin(planned, word, most)
+        }
+        None => begin(planned, word, most),
+    }
+}
