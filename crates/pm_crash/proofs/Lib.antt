@@ -35,3 +35,6 @@ pub mod OwnBlocks
 pub mod SceneSteps
 pub mod Missing
 pub mod FullZones
+pub mod OpenRuns
+pub mod Looks
+pub mod Simulation

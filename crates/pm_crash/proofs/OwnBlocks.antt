@@ -42,9 +42,9 @@ module _ (v : View) (class : ℕ → ℕ) (s : State) (d : Diff) (header : Heade
 
   free : (B C : Block) (line : ℕ) → Makes d B → AllocatedHas sh s' (record { first = λ c. c; class = class }) B line
       → AllocatedHas sh s (record { first = λ c. c; class = class }) C line → ⊥
-  free (Small c i) C line y a b = p.apart (Small c i) C line
+  free (Small c i) C line y a b = p.apart (Small c i) C line (m.makes (Small c i) y)
       (record { mine = m.makes (Small c i) y; has = subst (λ n. IsInSmall sh n c i line) (same_class c i y) a.has }) b
-  free (Big f) C line y a b = p.apart (Big f) C line
+  free (Big f) C line y a b = p.apart (Big f) C line (m.makes (Big f) y)
       (record {
         mine = m.makes (Big f) y;
         has = let t = a.has in (t.0, ap (λ n. in_span f n t.0) (sym (m.spans f y)) ∙ t.1, t.2);
@@ -71,7 +71,7 @@ module _ (v : View) (class : ℕ → ℕ) (s : State) (d : Diff) (header : Heade
         let fit = run_fits (class c) i inside in
         let next = next_times (class c) i in
         let before : ℕ = class c * i in
-        p.apart (Big f) (Small c i) (line_of_chunk sh c + 1 + class c * i)
+        p.apart (Big f) (Small c i) (line_of_chunk sh c + 1 + class c * i) (m.makes (Big f) y)
         (own (line_of_chunk sh c + 1 + class c * i) (record { from = omega arith; to = omega arith }))
         (record { allocated = b.2; has = record { from = omega arith; to = omega arith } }))
 
@@ -89,7 +89,7 @@ module _ (v : View) (class : ℕ → ℕ) (s : State) (d : Diff) (header : Heade
     no_huge t =
         let some = (g.whole c in_range none_before t).some in
         let n : ℕ = val (s (Descr c)) 8 56 in
-        p.apart (Big f) (Big c) (line_of_chunk sh c)
+        p.apart (Big f) (Big c) (line_of_chunk sh c) (m.makes (Big f) y)
         (own (line_of_chunk sh c) (record { from = omega arith; to = omega arith }))
         (record {
           allocated = t;

@@ -16,3 +16,6 @@ pub mod Edits
 pub mod Facts
 pub mod OwnBlocks
 pub mod Scenes
+pub mod OpenRuns
+pub mod Looks
+pub mod Sim
