@@ -38,3 +38,4 @@ pub mod FullZones
 pub mod OpenRuns
 pub mod Looks
 pub mod Simulation
+pub mod OwnEntries

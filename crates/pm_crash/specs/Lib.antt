@@ -19,3 +19,4 @@ pub mod Scenes
 pub mod OpenRuns
 pub mod Looks
 pub mod Sim
+pub mod Looked
