@@ -39,3 +39,4 @@ pub mod OpenRuns
 pub mod Looks
 pub mod Simulation
 pub mod OwnEntries
+pub mod KnownWords

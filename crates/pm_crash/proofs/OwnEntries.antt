@@ -57,17 +57,17 @@ not_from_false : (b : Bool) → b ≡ false → not b ≡ true
 not_from_false b e = ap not e
 
 -- a word of a run that is not its bitmap
-changed_word : (v : View) (d : Diff) (c w : ℕ) → 0 < w → ChangesAt v d (InRun c w) → IsChanged v d (InRun c w)
+pub changed_word : (v : View) (d : Diff) (c w : ℕ) → 0 < w → ChangesAt v d (InRun c w) → IsChanged v d (InRun c w)
 changed_word v d c zero low y = absurd (omega arith)
 changed_word v d c (suc w) low y = y
 
-chunk_in : Place → ℕ
+abbrev pub chunk_in : Place → ℕ
 chunk_in (InRun c w) = c
 chunk_in (InHuge c w) = c
 chunk_in (Descr c) = c
 chunk_in RootWord = 0
 
-word_in : Place → ℕ
+abbrev pub word_in : Place → ℕ
 word_in (InRun c w) = w
 word_in (InHuge c w) = w
 word_in (Descr c) = 0

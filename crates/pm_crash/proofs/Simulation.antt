@@ -30,7 +30,7 @@ now_is v pool = told_apart v.call (idle no_pool (pending_of v.entries)) pool poo
 
 -- ---- A LANE THAT KNOWS NO LESS agrees with no more bits
 
-sees_so : (v : View) (s : State) (p : Place) (b : ℕ) → sees (geometry_of v) s (sight_of v).hold p b ≡ sees_at v p b
+pub sees_so : (v : View) (s : State) (p : Place) (b : ℕ) → sees (geometry_of v) s (sight_of v).hold p b ≡ sees_at v p b
 sees_so v s (InRun c w) b = refl
 sees_so v s (InHuge c w) b = refl
 sees_so v s (Descr c) b = refl

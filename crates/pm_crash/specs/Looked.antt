@@ -90,15 +90,18 @@ pub record IsObject (v : View) (entries : List Entry) (B : Block) : Type 0 where
   pub stands : Stands v entries B
   pub whole : IsWholeTo v B
 
--- THE LANE KNOWS A BIT as its call has it: the call gives it, or the lane saw it so before
-abbrev pub KnowsBit : View → List Entry → Place → ℕ → Bool → Type 0
-KnowsBit v entries p b y = (change_so_far v entries p b ≡ Some y)
-    ⊎ ((change_so_far v entries p b ≡ None) × (sees_at v p b ≡ true) × (bit_before v p b ≡ Some y))
+-- THE LANE KNOWS A BIT of a block as its call has it: the call gives it, or the lane saw it so before
+-- in a block that it found
+abbrev pub KnowsBit : View → List Entry → Block → Place → ℕ → Bool → Type 0
+KnowsBit v entries B p b y = (change_so_far v entries p b ≡ Some y)
+    ⊎ ((change_so_far v entries p b ≡ None) × (has_found v B ≡ true)
+    × (given (turn (change_so_far v entries) B) ≡ false)
+    × (sees_at v p b ≡ true) × (bit_before v p b ≡ Some y))
 
--- and word k of a block
+-- and word k of it
 pub record KnowsWord (v : View) (entries : List Entry) (B : Block) (k x : ℕ) : Type 0 where
   pub small : x < 2 ^ 64
-  pub bits : (b : ℕ) → b < 64 → KnowsBit v entries (word_place v B k) b (bit x b)
+  pub bits : (b : ℕ) → b < 64 → KnowsBit v entries B (word_place v B k) b (bit x b)
 
 -- ---- WHAT WAS LOOKED AT, as a pool and its objects
 
