@@ -40,3 +40,4 @@ pub mod Looks
 pub mod Simulation
 pub mod OwnEntries
 pub mod KnownWords
+pub mod Looked

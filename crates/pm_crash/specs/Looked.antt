@@ -1,13 +1,17 @@
 -- WHAT A LANE AT WORK KNOWS of blocks, objects and the root, with no bits in it; and the first refusal
 -- of an operation by its lists and by what it looked at.
-use Rattle.std.specs.Prelude.{◌≡◌, ◌⊎◌, ℕ, zero, suc, ◌+◌, ◌-◌, ◌*◌, ◌/◌, ◌%◌, ◌^◌, ◌<◌, ◌≤◌, Bool, true, false, List, Option, None, Some}
+use Rattle.std.specs.Prelude.{◌≡◌, ◌⊎◌, ℕ, zero, suc, ◌+◌, ◌-◌, ◌*◌, ◌/◌, ◌%◌, ◌^◌, ◌<◌, ◌≤◌, Bool, true, false, Contains, List, map, take, drop, Option, None, Some}
 use Rattle.std.specs.Option.{option_map}
 use Rattle.pm_layout.specs.Chunks.{chunks_of}
 use Rattle.pm_layout.specs.Sizes.{blocks_of}
 use Rattle.pm_objects.specs.declared.calls.Operation.{Operation}
 use Rattle.pm_objects.specs.declared.refusal.Refusal.{Refusal}
-use Rattle.pm_model.specs.Items.{Items, PlainPool, new_item}
-use Rattle.pm_model.specs.Refusals.{Seen}
+use Rattle.pm_objects.specs.declared.ids.Oid.{Oid}
+use Rattle.pm_objects.specs.declared.pool.PoolView.{PoolView}
+use Rattle.pm_header.specs.declared.header.Header.{Header}
+use Rattle.pm_model.specs.Items.{Items, PlainPool, bytes_at, bytes_of, is_root, new_item, plain_pool}
+use Rattle.pm_model.specs.Refusals.{Seen, is_not_held}
+use Rattle.pm_model.specs.Transaction.{covered_words, is_gone}
 use Rattle.pm_view.specs.Claims.{class, first}
 use Rattle.pm_view.specs.Entries.{Entry, turn}
 use Rattle.pm_view.specs.Places.{Place, InRun, InHuge, Descr, RootWord, Block, Small, Big, Root, in_span}
@@ -15,12 +19,14 @@ use Rattle.pm_view.specs.View.{View}
 use Rattle.pm_view.specs.Views.{value_in}
 use Rattle.pm_world.specs.Lanes.{is_occupancy}
 use Rattle.pm_world.specs.Memory.{bit}
-use Rattle.pm_world.specs.States.{Diff, given}
+use Rattle.pm_world.specs.States.{State, Diff, given}
+use Rattle.pm_crash.specs.Looks.{ids_freed, ids_sized}
 use Rattle.pm_crash.specs.Footprints.{bit_before, has_found}
 use Rattle.pm_crash.specs.HeapChanges.{Frees, Makes}
 use Rattle.pm_crash.specs.OpenRuns.{no_pool}
 use Rattle.pm_crash.specs.OwnBlocks.{own_span}
-use Rattle.pm_crash.specs.Sim.{change_so_far, is_kept_block, known_offset, sees_at, tx_with}
+use Rattle.pm_crash.specs.Sim.{Agrees, StandIn, bits_now, change_so_far, is_kept_block, known_offset, lists_of, sees_at, tx_with}
+use Rattle.pm_crash.specs.Spelled.{Holds}
 
 -- ---- WORDS OF A BLOCK
 
@@ -135,3 +141,50 @@ pub record KnowsSize (v : View) (entries : List Entry) (off : ℕ) : Type 0 wher
   pub size : ℕ
   pub knows : KnowsWord v entries block 1 size
   pub seen : size_seen v off ≡ Some size
+
+-- and of each object that the operation asks for, which it holds and did not free
+abbrev pub HasSizes : View → List Entry → Option ℕ → Operation → Type 0
+HasSizes v entries root op = (id : Oid) (write : Bool) → Contains (ids_sized (lists_of v) op) id
+    → is_not_held (tx_with v (pool_seen v root) (items_seen v)) write id ≡ false
+    → is_gone (lists_of v) id.off ≡ false → KnowsSize v entries id.off
+
+-- the root is as it was looked at, as far as the operation frees an object
+abbrev pub HasRoot : View → Option ℕ → Operation → PlainPool → Type 0
+HasRoot v root op pool = (id : Oid) → Contains (ids_freed (lists_of v) op) id
+    → is_not_held (tx_with v (pool_seen v root) (items_seen v)) true id ≡ false
+    → is_gone (lists_of v) id.off ≡ false → is_root pool.root id.off ≡ is_root root id.off
+
+-- IT IS THE MODEL'S FIRST REFUSAL, from whatever bits and whatever pool
+abbrev pub RefusalIs : Type 0
+RefusalIs = (v : View) (entries : List Entry) (seen : Seen) (root : Option ℕ) (op : Operation)
+    → Enters v entries → HasSizes v entries root op
+    → (kept : Bool) (classes : ℕ → ℕ) (s : State) (header : Header) (pool : PoolView) (copy : Items)
+    → Agrees classes v kept s → Holds v.fixed.shape classes s header pool
+    → header.id ≡ v.fixed.pool → StandIn v.fixed.shape classes (bits_now v entries s) copy
+    → HasRoot v root op (plain_pool pool)
+    → Rattle.pm_model.specs.Refusals.refusal_of seen (tx_with v (plain_pool pool) copy) op
+    ≡ refusal_by seen v root op
+
+-- ---- WHAT IS READ
+
+-- the lane knows the words that a range of an object covers. The words are given by their numbers
+pub record KnowsRange (v : View) (entries : List Entry) (off at len : ℕ) (words : ℕ → ℕ)
+    : Type 0 where
+  pub object : KnowsSize v entries off
+  pub inside : at + len ≤ object.size
+  pub knows : (i : ℕ) → Contains (covered_words (off + at) len) i
+      → KnowsWord v entries object.block (i - (off / 8 - 8)) (words i)
+
+-- the bytes of the range, by its words
+abbrev pub bytes_seen : (ℕ → ℕ) → ℕ → ℕ → ℕ → List ℕ
+bytes_seen words off at len =
+    take len (drop (at % 8) (Rattle.pm_words.specs.Words.bytes_of (map words (covered_words (off + at) len))))
+
+-- THEY ARE THE COPY'S, from whatever bits
+abbrev pub ReadIs : Type 0
+ReadIs = (v : View) (entries : List Entry) (off at len : ℕ) (words : ℕ → ℕ)
+    → Enters v entries → KnowsRange v entries off at len words
+    → (kept : Bool) (classes : ℕ → ℕ) (s : State) (header : Header) (pool : PoolView) (copy : Items)
+    → Agrees classes v kept s → Holds v.fixed.shape classes s header pool
+    → StandIn v.fixed.shape classes (bits_now v entries s) copy
+    → bytes_at at len (bytes_of copy off) ≡ bytes_seen words off at len
