@@ -41,3 +41,5 @@ pub mod Simulation
 pub mod OwnEntries
 pub mod KnownWords
 pub mod Looked
+pub mod OpenPools
+pub mod SimFacts

@@ -20,3 +20,4 @@ pub mod OpenRuns
 pub mod Looks
 pub mod Sim
 pub mod Looked
+pub mod SimFacts
