@@ -43,3 +43,4 @@ pub mod KnownWords
 pub mod Looked
 pub mod OpenPools
 pub mod SimFacts
+pub mod SimOps

@@ -129,10 +129,10 @@ sim_begins v call records = record { come = come } where
 -- ---- A LANE THAT TELLS NOTHING
 
 module _ (v next : View) (keeps : Keeps v next) where
-  header_back : (header : Header) → header.id ≡ next.fixed.pool → header.id ≡ v.fixed.pool
+  pub header_back : (header : Header) → header.id ≡ next.fixed.pool → header.id ≡ v.fixed.pool
   header_back header id = id ∙ ap (λ (f : Constants). f.pool) keeps.fixed
 
-  holds_back : (classes : ℕ → ℕ) (s : State) (header : Header) (pool : PoolView) → Holds next.fixed.shape classes s header pool → Holds v.fixed.shape classes s header pool
+  pub holds_back : (classes : ℕ → ℕ) (s : State) (header : Header) (pool : PoolView) → Holds next.fixed.shape classes s header pool → Holds v.fixed.shape classes s header pool
   holds_back classes s header pool = subst (λ (f : Constants). Holds f.shape classes s header pool) keeps.fixed
 
   same_pending : pending_of v.entries ≡ pending_of next.entries

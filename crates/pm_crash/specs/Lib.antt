@@ -21,3 +21,4 @@ pub mod Looks
 pub mod Sim
 pub mod Looked
 pub mod SimFacts
+pub mod SimOps

@@ -1,0 +1,116 @@
+-- WHAT AN OPERATION OWES, with no bits in it: that its first refusal is none, what it replies, and what
+-- becomes of the bits as the call has made them.
+use Rattle.std.specs.Prelude.{◌≡◌, ℕ, Bool, true, false, All, List, [], Option, None, Some}
+use Rattle.pm_header.specs.declared.header.Header.{Header}
+use Rattle.pm_objects.specs.declared.calls.Operation.{Operation}
+use Rattle.pm_objects.specs.declared.calls.Operation.TheVariants.{Begin, Lock, AddRange, Read, WriteReserved, DeferFree, SetValue, Cancel, Abort}
+use Rattle.pm_objects.specs.declared.calls.Want.{Want}
+use Rattle.pm_objects.specs.declared.history.Value.{Value}
+use Rattle.pm_objects.specs.declared.history.Value.TheVariants.{Bytes, Refused}
+use Rattle.pm_objects.specs.declared.pool.PoolView.{PoolView}
+use Rattle.pm_objects.specs.declared.refusal.Refusal.{Refusal}
+use Rattle.pm_model.specs.Inside.{Ran, is_action, is_inside, is_kept_by, is_untraced, wants_of}
+use Rattle.pm_model.specs.Items.{plain_pool}
+use Rattle.pm_model.specs.Refusals.{is_first_lock}
+use Rattle.pm_view.specs.Entries.{Entry}
+use Rattle.pm_view.specs.Places.{Block}
+use Rattle.pm_view.specs.View.{View}
+use Rattle.pm_world.specs.States.{State}
+use Rattle.pm_crash.specs.Looked.{Enters, HasRoot, HasSizes, IsObject, KnowsRange, bytes_seen, refusal_by}
+use Rattle.pm_crash.specs.Sim.{Agrees, Grows, MayTell, SameBits, Sim, Tells, known_offset, lists_of}
+use Rattle.pm_crash.specs.Spelled.{Holds}
+
+-- the root was looked at, as far as the operation frees an object: so it is in all bits that the lane
+-- agrees with
+abbrev pub KnowsRoot : View → Option ℕ → Operation → Type 0
+KnowsRoot v root op = (kept : Bool) (classes : ℕ → ℕ) (s : State) (header : Header) (pool : PoolView)
+    → Agrees classes v kept s → Holds v.fixed.shape classes s header pool
+    → HasRoot v root op (plain_pool pool)
+
+-- WHAT THE LANE LOOKED AT for an operation: sizes and the root
+pub record Looks (v : View) (entries : List Entry) (root : Option ℕ) (op : Operation) : Type 0 where
+  pub enters : Enters v entries
+  pub sizes : HasSizes v entries root op
+  pub knows_root : KnowsRoot v root op
+
+-- ---- OPERATIONS THAT LEAVE THE COPY, and make or reserve no object
+
+abbrev pub leaves_copy : Operation → Bool
+leaves_copy (Begin wants) = true
+leaves_copy (Lock want) = true
+leaves_copy (AddRange id at len) = true
+leaves_copy (Read id at len) = true
+leaves_copy (WriteReserved id at bytes) = true
+leaves_copy (DeferFree id) = true
+leaves_copy (SetValue id at value) = true
+leaves_copy Cancel = true
+leaves_copy op = false
+
+-- what they reply: bytes that the lane knows, or nothing
+abbrev pub RepliesBy : View → List Entry → Operation → Option Value → Type 0
+RepliesBy v entries (Read id at len) reply = (words : ℕ → ℕ)
+    × KnowsRange v entries id.off at len words
+    × (reply ≡ Some (Bytes (bytes_seen words id.off at len)))
+RepliesBy v entries op reply = reply ≡ None
+
+-- an object is there to the lane
+pub record Finds (v : View) (entries : List Entry) (off : ℕ) : Type 0 where
+  pub block : Block
+  pub at : known_offset v block ≡ off
+  pub object : IsObject v entries block
+
+pub record Extends (v : View) (entries : List Entry) (next : View) (entries' : List Entry)
+    (root : Option ℕ) (ran : Ran) : Type 0 where
+  pub leaves : leaves_copy ran.operation ≡ true
+  pub looks : Looks v entries root ran.operation
+  pub unrefused : refusal_by ran.seen v root ran.operation ≡ None
+  pub replies : RepliesBy v entries ran.operation ran.reply
+  -- each object of which it took a first lock is there
+  pub enters : Enters next entries'
+  pub there : All (λ (want : Want). is_first_lock (lists_of v) want ≡ true
+      → Finds next entries' want.id.off) (wants_of ran.operation)
+  pub same : SameBits v entries next entries'
+
+abbrev pub SimExtends : Type 0
+SimExtends = (v next : View) (entries entries' : List Entry) (root : Option ℕ) (ran : Ran)
+    → Sim v entries → Tells v next ran → MayTell v
+    → ((kept : Bool) → Grows v (is_kept_by ran.operation kept) next kept)
+    → Extends v entries next entries' root ran → Sim next entries'
+
+-- ---- REFUSED OPERATIONS, and abort
+
+-- an operation on the pending list alone leaves all as it was; any other leaves nothing of the call
+abbrev pub IsLeft : View → List Entry → View → List Entry → Bool → Type 0
+IsLeft v entries next entries' true = SameBits v entries next entries'
+IsLeft v entries next entries' false = (next.log.records ≡ []) × (entries' ≡ [])
+
+pub record IsRefusedBy (v : View) (entries : List Entry) (next : View) (entries' : List Entry)
+    (root : Option ℕ) (ran : Ran) : Type 0 where
+  pub inside : is_inside ran.operation ≡ true
+  pub looks : Looks v entries root ran.operation
+  pub refusal : Refusal
+  pub first : refusal_by ran.seen v root ran.operation ≡ Some refusal
+  pub traced : is_untraced refusal ≡ false
+  pub replied : ran.reply ≡ Some (Refused refusal)
+  pub left : IsLeft v entries next entries' (is_action ran.operation)
+
+abbrev pub SimRefuses : Type 0
+SimRefuses = (v next : View) (entries entries' : List Entry) (root : Option ℕ) (ran : Ran)
+    → Sim v entries → Tells v next ran → MayTell v
+    → ((kept : Bool) → Grows v (is_kept_by ran.operation kept) next kept)
+    → IsRefusedBy v entries next entries' root ran → Sim next entries'
+
+pub record IsAborted (v : View) (entries : List Entry) (next : View) (root : Option ℕ) (ran : Ran)
+    : Type 0 where
+  pub number : ℕ
+  pub aborts : ran.operation ≡ Abort number
+  pub replied : ran.reply ≡ None
+  pub looks : Looks v entries root ran.operation
+  pub unrefused : refusal_by ran.seen v root ran.operation ≡ None
+  pub records : next.log.records ≡ []
+
+abbrev pub SimAborts : Type 0
+SimAborts = (v next : View) (entries : List Entry) (root : Option ℕ) (ran : Ran)
+    → Sim v entries → Tells v next ran → MayTell v
+    → ((kept : Bool) → Grows v (is_kept_by ran.operation kept) next kept)
+    → IsAborted v entries next root ran → Sim next []
