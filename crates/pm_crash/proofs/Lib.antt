@@ -44,3 +44,5 @@ pub mod Looked
 pub mod OpenPools
 pub mod SimFacts
 pub mod SimOps
+pub mod SceneMoves
+pub mod SimWrites

@@ -26,7 +26,7 @@ use Rattle.pm_crash.proofs.Looked.{item_so, read_is, refusal_is}
 use Rattle.pm_crash.proofs.SceneSteps.{scenes_begin}
 use Rattle.pm_crash.proofs.Simulation.{agrees_back, header_back, holds_back, nothing_yet, same_bits, sim_goes_on}
 
-all_weaker : {A : Type 0} (P Q : A → Type 0) → ((x : A) → P x → Q x) → (xs : List A) → All P xs → All Q xs
+pub all_weaker : {A : Type 0} (P Q : A → Type 0) → ((x : A) → P x → Q x) → (xs : List A) → All P xs → All Q xs
 all_weaker P Q f xs all = all_of_each Q xs (each_weaker P Q xs f (each_of_all P xs all))
 
 -- ---- FACTS OF THE MODEL'S OPERATIONS
@@ -59,10 +59,10 @@ nothing_published Publish tx e = absurd (false≢true e)
 nothing_published op tx e = tt
 
 -- what is not refused is done
-is_done : (tx : Transaction) (ran : Ran) (kept : Bool) → is_inside ran.operation ≡ true → refusal_of ran.seen tx ran.operation ≡ None → IsDone tx ran.operation kept ran.reply → Replies tx ran kept
+pub is_done : (tx : Transaction) (ran : Ran) (kept : Bool) → is_inside ran.operation ≡ true → refusal_of ran.seen tx ran.operation ≡ None → IsDone tx ran.operation kept ran.reply → Replies tx ran kept
 is_done tx ran kept inside none done = record { inside = inside; reply = subst (λ o. MatchOption o (IsDone tx ran.operation kept ran.reply) (λ r. IsRefused r ran.reply)) (sym none) done }
 
-is_refused : (tx : Transaction) (ran : Ran) (kept : Bool) (r : Refusal) → is_inside ran.operation ≡ true → refusal_of ran.seen tx ran.operation ≡ Some r → IsRefused r ran.reply → Replies tx ran kept
+pub is_refused : (tx : Transaction) (ran : Ran) (kept : Bool) (r : Refusal) → is_inside ran.operation ≡ true → refusal_of ran.seen tx ran.operation ≡ Some r → IsRefused r ran.reply → Replies tx ran kept
 is_refused tx ran kept r inside is y = record { inside = inside; reply = subst (λ o. MatchOption o (IsDone tx ran.operation kept ran.reply) (λ q. IsRefused q ran.reply)) (sym is) y }
 
 module _ (v next : View) (entries entries' : List Entry) (root : Option ℕ) (ran : Ran) (tells : Tells v next ran)

@@ -1,24 +1,29 @@
 -- WHAT AN OPERATION OWES, with no bits in it: that its first refusal is none, what it replies, and what
 -- becomes of the bits as the call has made them.
-use Rattle.std.specs.Prelude.{◌≡◌, ℕ, Bool, true, false, All, List, [], Option, None, Some}
+use Rattle.std.specs.Prelude.{◌+◌, ◌⊎◌, ◌≢◌, ◌-◌, ◌/◌, ◌%◌, ◌^◌, ◌<◌, ◌≤◌, Contains, length, ◌≡◌, ℕ, Bool, true, false, All, List, [], Option, None, Some}
 use Rattle.pm_header.specs.declared.header.Header.{Header}
 use Rattle.pm_objects.specs.declared.calls.Operation.{Operation}
-use Rattle.pm_objects.specs.declared.calls.Operation.TheVariants.{Begin, Lock, AddRange, Read, WriteReserved, DeferFree, SetValue, Cancel, Abort}
+use Rattle.pm_objects.specs.declared.calls.Operation.TheVariants.{Begin, Lock, AddRange, Write, Increment, Read, WriteReserved, DeferFree, SetValue, Cancel, Abort}
 use Rattle.pm_objects.specs.declared.calls.Want.{Want}
 use Rattle.pm_objects.specs.declared.history.Value.{Value}
-use Rattle.pm_objects.specs.declared.history.Value.TheVariants.{Bytes, Refused}
+use Rattle.pm_objects.specs.declared.history.Value.TheVariants.{Bytes, Number, Refused}
 use Rattle.pm_objects.specs.declared.pool.PoolView.{PoolView}
 use Rattle.pm_objects.specs.declared.refusal.Refusal.{Refusal}
 use Rattle.pm_model.specs.Inside.{Ran, is_action, is_inside, is_kept_by, is_untraced, wants_of}
-use Rattle.pm_model.specs.Items.{plain_pool}
+use Rattle.pm_model.specs.Items.{number_bytes, number_of, plain_pool}
+use Rattle.pm_model.specs.Transaction.{covered_words}
+use Rattle.pm_words.specs.Words.{AreBytes}
+use Rattle.pm_objects.specs.declared.ids.Oid.{Oid}
 use Rattle.pm_model.specs.Refusals.{is_first_lock}
 use Rattle.pm_view.specs.Entries.{Entry}
-use Rattle.pm_view.specs.Places.{Block}
+use Rattle.pm_view.specs.Places.{Block, Place}
 use Rattle.pm_view.specs.View.{View}
+use Rattle.pm_world.specs.Memory.{bit}
 use Rattle.pm_world.specs.States.{State}
-use Rattle.pm_crash.specs.Looked.{Enters, HasRoot, HasSizes, IsObject, KnowsRange, bytes_seen, refusal_by}
-use Rattle.pm_crash.specs.Sim.{Agrees, Grows, MayTell, SameBits, Sim, Tells, known_offset, lists_of}
+use Rattle.pm_crash.specs.Looked.{Enters, HasRoot, HasSizes, IsObject, KnowsRange, KnowsSize, KnowsWord, bytes_seen, refusal_by, word_place}
+use Rattle.pm_crash.specs.Sim.{Agrees, change_so_far, Grows, MayTell, SameBits, Sim, Tells, known_offset, lists_of}
 use Rattle.pm_crash.specs.Spelled.{Holds}
+use Rattle.pm_crash.specs.Writes.{written_word}
 
 -- the root was looked at, as far as the operation frees an object: so it is in all bits that the lane
 -- agrees with
@@ -114,3 +119,50 @@ SimAborts = (v next : View) (entries : List Entry) (root : Option ℕ) (ran : Ra
     → Sim v entries → Tells v next ran → MayTell v
     → ((kept : Bool) → Grows v (is_kept_by ran.operation kept) next kept)
     → IsAborted v entries next root ran → Sim next []
+
+-- ---- A WRITE: bytes of an object are put in, in words that the lane knows
+
+-- the words that a range of an object covers have these bytes then, and all other bits stay
+pub record PutsBytes (v : View) (entries : List Entry) (next : View) (entries' : List Entry)
+    (off at : ℕ) (bytes : List ℕ) : Type 0 where
+  pub object : KnowsSize v entries off
+  pub inside : at + length bytes ≤ object.size
+  pub are_bytes : AreBytes bytes
+  -- the words before, by their numbers
+  pub words : ℕ → ℕ
+  pub knows : (i : ℕ) → Contains (covered_words (off + at) (length bytes)) i
+      → KnowsWord v entries object.block (i - (off / 8 - 8)) (words i)
+  pub small : (i : ℕ) → Contains (covered_words (off + at) (length bytes)) i
+      → written_word (off + at) bytes i (words i) < 2 ^ 64
+  pub puts : (i b : ℕ) → Contains (covered_words (off + at) (length bytes)) i → b < 64
+      → change_so_far next entries' (word_place v object.block (i - (off / 8 - 8))) b
+      ≡ Some (bit (written_word (off + at) bytes i (words i)) b)
+  pub others : (p : Place) (b : ℕ)
+      → ((i : ℕ) → Contains (covered_words (off + at) (length bytes)) i
+      → p ≢ word_place v object.block (i - (off / 8 - 8)))
+      → change_so_far next entries' p b ≡ change_so_far v entries p b
+
+-- which bytes the operation puts where, with its reply
+abbrev pub Puts : View → List Entry → Ran → ℕ → ℕ → List ℕ → Type 0
+Puts v entries ran off at bytes =
+    ((id : Oid) × (ran.operation ≡ Write id at bytes) × (id.off ≡ off) × (ran.reply ≡ None))
+    ⊎ ((id : Oid) × (by : ℕ) × (words : ℕ → ℕ) × (ran.operation ≡ Increment id at by)
+    × (id.off ≡ off) × KnowsRange v entries off at 8 words
+    × (bytes ≡ number_bytes ((number_of (bytes_seen words off at 8) + by) % 2 ^ 64))
+    × (ran.reply ≡ Some (Number ((number_of (bytes_seen words off at 8) + by) % 2 ^ 64))))
+
+pub record IsWrite (v : View) (entries : List Entry) (next : View) (entries' : List Entry)
+    (root : Option ℕ) (ran : Ran) : Type 0 where
+  pub looks : Looks v entries root ran.operation
+  pub unrefused : refusal_by ran.seen v root ran.operation ≡ None
+  pub off : ℕ
+  pub at : ℕ
+  pub bytes : List ℕ
+  pub is : Puts v entries ran off at bytes
+  pub puts : PutsBytes v entries next entries' off at bytes
+
+abbrev pub SimWrites : Type 0
+SimWrites = (v next : View) (entries entries' : List Entry) (root : Option ℕ) (ran : Ran)
+    → Sim v entries → Tells v next ran → MayTell v
+    → ((kept : Bool) → Grows v (is_kept_by ran.operation kept) next kept)
+    → IsWrite v entries next entries' root ran → Sim next entries'
