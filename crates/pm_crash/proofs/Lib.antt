@@ -46,3 +46,4 @@ pub mod SimFacts
 pub mod SimOps
 pub mod SceneMoves
 pub mod SimWrites
+pub mod SceneBlocks

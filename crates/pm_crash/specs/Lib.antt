@@ -22,3 +22,4 @@ pub mod Sim
 pub mod Looked
 pub mod SimFacts
 pub mod SimOps
+pub mod SimBlocks
