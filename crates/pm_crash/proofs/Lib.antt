@@ -47,3 +47,4 @@ pub mod SimOps
 pub mod SceneMoves
 pub mod SimWrites
 pub mod SceneBlocks
+pub mod NowBlocks
