@@ -48,3 +48,4 @@ pub mod SceneMoves
 pub mod SimWrites
 pub mod SceneBlocks
 pub mod NowBlocks
+pub mod SimBlocks
