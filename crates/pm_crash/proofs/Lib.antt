@@ -49,3 +49,5 @@ pub mod SimWrites
 pub mod SceneBlocks
 pub mod NowBlocks
 pub mod SimBlocks
+pub mod FreeBlocks
+pub mod SimAllocs

@@ -23,3 +23,4 @@ pub mod Looked
 pub mod SimFacts
 pub mod SimOps
 pub mod SimBlocks
+pub mod SimAllocs
