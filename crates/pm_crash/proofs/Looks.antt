@@ -47,43 +47,160 @@ module _ (tx : Transaction) (before : PlainPool) (copy looked : Items) (other : 
         (none_pass (λ a. is_not_held here true (id_of a)) xs held) (none_pass (λ a. is_gone tx (id_of a).off) xs stays)
 
   tests_alike : (seen : Seen) (op : Operation) → AreAlike tx op before other copy looked → SameTests (tests seen here op) (tests seen there op)
-  tests_alike seen (AddRange id at len) alike =
-      (refl, refl, λ a. (refl, refl, λ b. (refl, refl, λ held. (refl, refl, λ stays.
-      (refl, ends (AddRange id at len) alike id true (at + len) (only id) held stays, λ d. (refl, refl, λ e. tt))))))
-  tests_alike seen (Write id at bytes) alike =
-      (refl, refl, λ a. (refl, refl, λ b. (refl, refl, λ held. (refl, refl, λ stays.
-      (refl, ends (Write id at bytes) alike id true (at + length bytes) (only id) held stays, λ d. (refl, refl, λ e. tt))))))
-  tests_alike seen (Read id at len) alike =
-      (refl, refl, λ a. (refl, refl, λ b. (refl, refl, λ held. (refl, refl, λ stays.
-      (refl, ends (Read id at len) alike id false (at + len) (only id) held stays, λ d. tt)))))
-  tests_alike seen (Increment id at by) alike =
-      (refl, refl, λ a. (refl, refl, λ b. (refl, refl, λ held. (refl, refl, λ stays.
-      (refl, ends (Increment id at by) alike id false (at + 8) (only id) held stays, λ d.
-      (refl, refl, λ e. (refl, refl, λ f. (refl, refl, λ g. (refl, refl, λ h.
-      (refl, ends (Increment id at by) alike id false (at + 8) (only id) held stays, λ i. (refl, refl, λ j. tt)))))))))))
-  tests_alike seen (Free id) alike =
-      (refl, refl, λ a. (refl, refl, λ b. (refl, refl, λ held. (refl, refl, λ stays.
-      (refl, alike.roots id (only id) held stays, λ d. (refl, alike.listed id (only id) held stays, λ e. (refl, refl, λ f. tt)))))))
-  tests_alike seen Publish alike =
-      (refl, refl, λ a. (refl, refl, λ b. (refl, refl, λ held. (refl, refl, λ stays.
-      let frees : List Oid = tx.pending.frees in
-      let sets : List SetWord = tx.pending.sets in
-      let h = or_parts (list_any (is_not_held here true) frees) (list_any (λ (a : SetWord). is_not_held here true a.id) sets) held in
-      let l = or_parts (tx.pending.late || list_any (λ (id : Oid). is_gone tx id.off) frees) (list_any (λ (a : SetWord). is_gone tx a.id.off) sets) stays in
-      let s = or_parts tx.pending.late (list_any (λ (id : Oid). is_gone tx id.off) frees) l.0 in
-      let freed = held_each (λ (id : Oid). id) frees h.0 s.1 in
-      let set = held_each (λ (a : SetWord). a.id) sets h.1 l.1 in
-      (refl, same_any (λ (id : Oid). is_root before.root id.off) (λ (id : Oid). is_root other.root id.off) frees
-      (each_both (Contains frees) (λ (id : Oid). (is_not_held here true id ≡ false) × (is_gone tx id.off ≡ false)) (λ (id : Oid). is_root before.root id.off ≡ is_root other.root id.off) frees
-      (λ id named x. alike.roots id named x.0 x.1) (each_itself frees) freed), λ d.
-      (refl, same_any (λ (id : Oid). is_listed copy id.off) (λ (id : Oid). is_listed looked id.off) frees
-      (each_both (Contains frees) (λ (id : Oid). (is_not_held here true id ≡ false) × (is_gone tx id.off ≡ false)) (λ (id : Oid). is_listed copy id.off ≡ is_listed looked id.off) frees
-      (λ id named x. alike.listed id named x.0 x.1) (each_itself frees) freed), λ e.
-      (refl, same_any (passes_object copy) (passes_object looked) sets
-      (each_both (λ (a : SetWord). Contains (map (λ (a : SetWord). a.id) sets) a.id) (λ (a : SetWord). (is_not_held here true a.id ≡ false) × (is_gone tx a.id.off ≡ false)) (λ (a : SetWord). passes_object copy a ≡ passes_object looked a) sets
-      (λ a named x. ends Publish alike a.id true (a.off + 8) named x.0 x.1)
-      (each_unmap (Contains (map (λ (a : SetWord). a.id) sets)) (λ (a : SetWord). a.id) sets (each_itself (map (λ (a : SetWord). a.id) sets))) set), λ f.
-      (refl, refl, λ g. tt))))))))
+  tests_alike seen (AddRange id at len) alike = (
+    refl,
+    refl,
+    λ a. (
+      refl,
+      refl,
+      λ b. (
+        refl,
+        refl,
+        λ held. (
+          refl,
+          refl,
+          λ stays.
+              (refl, ends (AddRange id at len) alike id true (at + len) (only id) held stays, λ d. (refl, refl, λ e. tt)),
+        ),
+      ),
+    ),
+  )
+  tests_alike seen (Write id at bytes) alike = (
+    refl,
+    refl,
+    λ a. (
+      refl,
+      refl,
+      λ b. (
+        refl,
+        refl,
+        λ held. (
+          refl,
+          refl,
+          λ stays.
+              (refl, ends (Write id at bytes) alike id true (at + length bytes) (only id) held stays, λ d. (refl, refl, λ e. tt)),
+        ),
+      ),
+    ),
+  )
+  tests_alike seen (Read id at len) alike = (
+    refl,
+    refl,
+    λ a. (
+      refl,
+      refl,
+      λ b. (
+        refl,
+        refl,
+        λ held. (
+          refl,
+          refl,
+          λ stays.
+              (refl, ends (Read id at len) alike id false (at + len) (only id) held stays, λ d. tt),
+        ),
+      ),
+    ),
+  )
+  tests_alike seen (Increment id at by) alike = (
+    refl,
+    refl,
+    λ a. (
+      refl,
+      refl,
+      λ b. (
+        refl,
+        refl,
+        λ held. (
+          refl,
+          refl,
+          λ stays. (
+            refl,
+            ends (Increment id at by) alike id false (at + 8) (only id) held stays,
+            λ d. (
+              refl,
+              refl,
+              λ e. (
+                refl,
+                refl,
+                λ f. (
+                  refl,
+                  refl,
+                  λ g. (
+                    refl,
+                    refl,
+                    λ h.
+                        (refl, ends (Increment id at by) alike id false (at + 8) (only id) held stays, λ i. (refl, refl, λ j. tt)),
+                  ),
+                ),
+              ),
+            ),
+          ),
+        ),
+      ),
+    ),
+  )
+  tests_alike seen (Free id) alike = (
+    refl,
+    refl,
+    λ a. (
+      refl,
+      refl,
+      λ b. (
+        refl,
+        refl,
+        λ held. (
+          refl,
+          refl,
+          λ stays.
+              (refl, alike.roots id (only id) held stays, λ d. (refl, alike.listed id (only id) held stays, λ e. (refl, refl, λ f. tt))),
+        ),
+      ),
+    ),
+  )
+  tests_alike seen Publish alike = (
+    refl,
+    refl,
+    λ a. (
+      refl,
+      refl,
+      λ b. (
+        refl,
+        refl,
+        λ held. (
+          refl,
+          refl,
+          λ stays.
+              let frees : List Oid = tx.pending.frees in
+              let sets : List SetWord = tx.pending.sets in
+              let h = or_parts (list_any (is_not_held here true) frees) (list_any (λ (a : SetWord). is_not_held here true a.id) sets) held in
+              let l = or_parts (tx.pending.late || list_any (λ (id : Oid). is_gone tx id.off) frees) (list_any (λ (a : SetWord). is_gone tx a.id.off) sets) stays in
+              let s = or_parts tx.pending.late (list_any (λ (id : Oid). is_gone tx id.off) frees) l.0 in
+              let freed = held_each (λ (id : Oid). id) frees h.0 s.1 in
+              let set = held_each (λ (a : SetWord). a.id) sets h.1 l.1 in (
+                refl,
+                same_any (λ (id : Oid). is_root before.root id.off) (λ (id : Oid). is_root other.root id.off) frees
+                    (each_both (Contains frees) (λ (id : Oid). (is_not_held here true id ≡ false) × (is_gone tx id.off ≡ false)) (λ (id : Oid). is_root before.root id.off ≡ is_root other.root id.off) frees
+                    (λ id named x. alike.roots id named x.0 x.1) (each_itself frees) freed),
+                λ d. (
+                  refl,
+                  same_any (λ (id : Oid). is_listed copy id.off) (λ (id : Oid). is_listed looked id.off) frees
+                      (each_both (Contains frees) (λ (id : Oid). (is_not_held here true id ≡ false) × (is_gone tx id.off ≡ false)) (λ (id : Oid). is_listed copy id.off ≡ is_listed looked id.off) frees
+                      (λ id named x. alike.listed id named x.0 x.1) (each_itself frees) freed),
+                  λ e. (
+                    refl,
+                    same_any (passes_object copy) (passes_object looked) sets
+                        (each_both (λ (a : SetWord). Contains (map (λ (a : SetWord). a.id) sets) a.id) (λ (a : SetWord). (is_not_held here true a.id ≡ false) × (is_gone tx a.id.off ≡ false)) (λ (a : SetWord). passes_object copy a ≡ passes_object looked a) sets
+                        (λ a named x. ends Publish alike a.id true (a.off + 8) named x.0 x.1)
+                        (each_unmap (Contains (map (λ (a : SetWord). a.id) sets)) (λ (a : SetWord). a.id) sets (each_itself (map (λ (a : SetWord). a.id) sets))) set),
+                    λ f.
+                        (refl, refl, λ g. tt),
+                  ),
+                ),
+              ),
+        ),
+      ),
+    ),
+  )
   tests_alike seen op alike = same_tests (tests seen here op)
 
 pub refusals_look : RefusalsLook

@@ -174,8 +174,12 @@ module _ (r : ℕ) where
       let none = none_applies (tests seen tx Publish) e in
       let each = none_pass (λ (id : Oid). is_root tx.before.root id.off) tx.pending.frees none.1.1.1.1.0 in
       subst (λ w. RootSo Publish w tx) (sym y.value)
-      (record { root = h.root; before = h.before; copy = blocks_stay tx.pending.frees tx.pending.reserved tx.items
-      (Rattle.pm_model.proofs.Lists.each_weaker (λ (id : Oid). is_root tx.before.root id.off ≡ false) (λ (id : Oid). (r == id.off) ≡ false) tx.pending.frees (λ id n. not_root tx id.off h.root n) each) h.copy })
+      (record {
+        root = h.root;
+        before = h.before;
+        copy = blocks_stay tx.pending.frees tx.pending.reserved tx.items
+            (Rattle.pm_model.proofs.Lists.each_weaker (λ (id : Oid). is_root tx.before.root id.off ≡ false) (λ (id : Oid). (r == id.off) ≡ false) tx.pending.frees (λ id n. not_root tx id.off h.root n) each) h.copy;
+      })
   done_root seen (Begin wants) kept reply tx e y h = subst (λ w. RootSo (Begin wants) w tx) (sym y.value) (record { root = h.root; before = h.before; copy = h.copy })
   done_root seen (Lock want) kept reply tx e y h = subst (λ w. RootSo (Lock want) w tx) (sym y.value) (record { root = h.root; before = h.before; copy = h.copy })
   done_root seen (AddRange id at len) kept reply tx e y h = subst (λ w. RootSo (AddRange id at len) w tx) (sym y.value) (record { root = h.root; before = h.before; copy = h.copy })

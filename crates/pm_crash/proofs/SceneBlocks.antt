@@ -95,10 +95,12 @@ module _ (at : Block → Lines) (w : ℕ → ℕ) where
         from = λ C e. (and_parts (among C) (not (same o.block C)) e).0;
         stay = λ C a ne. and_from (among C) (not (same o.block C)) a (not_true (same o.block C) (false_from_ne_true (same o.block C) (λ e. ne (sym (same_true o.block C e)))));
       }))) once.1
-      (λ p there. let q = goes p (later_member o olds p there) in
-      (and_from (among p.block) (not (same o.block p.block)) q.0
-      (not_true (same o.block p.block) (false_from_ne_true (same o.block p.block) (λ e.
-      both_ways (is_old olds o.block) once.0 (found olds p there o.block (sym (same_true o.block p.block e)))))), q.1))
+      (λ p there. let q = goes p (later_member o olds p there) in (
+        and_from (among p.block) (not (same o.block p.block)) q.0
+            (not_true (same o.block p.block) (false_from_ne_true (same o.block p.block) (λ e.
+            both_ways (is_old olds o.block) once.0 (found olds p there o.block (sym (same_true o.block p.block e)))))),
+        q.1,
+      ))
     where
       found : (olds : List Old) (p : Old) → Contains olds p → (B : Block) → p.block ≡ B → is_old olds B ≡ true
       found olds p there B e = Rattle.pm_crash.proofs.NoHeapFault.member_passes (λ (o : Old). same o.block B) olds p there (subst (λ D. same p.block D ≡ true) e (same_refl p.block))

@@ -43,8 +43,7 @@ word_at sh classes u lies B k (SmallIn c i inside index has e) low =
     let place : lies.place ≡ 8 * chunk_word sh.lanes c + 64 * (1 + m) = ap (λ (l : Lines). l.place) e in
     let lines : lies.lines ≡ classes c = ap (λ (l : Lines). l.lines) e in
     let is : lies.place / 8 + k ≡ chunk_word sh.lanes c + r = omega arith in
-    let chunk = chunk_is sh c in
-    (
+    let chunk = chunk_is sh c in (
       ap (words_by sh classes u) is ∙ (chunk_spelled sh classes u c r inside (omega arith) ∙ ap (λ p. number (u p)) (cond-true (has_blocks u c) (InRun c r) (InHuge c r) has)),
       ap (λ n. n + r) chunk ∙ sym is,
     )
@@ -53,8 +52,7 @@ word_at sh classes u lies B k (BigIn f n inside zone none e) low =
     let lines : lies.lines ≡ 64 * n = ap (λ (l : Lines). l.lines) e in
     let g : ℕ = f + k / 512 in
     let is : lies.place / 8 + k ≡ chunk_word sh.lanes g + k % 512 = omega arith in
-    let chunk = chunk_is sh g in
-    (
+    let chunk = chunk_is sh g in (
       ap (words_by sh classes u) is ∙ (chunk_spelled sh classes u g (k % 512) (omega arith) (omega arith)
           ∙ ap (λ p. number (u p)) (cond-false (has_blocks u g) (InRun g (k % 512)) (InHuge g (k % 512)) (none g (omega arith) (omega arith)))),
       ap (λ q. q + k % 512) chunk ∙ sym is,

@@ -199,8 +199,10 @@ module _ (v n : View) (entries entries' : List Entry) (olds : List Old) (news : 
       (λ (z : given (turn d' C) ≡ false).
       let old : is_allocated sh s C ≡ true = sym (over_none (turn d' C) (is_allocated sh s C) z) ∙ (sym (now_so C o) ∙ a) in
       cb.apart B C line (new_makes B e) (record { allocated = blocks.there_so next entries' kept classes s header pool holds x' c.enters B t' b; has = mine }) old
-      (record { allocated = blocks.there_so next entries' kept classes s header pool holds x' c.enters C s old;
-        has = subst (λ q. IsLineOf sh G q C line) (blocks.chunks_stay next entries' kept classes s header pool holds x' c.enters C z) its }))
+      (record {
+        allocated = blocks.there_so next entries' kept classes s header pool holds x' c.enters C s old;
+        has = subst (λ q. IsLineOf sh G q C line) (blocks.chunks_stay next entries' kept classes s header pool holds x' c.enters C z) its;
+      }))
       (λ z. ⊎_elim
       (λ (m : turn d' C ≡ Some true). c.apart B C line e m ne (to_lane B line (new_makes B e) mine) (to_lane C line m its))
       (λ (m : turn d' C ≡ Some false). both_ways (is_allocated sh t' C) (now_so C o ∙ ap (λ y. over y (is_allocated sh s C)) m) a) z)

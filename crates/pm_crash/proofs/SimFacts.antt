@@ -104,8 +104,7 @@ module _ (v : View) (sim : Sim v v.log.entries) (y : IsOver v) (classes : ℕ �
       let many = (words_so v v.log.entries true classes s header pool holds agrees y.enters copy came.stands B z.object).0 in
       let fits = z.fits in
       let lines : block_lines (class_of (size_in w b)) ≡ b.lines = ap (λ n. block_lines (class_of n)) size ∙ (let q : ℕ = block_lines (class_of z.size) in omega arith) in
-      let some = z.some in let most = z.most in
-      (
+      let some = z.some in let most = z.most in (
         and_from (nat_le 1 (size_in w b) && nat_le (size_in w b) 262080 && block_lines (class_of (size_in w b)) == b.lines && w (b.place / 8 + 6) == 0) (w (b.place / 8 + 7) == 0)
             (and_from (nat_le 1 (size_in w b) && nat_le (size_in w b) 262080 && block_lines (class_of (size_in w b)) == b.lines) (w (b.place / 8 + 6) == 0)
             (and_from (nat_le 1 (size_in w b) && nat_le (size_in w b) 262080) (block_lines (class_of (size_in w b)) == b.lines)
