@@ -51,3 +51,4 @@ pub mod NowBlocks
 pub mod SimBlocks
 pub mod FreeBlocks
 pub mod SimAllocs
+pub mod SimCommits

@@ -40,13 +40,13 @@ use Rattle.pm_crash.proofs.Simulation.{sim_goes_on}
 use Rattle.pm_crash.proofs.Spelling.{number_is, with_block}
 
 -- no word of a block is a bitmap or a descriptor
-not_bitmap : (v : View) (B : Block) (c k : ℕ) → InRun c 0 ≢ word_place v B k
+pub not_bitmap : (v : View) (B : Block) (c k : ℕ) → InRun c 0 ≢ word_place v B k
 not_bitmap v (Small d i) c k e = let z : 0 ≡ 8 * (1 + Rattle.pm_view.specs.Claims.class v.claims d * i) + k = ap own.word_in e in
     let m : ℕ = Rattle.pm_view.specs.Claims.class v.claims d * i in absurd (omega arith)
 not_bitmap v (Big f) c k e = absurd cc
 not_bitmap v Root c k e = absurd cc
 
-not_descriptor : (v : View) (B : Block) (c k : ℕ) → Descr c ≢ word_place v B k
+pub not_descriptor : (v : View) (B : Block) (c k : ℕ) → Descr c ≢ word_place v B k
 not_descriptor v (Small d i) c k e = absurd cc
 not_descriptor v (Big f) c k e = absurd cc
 not_descriptor v Root c k e = absurd cc

@@ -24,3 +24,4 @@ pub mod SimFacts
 pub mod SimOps
 pub mod SimBlocks
 pub mod SimAllocs
+pub mod SimCommits
