@@ -52,3 +52,4 @@ pub mod SimBlocks
 pub mod FreeBlocks
 pub mod SimAllocs
 pub mod SimCommits
+pub mod Telling

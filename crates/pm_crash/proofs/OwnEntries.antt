@@ -13,7 +13,6 @@ use Rattle.pm_image.specs.Blocks.{chunk_word}
 use Rattle.pm_image.proofs.Rooms.{run_fits}
 use Rattle.pm_model.specs.Blocks.{Block as Placed}
 use Rattle.pm_model.specs.Pending.{blocks_reserved}
-use Rattle.pm_model.specs.Transaction.{Transaction}
 use Rattle.pm_view.specs.Claims.{class}
 use Rattle.pm_view.specs.Entries.{Entry, turn}
 use Rattle.pm_view.specs.Places.{Place, InRun, InHuge, Descr, RootWord, Block, Small, Big, Root}
@@ -21,12 +20,13 @@ use Rattle.pm_view.specs.View.{View}
 use Rattle.pm_world.specs.Lanes.{is_occupancy}
 use Rattle.pm_world.specs.States.{State, Diff, given, over, val}
 use Rattle.pm_world.proofs.Replays.{over_none}
+use Rattle.pm_crash.specs.Calls.{pending_after, pending_of}
 use Rattle.pm_crash.specs.Footprints.{has_found, has_own}
 use Rattle.pm_crash.specs.HeapChanges.{ChangesBlocks, Makes}
 use Rattle.pm_crash.specs.Looked.{ChangesAt, Enters, IsChanged, IsObject, Stands, word_place, words_in}
 use Rattle.pm_crash.specs.Objects.{IsGoodHeap, IsWhole, is_allocated, lines_of, offset_of}
 use Rattle.pm_crash.specs.OwnBlocks.{MakesOwnBlocks, own_span}
-use Rattle.pm_crash.specs.Sim.{Agrees, bits_now, blocks_kept, change_so_far, is_kept_block, known_offset, lists_of}
+use Rattle.pm_crash.specs.Sim.{made_after, Agrees, bits_now, blocks_kept, change_so_far, is_kept_block, known_offset}
 use Rattle.pm_crash.specs.Spelled.{Holds, has_blocks, number, words_by}
 use Rattle.pm_crash.proofs.ChangedHeaps as heaps
 use Rattle.pm_crash.proofs.ChangedHeaps.{next_times, option_cases}
@@ -36,22 +36,25 @@ use Rattle.pm_crash.proofs.OwnBlocks.{own_free}
 use Rattle.pm_crash.proofs.Spelling.{chunk_spelled, number_is, with_block}
 
 -- a block that the call made is to be an object, whatever becomes of what is pending
-made_is_kept : (p : Placed → Bool) (tx : Transaction) (kept : Bool) → list_any p (blocks_kept false tx) ≡ true → list_any p (blocks_kept kept tx) ≡ true
-made_is_kept p tx false e = e
-made_is_kept p tx true e = list_any-append p tx.made (blocks_reserved tx.pending)
-    ∙ or_left (list_any p tx.made) (list_any p (blocks_reserved tx.pending)) (⊎_elim
-    (λ (t : list_any p tx.made ≡ true). t)
+made_is_kept : (p : Placed → Bool) (v : View) (kept : Bool) → list_any p (blocks_kept false v) ≡ true → list_any p (blocks_kept kept v) ≡ true
+made_is_kept p v false e = e
+made_is_kept p v true e =
+    let made : List Placed = made_after v.call (pending_of v.entries) in
+    let reserved : List Placed = blocks_reserved (pending_after v.call (pending_of v.entries)) in
+    list_any-append p made reserved
+    ∙ or_left (list_any p made) (list_any p reserved) (⊎_elim
+    (λ (t : list_any p made ≡ true). t)
     (λ (f : false ≡ true). absurd (both_ways false refl f))
-    (or_cases (list_any p tx.made) false (sym (list_any-append p tx.made []) ∙ e)))
+    (or_cases (list_any p made) false (sym (list_any-append p made []) ∙ e)))
 
 pub kept_more : (v : View) (kept : Bool) (B : Block) → is_kept_block v false B ≡ true → is_kept_block v kept B ≡ true
 kept_more v kept B t =
     let p : Placed → Bool = λ b. b.off == known_offset v B in
-    let y = and_parts (has_own v B) (list_any p (blocks_kept false (lists_of v))) t in
-    and_from (has_own v B) (list_any p (blocks_kept kept (lists_of v))) y.0 (made_is_kept p (lists_of v) kept y.1)
+    let y = and_parts (has_own v B) (list_any p (blocks_kept false v)) t in
+    and_from (has_own v B) (list_any p (blocks_kept kept v)) y.0 (made_is_kept p v kept y.1)
 
 pub kept_is_own : (v : View) (kept : Bool) (B : Block) → is_kept_block v kept B ≡ true → has_own v B ≡ true
-kept_is_own v kept B t = (and_parts (has_own v B) (list_any (λ (b : Placed). b.off == known_offset v B) (blocks_kept kept (lists_of v))) t).0
+kept_is_own v kept B t = (and_parts (has_own v B) (list_any (λ (b : Placed). b.off == known_offset v B) (blocks_kept kept v)) t).0
 
 not_from_false : (b : Bool) → b ≡ false → not b ≡ true
 not_from_false b e = ap not e

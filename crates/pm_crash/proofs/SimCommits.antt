@@ -275,8 +275,7 @@ module _ (v next : View) (entries entries' : List Entry) (settings : List Settin
       → (has_block sh classes B ≡ true) × (offset_by sh classes B ≡ known_offset v B)
   gone_place (Small c i) o index g =
       let e = gone_class c i g in
-      let m : ℕ = class v.claims c * i in
-      (
+      let m : ℕ = class v.claims c * i in (
         and_from (nat_lt c (chunks_of sh)) (nat_lt i (blocks_of (classes c))) (and_parts (nat_lt c (chunks_of sh)) (nat_lt i 64) o).0
             (lt-ltb i (blocks_of (classes c)) (subst (λ n. i < blocks_of n) (sym e) (index c i refl))),
         ap (λ n. 8 * chunk_word sh.lanes c + 64 * (1 + n * i) + 64) e
@@ -286,9 +285,12 @@ module _ (v next : View) (entries entries' : List Entry) (settings : List Settin
   gone_place Root o index g = absurd (both_ways false refl o)
 
   stands_place : (C : Block) → is_allocated sh t C ≡ true → (has_block sh classes C ≡ true) × (offset_by sh classes C ≡ offset_in (lies C))
-  stands_place (Small c i) a = (and_from (nat_lt c (chunks_of sh)) (nat_lt i (blocks_of (classes c)))
-      (and_parts (nat_lt c (chunks_of sh)) (nat_lt i 64) (and_parts (is_occupancy sh (Small c i)) (t (InRun c 0) i) a).0).0
-      (lt-ltb i (blocks_of (classes c)) (own.run_inside v entries kept classes s header pool holds x en c i a)), refl)
+  stands_place (Small c i) a = (
+    and_from (nat_lt c (chunks_of sh)) (nat_lt i (blocks_of (classes c)))
+        (and_parts (nat_lt c (chunks_of sh)) (nat_lt i 64) (and_parts (is_occupancy sh (Small c i)) (t (InRun c 0) i) a).0).0
+        (lt-ltb i (blocks_of (classes c)) (own.run_inside v entries kept classes s header pool holds x en c i a)),
+    refl,
+  )
   stands_place (Big f) a = ((and_parts (nat_lt f (chunks_of sh)) (not (has_blocks t f) && t (Descr f) 1) a).0, refl)
   stands_place Root a = absurd (both_ways false refl a)
 

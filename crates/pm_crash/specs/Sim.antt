@@ -1,25 +1,31 @@
 -- A LANE AT WORK AGAINST THE PLAIN MODEL: from whatever bits are before its call, as far as it knows
 -- them, and whatever pool they hold, what it told leads the model to one transaction; and the copy of
 -- the objects in it is what stands in the bits as the call has made them so far.
-use Rattle.std.specs.Prelude.{◌≡◌, ◌⊎◌, ℕ, ◌+◌, ◌*◌, ◌==◌, ◌&&◌, ◌||◌, Bool, true, false, if◌then◌else◌, List, [], ◌∷◌, ◌++◌, map, None, Some}
+use Rattle.std.specs.Prelude.{◌≡◌, ◌⊎◌, ℕ, ◌+◌, ◌*◌, ◌==◌, ◌&&◌, ◌||◌, Bool, true, false, if◌then◌else◌, List, [], ◌∷◌, ◌++◌, map, Option, None, Some}
 use Rattle.std.specs.List.{list_any}
 use Rattle.pm_header.specs.declared.header.Header.{Header}
 use Rattle.pm_layout.specs.declared.shape.Shape.{Shape}
+use Rattle.pm_objects.specs.declared.calls.Operation.{Operation}
+use Rattle.pm_objects.specs.declared.calls.Operation.TheVariants.{Alloc, Publish}
+use Rattle.pm_objects.specs.declared.history.Value.{Value}
+use Rattle.pm_objects.specs.declared.history.Value.TheVariants.{Offset}
 use Rattle.pm_objects.specs.declared.pool.PoolView.{PoolView}
 use Rattle.pm_model.specs.Blocks.{Block as Placed}
 use Rattle.pm_model.specs.Inside.{Ran, Replies, after, is_kept_by}
 use Rattle.pm_model.specs.Items.{Items, PlainPool, plain_pool}
-use Rattle.pm_model.specs.Pending.{blocks_reserved}
+use Rattle.pm_model.specs.Pending.{Pending, blocks_reserved}
 use Rattle.pm_model.specs.Transaction.{Transaction, idle, is_working}
 use Rattle.pm_view.specs.Claims.{class, first, header_in, span}
 use Rattle.pm_view.specs.Entries.{Entry}
 use Rattle.pm_view.specs.Places.{Place, InRun, InHuge, Block, Small, Big}
-use Rattle.pm_view.specs.View.{View}
+use Rattle.pm_view.specs.Steps.Step.{Tell}
+use Rattle.pm_view.specs.View.{Told, View}
+use Rattle.pm_view.specs.Views as views
 use Rattle.pm_world.specs.BlockLines.{OwnHas}
 use Rattle.pm_world.specs.Lanes.{sees}
 use Rattle.pm_world.specs.Sights.{call_of, is_recorded, sight_of}
 use Rattle.pm_world.specs.States.{State, Call, Diff, after_diff, diff}
-use Rattle.pm_crash.specs.Calls.{pending_of, told_by}
+use Rattle.pm_crash.specs.Calls.{pending_after, pending_of, pending_with, told_by}
 use Rattle.pm_crash.specs.Footprints.{MayPrecedeBut, bit_before, geometry_of, has_found, has_own}
 use Rattle.pm_crash.specs.Objects.{is_allocated, lines_of}
 use Rattle.pm_crash.specs.OpenRuns.{AreReplies, after_told, no_pool, with_copy}
@@ -61,9 +67,21 @@ StandIn sh classes s items =
 
 -- ---- BLOCKS OF ITS OWN that are to be objects
 
+-- the blocks that an operation makes objects of, or is to: it stays so to the end of the call
+abbrev pub made_by : Operation → Option Value → Pending → List Placed
+made_by (Alloc size kind) (Some (Offset off)) p = record { off = off; size = size } ∷ []
+made_by Publish reply p = blocks_reserved p
+made_by op reply p = []
+
+unfoldable pub made_after : List Told → Pending → List Placed
+made_after [] p = []
+made_after (t ∷ told) p =
+    made_by t.operation t.reply p ++ made_after told (pending_with t.operation t.reply p)
+
 -- those that the call made; and those that are reserved, if what is pending is to be published
-abbrev pub blocks_kept : Bool → Transaction → List Placed
-blocks_kept kept tx = tx.made ++ (if kept then blocks_reserved tx.pending else [])
+abbrev pub blocks_kept : Bool → View → List Placed
+blocks_kept kept v = made_after v.call (pending_of v.entries)
+    ++ (if kept then blocks_reserved (pending_after v.call (pending_of v.entries)) else [])
 
 -- the offset of the object that may stand in a block, as the lane knows
 abbrev pub known_offset : View → Block → ℕ
@@ -71,7 +89,7 @@ known_offset v B = 64 * header_in v.fixed.shape v.claims B + 64
 
 abbrev pub is_kept_block : View → Bool → Block → Bool
 is_kept_block v kept B = has_own v B
-    && list_any (λ (b : Placed). b.off == known_offset v B) (blocks_kept kept (lists_of v))
+    && list_any (λ (b : Placed). b.off == known_offset v B) (blocks_kept kept v)
 
 -- the bits may be those before the call: what the lane found, recorded and knows is so, and these of
 -- its blocks are free
@@ -183,3 +201,8 @@ SimGoesOn = (v next : View) (entries entries' : List Entry) (ran : Ran) → Sim 
     → Came v entries (is_kept_by ran.operation kept) classes s (plain_pool pool)
     → Leads v entries next entries' ran kept classes s (plain_pool pool))
     → Sim next entries'
+
+-- AN OPERATION THAT IS TOLD leaves what the lane knows, and its blocks that are to be objects
+abbrev pub TellsGrow : Type 0
+TellsGrow = (v : View) (op : Operation) (reply : Option Value) (kept : Bool)
+    → Grows v (is_kept_by op kept) (views.after v (Tell op reply)) kept

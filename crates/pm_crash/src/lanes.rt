@@ -1,6 +1,7 @@
-ghost use Rattle.pm_crash.specs.Sim.{SimBegins, SimGoesOn, SimStays};
+ghost use Rattle.pm_crash.specs.Sim.{SimBegins, SimGoesOn, SimStays, TellsGrow};
 ghost use Rattle.pm_crash.specs.SimOps.{SimAborts, SimExtends, SimRefuses, SimWrites};
 ghost use Rattle.pm_crash.specs.SimAllocs.{SimAllocates, SimFrees, SimPublishes, SimReserves};
+ghost use Rattle.pm_crash.specs.SimCommits.{SimCommits};
 ghost use Rattle.pm_crash.specs.SimFacts.{SimsAreFacts};
 ghost use Rattle.pm_crash.specs.Looked.{ReadIs, RefusalIs};
 ghost use Rattle.pm_crash.specs.Looks.{RefusalsLook};
@@ -13,11 +14,12 @@ pub fn a_lane_follows_the_model()
     ensures begins { SimBegins }
     ensures stays { SimStays }
     ensures goes_on { SimGoesOn }
+    ensures tells { TellsGrow }
 {}
 
 /// A law: what each operation owes has no bits in it. Operations on the lane's lists, those that are
-/// refused, and abort; writes and increments; objects that are freed, made, reserved and published. No
-/// code runs.
+/// refused, and abort; writes and increments; objects that are freed, made, reserved and published; and
+/// commits, with the words that they set. No code runs.
 pub fn operations_follow_the_model()
     ensures extends { SimExtends }
     ensures refuses { SimRefuses }
@@ -27,6 +29,7 @@ pub fn operations_follow_the_model()
     ensures allocates { SimAllocates }
     ensures reserves { SimReserves }
     ensures publishes { SimPublishes }
+    ensures commits { SimCommits }
 {}
 
 /// A law: the first refusal of each operation of a transaction is the model's, by the lane's lists and

@@ -1,4 +1,5 @@
 use Rattle.pm_crash.proofs.SimAllocs.{sim_allocates, sim_frees, sim_publishes, sim_reserves}
+use Rattle.pm_crash.proofs.SimCommits.{sim_commits}
 use Rattle.pm_crash.proofs.SimOps.{sim_aborts, sim_extends, sim_refuses}
 use Rattle.pm_crash.proofs.SimWrites.{sim_writes}
 use Rattle.pm_crash.proofs.lanes.operations_follow_the_model.Goals as goal
@@ -26,3 +27,6 @@ returns-clause-reserves c = sim_reserves
 
 pub returns-clause-publishes : goal.returns-clause-publishes
 returns-clause-publishes c = sim_publishes
+
+pub returns-clause-commits : goal.returns-clause-commits
+returns-clause-commits c = sim_commits
