@@ -19,12 +19,12 @@ use Rattle.pm_world.specs.Memory.{bit}
 use Rattle.pm_world.specs.Sights.{is_recorded}
 use Rattle.pm_world.specs.States.{State, Diff, bright, bright_huge, given, lit, live, over, shown, val}
 use Rattle.pm_crash.specs.Footprints.{geometry_of, has_found, is_run_to}
-use Rattle.pm_crash.specs.HeapChanges.{Makes, header_place}
+use Rattle.pm_crash.specs.HeapChanges.{header_place}
 use Rattle.pm_crash.specs.Looked.{Enters, IsChanged, IsObject, KnowsWord, word_place, words_in}
 use Rattle.pm_crash.specs.Objects.{IsGoodHeap, is_allocated, lines_of}
 use Rattle.pm_crash.specs.OwnBlocks.{own_span}
 use Rattle.pm_crash.specs.Scenes.{AreApart}
-use Rattle.pm_crash.specs.Sim.{Agrees, StandIn, bits_now, change_so_far}
+use Rattle.pm_crash.specs.Sim.{is_kept_block, Agrees, StandIn, bits_now, change_so_far}
 use Rattle.pm_crash.specs.Spelled.{Holds, has_blocks, words_by}
 use Rattle.pm_crash.proofs.ChangedHeaps.{next_times}
 use Rattle.pm_crash.proofs.Classes.{run_has_lines}
@@ -79,7 +79,7 @@ module _ (v : View) (entries : List Entry) (kept : Bool) (classes : ℕ → ℕ)
 
   -- ---- HEADERS STAY
 
-  small_header : (c i k : ℕ) → is_allocated sh s (Small c i) ≡ true → k < 8 → IsChanged v d (InRun c (8 * (1 + classes c * i) + k)) → ⊥
+  small_header : (c i k : ℕ) → is_allocated sh s (Small c i) ≡ true → k < 8 → IsChanged v (InRun c (8 * (1 + classes c * i) + k)) → ⊥
   small_header c i k a few (Small c' i', k', e, low, how) =
       let ec : c ≡ c' = ap chunk_in e in
       let er : 8 * (1 + classes c * i) + k ≡ 8 * (1 + class v.claims c' * i') + k' = ap word_in e in
@@ -88,12 +88,11 @@ module _ (v : View) (entries : List Entry) (kept : Bool) (classes : ℕ → ℕ)
       let inside = run_before c i a in
       let some = run_has_lines (classes c) i inside in
       ⊎_elim
-      (λ (made : Makes d (Small c' i')).
+      (λ (own : is_kept_block v false (Small c' i') ≡ true).
       let line : ℕ = line_of_chunk sh c + 1 + classes c * i in
       let lc : line_of_chunk sh c ≡ line_of_chunk sh c' = ap (line_of_chunk sh) ec in
       let next = next_times (class v.claims c') i' in
       let next_ = next_times (classes c) i in
-      let own = en.makes (Small c' i') made in
       x.apart (Small c' i') (Small c i) line (kept_more v kept (Small c' i') own)
       (record { mine = kept_is_own v false (Small c' i') own; has = record { from = omega arith; to = omega arith } })
       (record { allocated = (and_parts (is_occupancy sh (Small c i)) (s (InRun c 0) i) a).1; has = record { from = omega arith; to = omega arith } }))
@@ -118,7 +117,7 @@ module _ (v : View) (entries : List Entry) (kept : Bool) (classes : ℕ → ℕ)
   small_header c i k a few (Big f, k', e, low, how) = absurd cc
   small_header c i k a few (Root, k', e, low, how) = absurd cc
 
-  big_header : (f k : ℕ) → is_allocated sh s (Big f) ≡ true → k < 8 → IsChanged v d (InHuge f k) → ⊥
+  big_header : (f k : ℕ) → is_allocated sh s (Big f) ≡ true → k < 8 → IsChanged v (InHuge f k) → ⊥
   big_header f k a few (Big f', k', e, low, how) =
       let ef : f ≡ f' + k' / 512 = ap chunk_in e in
       let ek : k ≡ k' % 512 = ap word_in e in
@@ -127,8 +126,7 @@ module _ (v : View) (entries : List Entry) (kept : Bool) (classes : ℕ → ℕ)
       let n : ℕ = val (s (Descr f)) 8 56 in
       let some = (good.whole f (ltb-true f (chunks_of sh) y.0) (Rattle.std.proofs.lemmas.Bool.not-true (has_blocks s f) z.0) z.1).some in
       ⊎_elim
-      (λ (made : Makes d (Big f')).
-      let own = en.makes (Big f') made in
+      (λ (own : is_kept_block v false (Big f') ≡ true).
       x.apart (Big f') (Big f) (line_of_chunk sh f) (kept_more v kept (Big f') own)
       (record { mine = kept_is_own v false (Big f') own; has = (f, and_from (nat_le f' f) (nat_lt f (f' + own_span v f')) (le-leb f' f (omega arith)) (lt-ltb f (f' + own_span v f') (omega arith)), record { from = omega arith; to = omega arith }) })
       (record { allocated = z.1; has = (f, and_from (nat_le f f) (nat_lt f (f + n)) (le-leb f f (omega arith)) (lt-ltb f (f + n) (omega arith)), record { from = omega arith; to = omega arith }) }))

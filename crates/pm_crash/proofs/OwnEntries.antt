@@ -60,7 +60,7 @@ not_from_false : (b : Bool) → b ≡ false → not b ≡ true
 not_from_false b e = ap not e
 
 -- a word of a run that is not its bitmap
-pub changed_word : (v : View) (d : Diff) (c w : ℕ) → 0 < w → ChangesAt v d (InRun c w) → IsChanged v d (InRun c w)
+pub changed_word : (v : View) (d : Diff) (c w : ℕ) → 0 < w → ChangesAt v d (InRun c w) → IsChanged v (InRun c w)
 changed_word v d c zero low y = absurd (omega arith)
 changed_word v d c (suc w) low y = y
 

@@ -43,16 +43,17 @@ words_in v Root = 0
 
 -- ---- THE ENTRIES SO FAR are of blocks of its own, and of blocks that it found
 
--- a place that the call changes: whether a block is allocated; a word of a block that it makes, or a
--- word after the header of one that it found
-abbrev pub IsChanged : View → Diff → Place → Type 0
-IsChanged v d p = (B : Block) × (k : ℕ) × (p ≡ word_place v B k) × (k < words_in v B)
-    × (Makes d B ⊎ ((has_found v B ≡ true) × (is_occupancy v.fixed.shape B ≡ true) × (8 ≤ k)))
+-- a place that the call changes: whether a block is allocated; a word of a block of its own that is
+-- to be an object, or that was one and is freed again; a word after the header of one that it found
+abbrev pub IsChanged : View → Place → Type 0
+IsChanged v p = (B : Block) × (k : ℕ) × (p ≡ word_place v B k) × (k < words_in v B)
+    × ((is_kept_block v false B ≡ true)
+    ⊎ ((has_found v B ≡ true) × (is_occupancy v.fixed.shape B ≡ true) × (8 ≤ k)))
 
 abbrev pub ChangesAt : View → Diff → Place → Type 0
 ChangesAt v d (InRun c zero) = Unit {0}
-ChangesAt v d (InRun c (suc w)) = IsChanged v d (InRun c (suc w))
-ChangesAt v d (InHuge c w) = IsChanged v d (InHuge c w)
+ChangesAt v d (InRun c (suc w)) = IsChanged v (InRun c (suc w))
+ChangesAt v d (InHuge c w) = IsChanged v (InHuge c w)
 ChangesAt v d (Descr c) = given (turn d (Big c)) ≡ true
 ChangesAt v d RootWord = ⊥
 
