@@ -22,7 +22,7 @@ use Rattle.pm_world.specs.States.{State, there, val}
 use Rattle.pm_crash.specs.Objects.{IsGoodHeap, is_allocated, item_of, lines_of}
 use Rattle.pm_crash.specs.OwnBlocks.{own_span}
 use Rattle.pm_crash.specs.Sim.{Agrees, known_offset}
-use Rattle.pm_crash.specs.SimAllocs.{HasRoom, HasRooms, IsInZone}
+use Rattle.pm_crash.specs.SimAllocs.{HasBlockFor, HaveBlocksFor, IsInZone}
 use Rattle.pm_crash.specs.SimBlocks.{HasLineTo}
 use Rattle.pm_crash.specs.Looked.{words_in}
 use Rattle.pm_crash.specs.Spelled.{Holds, has_blocks, words_by}
@@ -88,7 +88,7 @@ module _ (sh : Shape) (classes : ℕ → ℕ) (s : State) (header : Header) (poo
       let q = and_parts (nat_le 1 (size_in w b) && nat_le (size_in w b) 262080) (block_lines (class_of (size_in w b)) == b.lines) z.0 in
       ap (λ n. block_lines (class_of n)) (length-bytes_in w b) ∙ eqb-true (block_lines (class_of (size_in w b))) b.lines q.1
 
-  module _ (v : View) (same : v.fixed.shape ≡ sh) (kept : Bool) (x : Agrees classes v kept s) (taken : List Placed) (b : Placed) (room : HasRoom v kept taken b) where
+  module _ (v : View) (same : v.fixed.shape ≡ sh) (kept : Bool) (x : Agrees classes v kept s) (taken : List Placed) (b : Placed) (room : HasBlockFor v kept taken b) where
     none_covers : (l off : ℕ) → covers b l ≡ true → (o : Option Item) → (plain_pool pool).items off ≡ o → item_covers off o l ≡ false
     none_covers l off cov None e = refl
     none_covers l off cov (Some item) e = false_from_ne_true (item_covers off (Some item) l) (λ t.
@@ -113,7 +113,7 @@ module _ (sh : Shape) (classes : ℕ → ℕ) (s : State) (header : Header) (poo
     pub is_free : IsFree (plain_pool pool).items taken b
     is_free = record { objects = λ l off cov. none_covers l off cov ((plain_pool pool).items off) refl; others = room.others }
 
-  pub are_free : (v : View) → v.fixed.shape ≡ sh → (kept : Bool) → Agrees classes v kept s → (taken blocks : List Placed) → HasRooms v kept taken blocks → AreAllFree (plain_pool pool).items taken blocks
-  unfolding HasRooms
+  pub are_free : (v : View) → v.fixed.shape ≡ sh → (kept : Bool) → Agrees classes v kept s → (taken blocks : List Placed) → HaveBlocksFor v kept taken blocks → AreAllFree (plain_pool pool).items taken blocks
+  unfolding HaveBlocksFor
   are_free v same kept x taken [] rooms = tt
   are_free v same kept x taken (b ∷ blocks) rooms = (is_free v same kept x taken b rooms.0, are_free v same kept x (b ∷ taken) blocks rooms.1)

@@ -21,7 +21,7 @@ use Rattle.pm_view.specs.Entries.{Entry}
 use Rattle.pm_view.specs.Places.{Block, Small, Big, Root}
 use Rattle.pm_view.specs.View.{View}
 use Rattle.pm_world.specs.States.{State}
-use Rattle.pm_crash.specs.Looked.{Enters, HasRoot, HasSizes, IsObject, KnowsRange, KnowsSize, ReadIs, RefusalIs, bytes_seen, items_seen, pool_seen, size_seen, words_in}
+use Rattle.pm_crash.specs.Looked.{Enters, HasRoot, KnowsSizes, IsObject, KnowsRange, KnowsSize, ReadIs, RefusalIs, bytes_seen, items_seen, pool_seen, size_seen, words_in}
 use Rattle.pm_crash.specs.Looks.{AreAlike}
 use Rattle.pm_crash.specs.Objects.{is_allocated, item_in, lines_of}
 use Rattle.pm_crash.specs.Sim.{Agrees, StandIn, bits_now, known_offset, lists_of, tx_with}
@@ -104,7 +104,7 @@ module _ (v : View) (entries : List Entry) (kept : Bool) (classes : ℕ → ℕ)
   same_id : header.id ≡ v.fixed.pool → pool.id ≡ v.fixed.pool
   same_id id = ap (λ (p : PoolView). p.id) holds_pool.is_pool ∙ id
 
-  module _ (seen : Seen) (root : Option ℕ) (op : Operation) (id_of : header.id ≡ v.fixed.pool) (sizes : HasSizes v entries root op) (has_root : HasRoot v root op (plain_pool pool)) where
+  module _ (seen : Seen) (root : Option ℕ) (op : Operation) (id_of : header.id ≡ v.fixed.pool) (sizes : KnowsSizes v entries root op) (has_root : HasRoot v root op (plain_pool pool)) where
     held_back : (write : Bool) (id : Oid) → is_not_held (tx_with v (plain_pool pool) copy) write id ≡ false → is_not_held (tx_with v (pool_seen v root) (items_seen v)) write id ≡ false
     held_back write id e = subst (λ n. not ((id.pool == n) && holds (lists_of v) id.off write) ≡ false) (same_id id_of) e
 

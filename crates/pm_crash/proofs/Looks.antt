@@ -8,7 +8,7 @@ use Rattle.pm_objects.specs.declared.calls.Operation.TheVariants.{AddRange, Writ
 use Rattle.pm_objects.specs.declared.ids.Oid.{Oid}
 use Rattle.pm_model.specs.Items.{Items, PlainPool, is_root, size_of}
 use Rattle.pm_crash.specs.Looks.{AreAlike, RefusalsLook, ids_sized}
-use Rattle.pm_crash.specs.OpenRuns.{with_copy}
+use Rattle.pm_crash.specs.OpenRuns.{on_pool}
 use Rattle.pm_model.specs.Pending.{SetWord, passes_object}
 use Rattle.pm_model.specs.Refusals.{Seen, is_listed, is_not_held, refusal_of, tests}
 use Rattle.pm_model.specs.Transaction.{Transaction, is_gone}
@@ -28,10 +28,10 @@ module _ (tx : Transaction) (before : PlainPool) (copy looked : Items) (other : 
   seen_pool = record before { name = other.name; items = other.items; root = other.root }
 
   abbrev here : Transaction
-  here = with_copy before copy tx
+  here = on_pool before copy tx
 
   abbrev there : Transaction
-  there = with_copy seen_pool looked tx
+  there = on_pool seen_pool looked tx
 
   module _ (op : Operation) (alike : AreAlike tx op before other copy looked) where
     ends : (id : Oid) (write : Bool) (end : ℕ) → Contains (ids_sized tx op) id → is_not_held here write id ≡ false → is_gone tx id.off ≡ false
@@ -205,8 +205,8 @@ module _ (tx : Transaction) (before : PlainPool) (copy looked : Items) (other : 
 
 pub refusals_look : RefusalsLook
 refusals_look seen tx op before other copy looked alike =
-    same_first (tests seen (with_copy before copy tx) op) (tests seen (with_copy (seen_pool tx before copy looked other) looked tx) op) (tests_alike tx before copy looked other seen op alike)
-    ∙ ap (λ (p : PlainPool). refusal_of seen (with_copy p looked tx) op) same
+    same_first (tests seen (on_pool before copy tx) op) (tests seen (on_pool (seen_pool tx before copy looked other) looked tx) op) (tests_alike tx before copy looked other seen op alike)
+    ∙ ap (λ (p : PlainPool). refusal_of seen (on_pool p looked tx) op) same
   where
     same : seen_pool tx before copy looked other ≡ other
     same = let id = alike.id in let lanes = alike.lanes in let zones = alike.zones in λ i. record other { id = id i; lanes = lanes i; zones = zones i }

@@ -14,7 +14,7 @@ use Rattle.pm_model.specs.declared.stage.Stage.TheVariants as stage
 use Rattle.pm_model.specs.CallStep.{Runs, RunsOn}
 use Rattle.pm_view.specs.View.{Told}
 use Rattle.pm_crash.specs.Calls.{told_by}
-use Rattle.pm_crash.specs.OpenRuns.{AreReplies, MayFollow, RepliesOn, after_told, is_kept_if, with_copy}
+use Rattle.pm_crash.specs.OpenRuns.{AreReplies, MayFollow, RepliesOn, after_told, is_kept_if, on_pool}
 
 -- ---- what was told, one more
 
@@ -33,27 +33,27 @@ told_once_more told t tx = told_on told (t ∷ []) tx
 abbrev end_by : Bool → PlainPool → Items → Transaction → Transaction
 end_by b before copy tx =
     cond b (record (idle before tx.pending) { items = all_edited (set_edits tx.sets) copy })
-    (record (committed (with_copy before copy tx)) { level = tx.level - 1; stage = cond (is_none tx.error) stage.Work stage.OnAbort })
+    (record (committed (on_pool before copy tx)) { level = tx.level - 1; stage = cond (is_none tx.error) stage.Work stage.OnAbort })
 
 end_apart : (b : Bool) (before : PlainPool) (copy : Items) (tx : Transaction)
-    → end_by b before copy tx ≡ with_copy before (end_by b before copy tx).items (end_by b tx.before tx.items tx)
+    → end_by b before copy tx ≡ on_pool before (end_by b before copy tx).items (end_by b tx.before tx.items tx)
 end_apart true before copy tx = refl
 end_apart false before copy tx = refl
 
 -- an operation does to the lists what it does on any pool, and leaves the pool that it began with
 abbrev IsApart : Operation → Option Value → Transaction → Type 0
 IsApart op reply tx = (before : PlainPool) (copy : Items)
-    → after_reply op reply (with_copy before copy tx)
-    ≡ with_copy before (after_reply op reply (with_copy before copy tx)).items (after_reply op reply tx)
+    → after_reply op reply (on_pool before copy tx)
+    ≡ on_pool before (after_reply op reply (on_pool before copy tx)).items (after_reply op reply tx)
 
 performed_apart : (op : Operation) (tx : Transaction) (before : PlainPool) (copy : Items)
-    → performed op (with_copy before copy tx) ≡ with_copy before (performed op (with_copy before copy tx)).items (performed op tx)
+    → performed op (on_pool before copy tx) ≡ on_pool before (performed op (on_pool before copy tx)).items (performed op tx)
 performed_apart Commit tx before copy = end_apart (leb tx.level 1) before copy tx
 performed_apart op tx before copy = refl
 
 refused_apart : (b : Bool) (e : TxErr) (before : PlainPool) (copy : Items) (tx : Transaction)
-    → cond b (with_copy before copy tx) (aborted e (with_copy before copy tx))
-    ≡ with_copy before (cond b (with_copy before copy tx) (aborted e (with_copy before copy tx))).items (cond b tx (aborted e tx))
+    → cond b (on_pool before copy tx) (aborted e (on_pool before copy tx))
+    ≡ on_pool before (cond b (on_pool before copy tx) (aborted e (on_pool before copy tx))).items (cond b tx (aborted e tx))
 refused_apart true e before copy tx = refl
 refused_apart false e before copy tx = refl
 
@@ -64,14 +64,14 @@ reply_apart (Reserve size kind) (Some (Offset off)) tx before copy = refl
 reply_apart op reply tx before copy = performed_apart op tx before copy
 
 pub told_apart : (told : List Told) (tx : Transaction) (before : PlainPool) (copy : Items)
-    → after_told told (with_copy before copy tx)
-    ≡ with_copy before (after_told told (with_copy before copy tx)).items (after_told told tx)
+    → after_told told (on_pool before copy tx)
+    ≡ on_pool before (after_told told (on_pool before copy tx)).items (after_told told tx)
 unfolding after_told
 told_apart [] tx before copy = refl
 told_apart (t ∷ told) tx before copy =
     ap (after_told told) (reply_apart t.operation t.reply tx before copy)
-    ∙ (told_apart told (after_reply t.operation t.reply tx) before (after_reply t.operation t.reply (with_copy before copy tx)).items
-    ∙ ap (λ (t' : Transaction). with_copy before t'.items (after_told told (after_reply t.operation t.reply tx)))
+    ∙ (told_apart told (after_reply t.operation t.reply tx) before (after_reply t.operation t.reply (on_pool before copy tx)).items
+    ∙ ap (λ (t' : Transaction). on_pool before t'.items (after_told told (after_reply t.operation t.reply tx)))
     (ap (after_told told) (sym (reply_apart t.operation t.reply tx before copy))))
 
 -- ---- one more reply

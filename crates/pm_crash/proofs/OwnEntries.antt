@@ -23,7 +23,7 @@ use Rattle.pm_world.proofs.Replays.{over_none}
 use Rattle.pm_crash.specs.Calls.{pending_after, pending_of}
 use Rattle.pm_crash.specs.Footprints.{has_found, has_own}
 use Rattle.pm_crash.specs.HeapChanges.{ChangesBlocks, Makes}
-use Rattle.pm_crash.specs.Looked.{ChangesAt, Enters, IsChanged, IsObject, Stands, word_place, words_in}
+use Rattle.pm_crash.specs.Looked.{ChangesAt, Enters, IsChanged, IsObject, StandsNow, word_place, words_in}
 use Rattle.pm_crash.specs.Objects.{IsGoodHeap, IsWhole, is_allocated, lines_of, offset_of}
 use Rattle.pm_crash.specs.OwnBlocks.{MakesOwnBlocks, own_span}
 use Rattle.pm_crash.specs.Sim.{made_after, Agrees, bits_now, blocks_kept, change_so_far, is_kept_block, known_offset}
@@ -131,7 +131,7 @@ module _ (v : View) (entries : List Entry) (kept : Bool) (classes : ℕ → ℕ)
       (λ (m : Makes d B). ap (λ o. over o (is_allocated sh s B)) m)
       y.stands
 
-  pub same_class : (c i : ℕ) → Stands v entries (Small c i) → classes c ≡ class v.claims c
+  pub same_class : (c i : ℕ) → StandsNow v entries (Small c i) → classes c ≡ class v.claims c
   same_class c i y = x.class c i (⊎_elim
       (λ (f : (has_found v (Small c i) ≡ true) × (given (turn d (Small c i)) ≡ false)). or_left (has_found v (Small c i)) (is_kept_block v kept (Small c i)) f.0)
       (λ (m : Makes d (Small c i)). or_right (has_found v (Small c i)) (is_kept_block v kept (Small c i)) (kept_more v kept (Small c i) (en.makes (Small c i) m)))
@@ -143,7 +143,7 @@ module _ (v : View) (entries : List Entry) (kept : Bool) (classes : ℕ → ℕ)
       let z = and_parts (nat_lt c (chunks_of sh)) (nat_lt i 64) y.0 in
       heaps.runs sh classes s d changes_blocks descriptors good c i (ltb-true c (chunks_of sh) z.0) (ltb-true i 64 z.1) y.1
 
-  pub same_span : (f : ℕ) → Stands v entries (Big f) → val (now (Descr f)) 8 56 ≡ own_span v f
+  pub same_span : (f : ℕ) → StandsNow v entries (Big f) → val (now (Descr f)) 8 56 ≡ own_span v f
   same_span f y = ⊎_elim
       (λ (t : (has_found v (Big f) ≡ true) × (given (turn d (Big f)) ≡ false)).
       ap (λ w. val w 8 56) (λ i b. over_none (d (Descr f) b) (s (Descr f) b) (descriptors f b t.1) i) ∙ x.spans f t.0)

@@ -9,7 +9,7 @@ use Rattle.pm_model.specs.Items.{Items, all_edited, edited, freed_item, made_ite
 use Rattle.pm_view.specs.Places.{Block, Small, Big, Root, same}
 use Rattle.pm_crash.specs.Objects.{item_in}
 use Rattle.pm_crash.specs.Scenes.{AreApart, IsScene}
-use Rattle.pm_crash.specs.SimBlocks.{New, NewOnce, Old, OldOnce, is_new, is_old}
+use Rattle.pm_crash.specs.SimBlocks.{New, NewOnce, Old, OldOnce, is_coming, is_going}
 use Rattle.pm_crash.proofs.SceneSteps.{scenes_gain, scenes_lose}
 
 pub same_true : (B C : Block) → same B C ≡ true → B ≡ C
@@ -56,27 +56,27 @@ minus_by true true r = refl
 minus_by true false r = refl
 minus_by false s r = refl
 
-pub minus_is : (among : Block → Bool) (olds : List Old) (C : Block) → minus among olds C ≡ (among C && not (is_old olds C))
+pub minus_is : (among : Block → Bool) (olds : List Old) (C : Block) → minus among olds C ≡ (among C && not (is_going olds C))
 unfolding minus
 minus_is among [] C = by (among C)
   where
     by : (a : Bool) → a ≡ (a && true)
     by true = refl
     by false = refl
-minus_is among (o ∷ olds) C = minus_is (without among o.block) olds C ∙ minus_by (among C) (same o.block C) (is_old olds C)
+minus_is among (o ∷ olds) C = minus_is (without among o.block) olds C ∙ minus_by (among C) (same o.block C) (is_going olds C)
 
 plus_by : (a s r : Bool) → ((a || s) || r) ≡ (a || (s || r))
 plus_by true s r = refl
 plus_by false s r = refl
 
-pub plus_is : (among : Block → Bool) (news : List New) (C : Block) → plus among news C ≡ (among C || is_new news C)
+pub plus_is : (among : Block → Bool) (news : List New) (C : Block) → plus among news C ≡ (among C || is_coming news C)
 unfolding plus
 plus_is among [] C = by (among C)
   where
     by : (a : Bool) → a ≡ (a || false)
     by true = refl
     by false = refl
-plus_is among (n ∷ news) C = plus_is (with_one among n.block) news C ∙ plus_by (among C) (same n.block C) (is_new news C)
+plus_is among (n ∷ news) C = plus_is (with_one among n.block) news C ∙ plus_by (among C) (same n.block C) (is_coming news C)
 
 -- ---- BLOCKS GO
 
@@ -98,11 +98,11 @@ module _ (at : Block → Lines) (w : ℕ → ℕ) where
       (λ p there. let q = goes p (later_member o olds p there) in (
         and_from (among p.block) (not (same o.block p.block)) q.0
             (not_true (same o.block p.block) (false_from_ne_true (same o.block p.block) (λ e.
-            both_ways (is_old olds o.block) once.0 (found olds p there o.block (sym (same_true o.block p.block e)))))),
+            both_ways (is_going olds o.block) once.0 (found olds p there o.block (sym (same_true o.block p.block e)))))),
         q.1,
       ))
     where
-      found : (olds : List Old) (p : Old) → Contains olds p → (B : Block) → p.block ≡ B → is_old olds B ≡ true
+      found : (olds : List Old) (p : Old) → Contains olds p → (B : Block) → p.block ≡ B → is_going olds B ≡ true
       found olds p there B e = Rattle.pm_crash.proofs.NoHeapFault.member_passes (λ (o : Old). same o.block B) olds p there (subst (λ D. same p.block D ≡ true) e (same_refl p.block))
 
   -- ---- BLOCKS COME
@@ -133,9 +133,9 @@ module _ (at : Block → Lines) (w : ℕ → ℕ) where
       (λ m C there a. ⊎_elim
       (λ (b : among C ≡ true). apart m C (later_member n news m there) b)
       (λ (b : same n.block C ≡ true). subst (λ D. AreApart (at m.block) (at D)) (same_true n.block C b)
-      (others m n (later_member n news m there) (first_member n news) (λ e. both_ways (is_new news n.block) once.0 (found news m there n.block e))))
+      (others m n (later_member n news m there) (first_member n news) (λ e. both_ways (is_coming news n.block) once.0 (found news m there n.block e))))
       (or_cases (among C) (same n.block C) a))
       (λ m l there there' ne. others m l (later_member n news m there) (later_member n news l there') ne)
     where
-      found : (news : List New) (m : New) → Contains news m → (B : Block) → m.block ≡ B → is_new news B ≡ true
+      found : (news : List New) (m : New) → Contains news m → (B : Block) → m.block ≡ B → is_coming news B ≡ true
       found news m there B e = Rattle.pm_crash.proofs.NoHeapFault.member_passes (λ (o : New). same o.block B) news m there (subst (λ D. same m.block D ≡ true) e (same_refl m.block))

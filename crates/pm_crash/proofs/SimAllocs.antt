@@ -14,10 +14,10 @@ use Rattle.pm_model.specs.Transaction.{Transaction}
 use Rattle.pm_view.specs.Entries.{Entry}
 use Rattle.pm_view.specs.View.{Constants, View}
 use Rattle.pm_world.specs.States.{State}
-use Rattle.pm_crash.specs.Sim.{Agrees, Came, Grows, Leads, StandIn, Tells, bits_now, copy_of, lists_of, tx_with}
-use Rattle.pm_crash.specs.SimAllocs.{HasRoom, IsAllocation, IsFreeing, IsPublication, IsReservation, SimAllocates, SimFrees, SimPublishes, SimReserves}
-use Rattle.pm_crash.specs.SimBlocks.{ChangesObjects, New, Old, edits_of}
-use Rattle.pm_crash.specs.SimOps.{Looks}
+use Rattle.pm_crash.specs.Sim.{Agrees, Came, Grows, LeadsOn, StandIn, Tells, bits_now, copy_of, lists_of, tx_with}
+use Rattle.pm_crash.specs.SimAllocs.{HasBlockFor, IsAllocation, IsFreeing, IsPublication, IsReservation, SimAllocates, SimFrees, SimPublishes, SimReserves}
+use Rattle.pm_crash.specs.SimBlocks.{ChangesObjects, New, Old, object_edits}
+use Rattle.pm_crash.specs.SimOps.{LookedAt}
 use Rattle.pm_crash.specs.Spelled.{Holds}
 use Rattle.pm_crash.proofs.FreeBlocks.{are_free, is_free}
 use Rattle.pm_crash.proofs.SimBlocks.{objects_changed}
@@ -30,7 +30,7 @@ unfolding all_edited
 one_edit e items = refl
 
 module _ (v next : View) (entries entries' : List Entry) (root : Option ℕ) (ran : Ran) (tells : Tells v next ran)
-    (grows : (kept : Bool) → Grows v (is_kept_by ran.operation kept) next kept) (looks : Looks v entries root ran.operation)
+    (grows : (kept : Bool) → Grows v (is_kept_by ran.operation kept) next kept) (looks : LookedAt v entries root ran.operation)
     (none : Rattle.pm_crash.specs.Looked.refusal_by ran.seen v root ran.operation ≡ None)
     (kept : Bool) (classes : ℕ → ℕ) (s : State) (header : Header) (pool : PoolView) (x : Agrees classes next kept s) (holds : Holds next.fixed.shape classes s header pool)
     (id : header.id ≡ next.fixed.pool) (c : Came v entries (is_kept_by ran.operation kept) classes s (plain_pool pool)) where
@@ -53,10 +53,10 @@ module _ (v next : View) (entries entries' : List Entry) (root : Option ℕ) (ra
   unrefused = first_is v next entries entries' root ran tells grows looks kept classes s header pool x holds id c ∙ none
 
   -- the objects change, whatever the constants are called
-  changed : (olds : List Old) (news : List New) → ChangesObjects v entries next entries' olds news → StandIn next.fixed.shape classes (bits_now next entries' s) (all_edited (edits_of olds news) copy)
+  changed : (olds : List Old) (news : List New) → ChangesObjects v entries next entries' olds news → StandIn next.fixed.shape classes (bits_now next entries' s) (all_edited (object_edits olds news) copy)
   changed olds news change =
-      subst (λ (f : Constants). StandIn f.shape classes (bits_now next entries' s) (all_edited (edits_of olds news) copy)) (sym tells.keeps.fixed)
-      (subst (λ (u : View). ChangesObjects v entries u entries' olds news → Agrees classes u kept s → StandIn v.fixed.shape classes (bits_now u entries' s) (all_edited (edits_of olds news) copy)) same
+      subst (λ (f : Constants). StandIn f.shape classes (bits_now next entries' s) (all_edited (object_edits olds news) copy)) (sym tells.keeps.fixed)
+      (subst (λ (u : View). ChangesObjects v entries u entries' olds news → Agrees classes u kept s → StandIn v.fixed.shape classes (bits_now u entries' s) (all_edited (object_edits olds news) copy)) same
       (λ y z. objects_changed v next entries entries' olds news y was kept classes s header pool hb xb z looks.enters copy c.stands) change x)
     where
       same : record next { fixed = v.fixed } ≡ next
@@ -71,12 +71,12 @@ module _ (v next : View) (entries entries' : List Entry) (root : Option ℕ) (ra
   can_so : (size off : ℕ) → CanHold v.fixed.shape.lanes v.fixed.shape.zones (class_of size) off → CanBeIn (plain_pool pool) (record { off = off; size = size })
   can_so size off can = subst (λ n. CanHold n pool.zones (class_of size) off) (sym lanes_so) (subst (λ n. CanHold v.fixed.shape.lanes n (class_of size) off) (sym zones_so) can)
 
-  free_so : (taken : List Placed) (b : Placed) → HasRoom next kept taken b → IsFree (plain_pool pool).items taken b
+  free_so : (taken : List Placed) (b : Placed) → HasBlockFor next kept taken b → IsFree (plain_pool pool).items taken b
   free_so taken b room = is_free next.fixed.shape classes s header pool holds next refl kept x taken b room
 
   -- ---- FREE
 
-  pub freeing : (by : IsFreeing v entries next entries' root ran) → Leads v entries next entries' ran kept classes s (plain_pool pool)
+  pub freeing : (by : IsFreeing v entries next entries' root ran) → LeadsOn v entries next entries' ran kept classes s (plain_pool pool)
   freeing by = record {
     replies = is_done tx ran kept (ap is_inside by.frees) unrefused (subst (λ op. IsDone tx op kept ran.reply) (sym by.frees) (done by.replied));
     stands = subst (StandIn next.fixed.shape classes (bits_now next entries' s)) (sym items) (changed (record { block = by.block; off = by.id.off } ∷ []) [] by.changes);
@@ -85,13 +85,13 @@ module _ (v next : View) (entries entries' : List Entry) (root : Option ℕ) (ra
       done : ran.reply ≡ None → IsDone tx (Free by.id) kept ran.reply
       done e = record { there = Rattle.std.proofs.lemmas.List.Elements.All-nil _; publishes = tt; value = e }
 
-      items : (after_reply ran.operation ran.reply tx).items ≡ all_edited (edits_of (record { block = by.block; off = by.id.off } ∷ []) []) copy
+      items : (after_reply ran.operation ran.reply tx).items ≡ all_edited (object_edits (record { block = by.block; off = by.id.off } ∷ []) []) copy
       items = ap (λ op. (after_reply op ran.reply tx).items) by.frees ∙ (ap (λ r. (after_reply (Free by.id) r tx).items) by.replied
           ∙ sym (one_edit (Rattle.pm_model.specs.Items.freed_item by.id.off) copy))
 
   -- ---- ALLOC
 
-  pub allocating : (by : IsAllocation v entries next entries' root ran) → Leads v entries next entries' ran kept classes s (plain_pool pool)
+  pub allocating : (by : IsAllocation v entries next entries' root ran) → LeadsOn v entries next entries' ran kept classes s (plain_pool pool)
   allocating by = record {
     replies = is_done tx ran kept (ap is_inside by.allocates) unrefused (subst (λ op. IsDone tx op kept ran.reply) (sym by.allocates) done);
     stands = subst (StandIn next.fixed.shape classes (bits_now next entries' s)) (sym items) (changed [] (record { block = by.block; off = by.off; item = new_item by.kind by.size None } ∷ []) by.changes);
@@ -104,18 +104,18 @@ module _ (v next : View) (entries entries' : List Entry) (root : Option ℕ) (ra
         value = (by.off, (can_so by.size by.off by.can, free_so (taken_by (lists_of v)) (record { off = by.off; size = by.size }) (by.room kept)), by.replied);
       }
 
-      items : (after_reply ran.operation ran.reply tx).items ≡ all_edited (edits_of [] (record { block = by.block; off = by.off; item = new_item by.kind by.size None } ∷ [])) copy
+      items : (after_reply ran.operation ran.reply tx).items ≡ all_edited (object_edits [] (record { block = by.block; off = by.off; item = new_item by.kind by.size None } ∷ [])) copy
       items = ap (λ op. (after_reply op ran.reply tx).items) by.allocates ∙ (ap (λ r. (after_reply (Alloc by.size by.kind) r tx).items) by.replied
           ∙ sym (one_edit (Rattle.pm_model.specs.Items.made_item by.off (new_item by.kind by.size None)) copy))
 
   -- ---- RESERVE
 
-  placed : (k : Bool) → k ≡ kept → (size off : ℕ) → CanHold v.fixed.shape.lanes v.fixed.shape.zones (class_of size) off → HasRoom next true (taken_by (lists_of v)) (record { off = off; size = size })
+  placed : (k : Bool) → k ≡ kept → (size off : ℕ) → CanHold v.fixed.shape.lanes v.fixed.shape.zones (class_of size) off → HasBlockFor next true (taken_by (lists_of v)) (record { off = off; size = size })
       → IsPlaced tx k (record { off = off; size = size })
-  placed true e size off can room = (can_so size off can, free_so (taken_by (lists_of v)) (record { off = off; size = size }) (subst (λ b. HasRoom next b (taken_by (lists_of v)) (record { off = off; size = size })) e room))
+  placed true e size off can room = (can_so size off can, free_so (taken_by (lists_of v)) (record { off = off; size = size }) (subst (λ b. HasBlockFor next b (taken_by (lists_of v)) (record { off = off; size = size })) e room))
   placed false e size off can room = can_so size off can
 
-  pub reserving : (by : IsReservation v entries next entries' root ran) → Leads v entries next entries' ran kept classes s (plain_pool pool)
+  pub reserving : (by : IsReservation v entries next entries' root ran) → LeadsOn v entries next entries' ran kept classes s (plain_pool pool)
   reserving by = record {
     replies = is_done tx ran kept (ap is_inside by.reserves) unrefused (subst (λ op. IsDone tx op kept ran.reply) (sym by.reserves) done);
     stands = subst (StandIn next.fixed.shape classes (bits_now next entries' s)) (sym items) (stay v next entries entries' root ran tells grows looks kept classes s header pool x holds id c by.same);
@@ -133,7 +133,7 @@ module _ (v next : View) (entries entries' : List Entry) (root : Option ℕ) (ra
 
   -- ---- PUBLISH
 
-  pub publishing : (by : IsPublication v entries next entries' root ran) → Leads v entries next entries' ran kept classes s (plain_pool pool)
+  pub publishing : (by : IsPublication v entries next entries' root ran) → LeadsOn v entries next entries' ran kept classes s (plain_pool pool)
   publishing by = record {
     replies = is_done tx ran kept (ap is_inside by.publishes) unrefused (subst (λ op. IsDone tx op kept ran.reply) (sym by.publishes) done);
     stands = subst (StandIn next.fixed.shape classes (bits_now next entries' s)) (sym items) (changed by.olds by.news by.changes);
@@ -146,10 +146,10 @@ module _ (v next : View) (entries entries' : List Entry) (root : Option ℕ) (ra
         value = by.replied;
       }
 
-      edits : edits_of by.olds by.news ≡ block_edits (lists_of v).pending
+      edits : object_edits by.olds by.news ≡ block_edits (lists_of v).pending
       edits = λ i. by.freed i ++ by.made i
 
-      items : (after_reply ran.operation ran.reply tx).items ≡ all_edited (edits_of by.olds by.news) copy
+      items : (after_reply ran.operation ran.reply tx).items ≡ all_edited (object_edits by.olds by.news) copy
       items = ap (λ op. (after_reply op ran.reply tx).items) by.publishes ∙ (ap (λ r. (after_reply Publish r tx).items) by.replied ∙ ap (λ es. all_edited es copy) (sym edits))
 
 pub sim_frees : SimFrees

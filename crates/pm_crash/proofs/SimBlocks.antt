@@ -26,7 +26,7 @@ use Rattle.pm_crash.specs.Looked.{Enters, IsObject, word_place, words_in}
 use Rattle.pm_crash.specs.Objects.{is_allocated, item_in, lines_of}
 use Rattle.pm_crash.specs.Scenes.{AreApart, IsScene}
 use Rattle.pm_crash.specs.Sim.{Agrees, StandIn, bits_now, change_so_far}
-use Rattle.pm_crash.specs.SimBlocks.{Becomes, ChangesObjects, HasLineTo, New, Old, edits_of, is_new, is_old}
+use Rattle.pm_crash.specs.SimBlocks.{ComesToBe, ChangesObjects, HasLineTo, New, Old, object_edits, is_coming, is_going}
 use Rattle.pm_crash.specs.Spelled.{Holds, number, words_by}
 use Rattle.pm_crash.proofs.ChangedHeaps.{option_cases}
 use Rattle.pm_crash.proofs.Edited.{edits_append}
@@ -94,34 +94,34 @@ module _ (v n : View) (entries entries' : List Entry) (olds : List Old) (news : 
   now_so : (C : Block) → is_occupancy sh C ≡ true → is_allocated sh t' C ≡ over (turn d' C) (is_allocated sh s C)
   now_so = own.before_now next entries' kept classes s header pool holds x' c.enters
 
-  the_old : (C : Block) → is_old olds C ≡ true → (o : Old) × Contains olds o × (o.block ≡ C)
+  the_old : (C : Block) → is_going olds C ≡ true → (o : Old) × Contains olds o × (o.block ≡ C)
   the_old C e = let y = passing_member (λ (o : Old). same o.block C) olds e in (y.0, y.1.0, same_true y.0.block C y.1.1)
 
-  the_new : (C : Block) → is_new news C ≡ true → (m : New) × Contains news m × (m.block ≡ C)
+  the_new : (C : Block) → is_coming news C ≡ true → (m : New) × Contains news m × (m.block ≡ C)
   the_new C e = let y = passing_member (λ (m : New). same m.block C) news e in (y.0, y.1.0, same_true y.0.block C y.1.1)
 
-  old_object : (C : Block) → is_old olds C ≡ true → IsObject v entries C
+  old_object : (C : Block) → is_going olds C ≡ true → IsObject v entries C
   old_object C e = let o = the_old C e in subst (IsObject v entries) o.2 (c.goes o.0 o.1).0
 
-  new_object : (C : Block) → is_new news C ≡ true → IsObject next entries' C
+  new_object : (C : Block) → is_coming news C ≡ true → IsObject next entries' C
   new_object C e = let m = the_new C e in subst (IsObject next entries') m.2 (c.comes m.0 m.1).object
 
-  new_makes : (C : Block) → is_new news C ≡ true → Makes d' C
+  new_makes : (C : Block) → is_coming news C ≡ true → Makes d' C
   new_makes C e = let m = the_new C e in subst (λ B. Makes d' B) m.2 (c.comes m.0 m.1).makes
 
-  old_stood : (C : Block) → is_old olds C ≡ true → is_allocated sh t C ≡ true
+  old_stood : (C : Block) → is_going olds C ≡ true → is_allocated sh t C ≡ true
   old_stood C e = own.object_now v entries was classes s header pool holds x en C (old_object C e)
 
-  new_stands : (C : Block) → is_new news C ≡ true → is_allocated sh t' C ≡ true
+  new_stands : (C : Block) → is_coming news C ≡ true → is_allocated sh t' C ≡ true
   new_stands C e = own.object_now next entries' kept classes s header pool holds x' c.enters C (new_object C e)
 
-  old_gone : (C : Block) → is_old olds C ≡ true → is_allocated sh t' C ≡ false
+  old_gone : (C : Block) → is_going olds C ≡ true → is_allocated sh t' C ≡ false
   old_gone C e = now_so C (old_object C e).inside ∙ ⊎_elim
       (λ (f : Frees d' C). ap (λ q. over q (is_allocated sh s C)) f)
       (λ (m : (turn d' C ≡ None) × Makes d C). ap (λ q. over q (is_allocated sh s C)) m.0 ∙ blocks.none_before v entries was classes s header pool holds x en C (old_object C e).inside m.1)
       (c.gone C e)
 
-  new_stood_not : (C : Block) → is_new news C ≡ true → is_allocated sh t C ≡ false
+  new_stood_not : (C : Block) → is_coming news C ≡ true → is_allocated sh t C ≡ false
   new_stood_not C e =
       let o = (new_object C e).inside in
       let none = blocks.none_before next entries' kept classes s header pool holds x' c.enters C o (new_makes C e) in
@@ -132,7 +132,7 @@ module _ (v n : View) (entries entries' : List Entry) (olds : List Old) (news : 
       (λ (m : turn d C ≡ Some false). ap (λ y. over y (is_allocated sh s C)) m) q)
       (option_cases (turn d C))
 
-  stays : (C : Block) → is_old olds C ≡ false → is_new news C ≡ false → is_allocated sh t' C ≡ is_allocated sh t C
+  stays : (C : Block) → is_going olds C ≡ false → is_coming news C ≡ false → is_allocated sh t' C ≡ is_allocated sh t C
   stays C e f = ⊎_elim
       (λ (o : is_occupancy sh C ≡ true). now_so C o ∙ (ap (λ y. over y (is_allocated sh s C)) (c.stay C e f) ∙ sym (was_so C o)))
       (λ (o : is_occupancy sh C ≡ false). none_allocated sh t' C o ∙ sym (none_allocated sh t C o))
@@ -141,28 +141,28 @@ module _ (v n : View) (entries entries' : List Entry) (olds : List Old) (news : 
   abbrev left : Block → Bool
   left = minus (is_allocated sh t) olds
 
-  left_is : (C : Block) → left C ≡ (is_allocated sh t C && not (is_old olds C))
+  left_is : (C : Block) → left C ≡ (is_allocated sh t C && not (is_going olds C))
   left_is = minus_is (is_allocated sh t) olds
 
-  left_parts : (C : Block) → left C ≡ true → (is_allocated sh t C ≡ true) × (is_old olds C ≡ false)
-  left_parts C l = let y = and_parts (is_allocated sh t C) (not (is_old olds C)) (sym (left_is C) ∙ l) in (y.0, Rattle.std.proofs.lemmas.Bool.not-true (is_old olds C) y.1)
+  left_parts : (C : Block) → left C ≡ true → (is_allocated sh t C ≡ true) × (is_going olds C ≡ false)
+  left_parts C l = let y = and_parts (is_allocated sh t C) (not (is_going olds C)) (sym (left_is C) ∙ l) in (y.0, Rattle.std.proofs.lemmas.Bool.not-true (is_going olds C) y.1)
 
-  left_not_new : (C : Block) → left C ≡ true → is_new news C ≡ false
-  left_not_new C l = false_from_ne_true (is_new news C) (λ e. both_ways (is_allocated sh t C) (new_stood_not C e) (left_parts C l).0)
+  left_not_new : (C : Block) → left C ≡ true → is_coming news C ≡ false
+  left_not_new C l = false_from_ne_true (is_coming news C) (λ e. both_ways (is_allocated sh t C) (new_stood_not C e) (left_parts C l).0)
 
   left_stands : (C : Block) → left C ≡ true → is_allocated sh t' C ≡ true
   left_stands C l = let y = left_parts C l in stays C y.1 (left_not_new C l) ∙ y.0
 
   all_so : (C : Block) → is_allocated sh t' C ≡ plus left news C
   all_so C = ⊎_elim
-      (λ (e : is_new news C ≡ true). new_stands C e ∙ sym (plus_is left news C ∙ or_right (left C) (is_new news C) e))
-      (λ (e : is_new news C ≡ false). ⊎_elim
-      (λ (f : is_old olds C ≡ true). old_gone C f
+      (λ (e : is_coming news C ≡ true). new_stands C e ∙ sym (plus_is left news C ∙ or_right (left C) (is_coming news C) e))
+      (λ (e : is_coming news C ≡ false). ⊎_elim
+      (λ (f : is_going olds C ≡ true). old_gone C f
       ∙ sym (plus_is left news C ∙ (λ i. left_is C i || e i) ∙ ap (λ b. (is_allocated sh t C && not b) || false) f ∙ ap (λ b. b || false) (no_data (is_allocated sh t C))))
-      (λ (f : is_old olds C ≡ false). stays C f e
+      (λ (f : is_going olds C ≡ false). stays C f e
       ∙ sym (plus_is left news C ∙ (λ i. left_is C i || e i) ∙ ap (λ b. (is_allocated sh t C && not b) || false) f ∙ by (is_allocated sh t C)))
-      (cases_Bool (is_old olds C)))
-      (cases_Bool (is_new news C))
+      (cases_Bool (is_going olds C)))
+      (cases_Bool (is_coming news C))
     where
       by : (b : Bool) → ((b && true) || false) ≡ b
       by true = refl
@@ -185,7 +185,7 @@ module _ (v n : View) (entries entries' : List Entry) (olds : List Old) (news : 
   to_lane (Big f) line m y = subst (λ q. IsLineOf sh (geometry_of next) q (Big f) line) (own.same_span next entries' kept classes s header pool holds x' c.enters f (inr m)) y
   to_lane Root line m y = y
 
-  new_apart : (B C : Block) → is_new news B ≡ true → is_allocated sh t' C ≡ true → B ≢ C → AreApart (lies' B) (lies' C)
+  new_apart : (B C : Block) → is_coming news B ≡ true → is_allocated sh t' C ≡ true → B ≢ C → AreApart (lies' B) (lies' C)
   new_apart B C e a ne =
       let b = new_stands B e in
       let p = aligned' B b in
@@ -210,7 +210,7 @@ module _ (v n : View) (entries entries' : List Entry) (olds : List Old) (news : 
 
   -- ---- THE OTHERS KEEP THEIR LINES AND WORDS
 
-  same_lines : (C : Block) → is_old olds C ≡ false → is_new news C ≡ false → lies' C ≡ lies C
+  same_lines : (C : Block) → is_going olds C ≡ false → is_coming news C ≡ false → lies' C ≡ lies C
   same_lines (Small k i) e f = refl
   same_lines (Big g) e f = ap (λ w. record { place = 8 * chunk_word sh.lanes g; lines = 64 * val w 8 56 }) (λ i b. over (c.descriptors g b e f i) (s (Descr g) b))
   same_lines Root e f = refl
@@ -238,18 +238,18 @@ module _ (v n : View) (entries entries' : List Entry) (olds : List Old) (news : 
       a : is_allocated sh t C ≡ true
       a = (left_parts C l).0
 
-      no_old : (B : Block) (kB : ℕ) → is_old olds B ≡ true → kB < words_in v B → place_by classes C k ≢ word_place v B kB
+      no_old : (B : Block) (kB : ℕ) → is_going olds B ≡ true → kB < words_in v B → place_by classes C k ≢ word_place v B kB
       no_old B kB e lowB is =
           let b = old_stood B e in
           let y = old_object B e in
           let within : kB < 8 * (lies B).lines = (let m = (blocks.lines_so v entries was classes s header pool holds x en B y).0 in omega arith) in
           let at : (lies C).place / 8 + k ≡ (lies B).place / 8 + kB = sym (in_t C k a low).1 ∙ (ap (word_of sh) (is ∙ sym (blocks.place_so v entries was classes s header pool holds x en B kB y)) ∙ (in_t B kB b within).1) in
           ⊎_elim
-          (λ (same : C ≡ B). both_ways (is_old olds C) (left_parts C l).1 (subst (λ D. is_old olds D ≡ true) (sym same) e))
+          (λ (same : C ≡ B). both_ways (is_going olds C) (left_parts C l).1 (subst (λ D. is_going olds D ≡ true) (sym same) e))
           (λ (y : AreApart (lies C) (lies B)). far (lies C) (lies B) k kB (scene.begins C a) (scene.begins B b) low within y at)
           (scene.apart C B a b)
 
-      no_new : (B : Block) (kB : ℕ) → is_new news B ≡ true → kB < words_in next B → place_by classes C k ≢ word_place next B kB
+      no_new : (B : Block) (kB : ℕ) → is_coming news B ≡ true → kB < words_in next B → place_by classes C k ≢ word_place next B kB
       no_new B kB e lowB is =
           let b = new_stands B e in
           let y = new_object B e in
@@ -259,7 +259,7 @@ module _ (v n : View) (entries entries' : List Entry) (olds : List Old) (news : 
           let within : kB < 8 * (lies' B).lines = (let m = (blocks.lines_so next entries' kept classes s header pool holds x' c.enters B y).0 in omega arith) in
           let at : (lies' B).place / 8 + kB ≡ (lies' C).place / 8 + k = sym (in_t' B kB b within).1 ∙ (ap (word_of sh) (blocks.place_so next entries' kept classes s header pool holds x' c.enters B kB y ∙ sym is) ∙ (in_t' C k a' low').1) in
           far (lies' B) (lies' C) kB k (even B b) (even C a') within low'
-          (new_apart B C e a' (λ same. both_ways (is_new news C) (left_not_new C l) (subst (λ D. is_new news D ≡ true) same e))) at
+          (new_apart B C e a' (λ same. both_ways (is_coming news C) (left_not_new C l) (subst (λ D. is_coming news D ≡ true) same e))) at
 
   -- ---- THE SCENES
 
@@ -294,7 +294,7 @@ module _ (v n : View) (entries entries' : List Entry) (olds : List Old) (news : 
     abbrev B : Block
     B = m.block
 
-    y : Becomes next entries' m
+    y : ComesToBe next entries' m
     y = c.comes m there
 
     stands : is_allocated sh t' B ≡ true
@@ -335,15 +335,15 @@ module _ (v n : View) (entries entries' : List Entry) (olds : List Old) (news : 
     comes : ((lies' B).place % 8 ≡ 0) × (8 + data_words (size_in w' (lies' B)) ≤ 8 * (lies' B).lines) × (offset_in (lies' B) ≡ m.off) × (item_in w' (lies' B) ≡ m.item)
     comes = (even B stands, (let e = size in let f = y.fits in let z = many.0 in subst (λ q. 8 + data_words q ≤ 8 * (lies' B).lines) (sym e) (omega arith)), offset, item)
 
-  new_is : (m : New) → Contains news m → is_new news m.block ≡ true
+  new_is : (m : New) → Contains news m → is_coming news m.block ≡ true
   new_is m there = Rattle.pm_crash.proofs.NoHeapFault.member_passes (λ (o : New). same o.block m.block) news m there (Rattle.pm_crash.proofs.SceneBlocks.same_refl m.block)
 
   gained : IsScene (plus left news) lies' w' (all_edited (map (λ (m : New). made_item m.off m.item) news) frees)
   gained = gain_all lies' w' news left frees moved c.comes_once comes
       (λ m C there l. new_apart m.block C (new_is m there) (left_stands C l)
-      (λ same. both_ways (is_new news C) (left_not_new C l) (subst (λ D. is_new news D ≡ true) same (new_is m there))))
+      (λ same. both_ways (is_coming news C) (left_not_new C l) (subst (λ D. is_coming news D ≡ true) same (new_is m there))))
       (λ m o there there' ne. new_apart m.block o.block (new_is m there) (new_stands o.block (new_is o there')) ne)
 
-  pub objects_changed : StandIn sh classes t' (all_edited (edits_of olds news) copy)
+  pub objects_changed : StandIn sh classes t' (all_edited (object_edits olds news) copy)
   objects_changed = subst (StandIn sh classes t') (sym (edits_append (map (λ (o : Old). freed_item o.off) olds) (map (λ (m : New). made_item m.off m.item) news) copy))
       (scene_moved (plus left news) (is_allocated sh t') lies' lies' w' w' (all_edited (map (λ (m : New). made_item m.off m.item) news) frees) gained all_so (λ C a. refl) (λ C a. record { same = λ i read. refl }))

@@ -19,7 +19,7 @@ use Rattle.pm_model.specs.Items.{Item, Items, all_edited, edited, put_into}
 use Rattle.pm_model.specs.Pending.{SetWord, set_edit, set_edits}
 use Rattle.pm_model.specs.Transaction.{covered_words}
 use Rattle.pm_crash.specs.Scenes.{AreApart, IsScene}
-use Rattle.pm_crash.specs.SimCommits.{Setting, is_put_in, is_set, set_all, set_bytes, set_one, set_place}
+use Rattle.pm_crash.specs.SimCommits.{Setting, is_put_in, is_word_set, set_all, set_bytes, set_one, set_place}
 use Rattle.pm_crash.specs.Writes.{IsWritten, written_word}
 use Rattle.pm_objects.specs.declared.calls.Operation.TheVariants.{Commit}
 use Rattle.pm_model.specs.Inside.{IsDone, Ran, after_reply, is_inside, is_kept_by}
@@ -39,8 +39,8 @@ use Rattle.pm_crash.specs.HeapChanges.{Frees}
 use Rattle.pm_crash.specs.Looked.{Enters, IsObject, KnowsWord, word_place, words_in}
 use Rattle.pm_crash.specs.Objects.{is_allocated, lines_of}
 use Rattle.pm_crash.specs.OwnBlocks.{own_span}
-use Rattle.pm_crash.specs.Sim.{Agrees, Came, Grows, Leads, StandIn, Tells, bits_now, change_so_far, copy_of, is_kept_block, known_offset, lists_of, tx_with}
-use Rattle.pm_crash.specs.SimCommits.{CanSet, HasSomeLine, IsCommit, IsGone, IsSetIn, SetsWords, Settles, SimCommits, index_of}
+use Rattle.pm_crash.specs.Sim.{Agrees, Came, Grows, LeadsOn, StandIn, Tells, bits_now, change_so_far, copy_of, is_kept_block, known_offset, lists_of, tx_with}
+use Rattle.pm_crash.specs.SimCommits.{CanSet, HasSomeLine, IsCommit, WasFreed, IsSetIn, SetsWords, Settles, SimCommits, index_of}
 use Rattle.pm_crash.specs.Spelled.{Holds, has_blocks, number, words_by}
 use Rattle.pm_crash.proofs.ChangedHeaps.{next_times}
 use Rattle.pm_crash.proofs.Classes.{run_has_lines}
@@ -61,14 +61,14 @@ use Rattle.pm_crash.proofs.SceneSteps.{scenes_are_written}
 
 -- ---- WHICH WORDS ARE SET
 
-set_parts : (i : ℕ) (p : Setting) → is_set i p ≡ true → (is_put_in p.block ≡ true) × (0 < length (set_bytes p)) × (8 * i < set_place p + length (set_bytes p)) × (set_place p < 8 * i + 8)
+set_parts : (i : ℕ) (p : Setting) → is_word_set i p ≡ true → (is_put_in p.block ≡ true) × (0 < length (set_bytes p)) × (8 * i < set_place p + length (set_bytes p)) × (set_place p < 8 * i + 8)
 set_parts i p e =
     let a = and_parts (is_put_in p.block) (nat_lt 0 (length (set_bytes p)) && (nat_lt (8 * i) (set_place p + length (set_bytes p)) && nat_lt (set_place p) (8 * i + 8))) e in
     let b = and_parts (nat_lt 0 (length (set_bytes p))) (nat_lt (8 * i) (set_place p + length (set_bytes p)) && nat_lt (set_place p) (8 * i + 8)) a.1 in
     let c = and_parts (nat_lt (8 * i) (set_place p + length (set_bytes p))) (nat_lt (set_place p) (8 * i + 8)) b.1 in
     (a.0, ltb-true 0 (length (set_bytes p)) b.0, ltb-true (8 * i) (set_place p + length (set_bytes p)) c.0, ltb-true (set_place p) (8 * i + 8) c.1)
 
-covered_set : (i : ℕ) (p : Setting) → is_put_in p.block ≡ true → Contains (covered_words (set_place p) (length (set_bytes p))) i → is_set i p ≡ true
+covered_set : (i : ℕ) (p : Setting) → is_put_in p.block ≡ true → Contains (covered_words (set_place p) (length (set_bytes p))) i → is_word_set i p ≡ true
 covered_set i p put there =
     let has = covered_has_byte (set_place p) (length (set_bytes p)) i there in
     and_from (is_put_in p.block) (nat_lt 0 (length (set_bytes p)) && (nat_lt (8 * i) (set_place p + length (set_bytes p)) && nat_lt (set_place p) (8 * i + 8))) put
@@ -101,9 +101,9 @@ module _ (among : Block → Bool) (lies : Block → Lines) where
 
     is_written : IsWritten w set_to (set_place p) (set_bytes p)
     is_written = record {
-      covered = λ i there. cond-true (is_set i p) (written_word (set_place p) (set_bytes p) i (w i)) (w i) (covered_set i p put_in there);
-      others = λ i never. cond-false (is_set i p) (written_word (set_place p) (set_bytes p) i (w i)) (w i)
-          (false_from_ne_true (is_set i p) (λ e. let t = set_parts i p e in never (byte_is_covered (set_place p) (length (set_bytes p)) i t.1 t.2 t.3)));
+      covered = λ i there. cond-true (is_word_set i p) (written_word (set_place p) (set_bytes p) i (w i)) (w i) (covered_set i p put_in there);
+      others = λ i never. cond-false (is_word_set i p) (written_word (set_place p) (set_bytes p) i (w i)) (w i)
+          (false_from_ne_true (is_word_set i p) (λ e. let t = set_parts i p e in never (byte_is_covered (set_place p) (length (set_bytes p)) i t.1 t.2 t.3)));
     }
 
     set_here : IsScene among lies set_to (edited (set_edit p.set) items)
@@ -113,8 +113,8 @@ module _ (among : Block → Bool) (lies : Block → Lines) where
 
     -- no header is set
     header_same : (C : Block) → among C ≡ true → size_in set_to (lies C) ≡ size_in w (lies C)
-    header_same C c = cond-false (is_set ((lies C).place / 8 + 1) p) (written_word (set_place p) (set_bytes p) ((lies C).place / 8 + 1) (w ((lies C).place / 8 + 1))) (w ((lies C).place / 8 + 1))
-        (false_from_ne_true (is_set ((lies C).place / 8 + 1) p) (λ e.
+    header_same C c = cond-false (is_word_set ((lies C).place / 8 + 1) p) (written_word (set_place p) (set_bytes p) ((lies C).place / 8 + 1) (w ((lies C).place / 8 + 1))) (w ((lies C).place / 8 + 1))
+        (false_from_ne_true (is_word_set ((lies C).place / 8 + 1) p) (λ e.
         let t = set_parts ((lies C).place / 8 + 1) p e in
         let below = t.2 in
         let above = t.3 in
@@ -190,12 +190,12 @@ module _ (among : Block → Bool) (lies : Block → Lines) where
 -- ---- A COMMIT
 
 -- where no setting has a word, it stays
-set_none : (i : ℕ) (settings : List Setting) (x : ℕ) → list_any (is_set i) settings ≡ false → set_all i settings x ≡ x
+set_none : (i : ℕ) (settings : List Setting) (x : ℕ) → list_any (is_word_set i) settings ≡ false → set_all i settings x ≡ x
 unfolding set_all
 set_none i [] x e = refl
 set_none i (p ∷ settings) x e =
-    let t = or_parts (is_set i p) (list_any (is_set i) settings) e in
-    set_none i settings (set_one i p x) t.1 ∙ cond-false (is_set i p) (written_word (set_place p) (set_bytes p) i x) x t.0
+    let t = or_parts (is_word_set i p) (list_any (is_word_set i) settings) e in
+    set_none i settings (set_one i p x) t.1 ∙ cond-false (is_word_set i p) (written_word (set_place p) (set_bytes p) i x) x t.0
 
 block_in : (o : Option Block) → is_put_in o ≡ true → (B : Block) × (o ≡ Some B)
 block_in None e = absurd (both_ways false refl e)
@@ -232,7 +232,7 @@ module _ (v next : View) (entries entries' : List Entry) (settings : List Settin
 
   -- ---- WHAT WAS FREED IS NOWHERE
 
-  gone_not : (off : ℕ) (g : IsGone v entries off) → is_allocated sh t g.block ≡ false
+  gone_not : (off : ℕ) (g : WasFreed v entries off) → is_allocated sh t g.block ≡ false
   gone_not off g = own.before_now v entries kept classes s header pool holds x en g.block g.inside ∙ ⊎_elim
       (λ (f : (has_found v g.block ≡ true) × Frees d g.block). ap (λ y. over y (is_allocated sh s g.block)) f.1)
       (λ (o : (is_kept_block v false g.block ≡ true) × (turn d g.block ≡ None) × HasSomeLine v g.block).
@@ -294,7 +294,7 @@ module _ (v next : View) (entries entries' : List Entry) (settings : List Settin
   stands_place (Big f) a = ((and_parts (nat_lt f (chunks_of sh)) (not (has_blocks t f) && t (Descr f) 1) a).0, refl)
   stands_place Root a = absurd (both_ways false refl a)
 
-  gone_none : (off : ℕ) → IsGone v entries off → copy off ≡ None
+  gone_none : (off : ℕ) → WasFreed v entries off → copy off ≡ None
   gone_none off g = by (copy off) refl
     where
       by : (o : Option Item) → copy off ≡ o → o ≡ None
@@ -405,7 +405,7 @@ module _ (v next : View) (entries entries' : List Entry) (settings : List Settin
       ∙ number_is (t' (word_place v B k)) (set_all i settings (p.words i)) (p.small B i y) (λ b few. ap (λ o. over o (s (word_place v B k) b)) (p.puts B i b y few)))) in
       ap (set_all i settings) was ∙ sym now
 
-  other_now : (C : Block) (i k : ℕ) → is_allocated sh t C ≡ true → (lies C).place / 8 + k ≡ i → k < 8 * (lies C).lines → list_any (is_set i) settings ≡ false → put i ≡ w' i
+  other_now : (C : Block) (i k : ℕ) → is_allocated sh t C ≡ true → (lies C).place / 8 + k ≡ i → k < 8 * (lies C).lines → list_any (is_word_set i) settings ≡ false → put i ≡ w' i
   other_now C i k a index low none =
       let q : Place = place_by classes C k in
       let one = word_at sh classes t (lies C) C k (blocks.is_in v entries kept classes s header pool holds x en C a) low in
@@ -416,7 +416,7 @@ module _ (v next : View) (entries entries' : List Entry) (settings : List Settin
       let there_ : word_of sh q ≡ j = ap (word_of sh) (e ∙ sym (blocks.place_so v entries kept classes s header pool holds x en B (index_of v B j) c.object))
       ∙ ((word_at sh classes t (lies B) B (index_of v B j) (blocks.is_in v entries kept classes s header pool holds x en B (here B c.object)) n.lines).1 ∙ n.index) in
       let same : i ≡ j = sym index ∙ (sym one.1 ∙ there_) in
-      both_ways (list_any (is_set j) settings) (ap (λ m. list_any (is_set m) settings) (sym same) ∙ none) (member_passes (is_set j) settings y.setting y.among y.covers)) z in
+      both_ways (list_any (is_word_set j) settings) (ap (λ m. list_any (is_word_set m) settings) (sym same) ∙ none) (member_passes (is_word_set j) settings y.setting y.among y.covers)) z in
       set_none i settings (w i) none
       ∙ (ap w (sym index) ∙ (one.0 ∙ (ap number (sym stays) ∙ (sym two.0 ∙ ap w' index))))
 
@@ -427,12 +427,12 @@ module _ (v next : View) (entries entries' : List Entry) (settings : List Settin
         let to : i < (lies C).place / 8 + 8 + data_words (size_in put (lies C)) = read.to in
         let room : 8 + data_words (size_in put (lies C)) ≤ 8 * (lies C).lines = written.fits C a in
         ⊎_elim
-        (λ (e : list_any (is_set i) settings ≡ true).
-        let m = passing_member (is_set i) settings e in
+        (λ (e : list_any (is_word_set i) settings ≡ true).
+        let m = passing_member (is_word_set i) settings e in
         let b = block_in m.0.block (set_parts i m.0 m.1.1).0 in
         covered_now b.0 i (record { setting = m.0; among = m.1.0; block = b.1; covers = m.1.1 }))
-        (λ (e : list_any (is_set i) settings ≡ false). other_now C i (i - (lies C).place / 8) a (omega arith) (omega arith) e)
-        (cases_Bool (list_any (is_set i) settings));
+        (λ (e : list_any (is_word_set i) settings ≡ false). other_now C i (i - (lies C).place / 8) a (omega arith) (omega arith) e)
+        (cases_Bool (list_any (is_word_set i) settings));
   }
 
   pub sets_now : StandIn sh classes t' new
@@ -482,7 +482,7 @@ module _ (v next : View) (entries entries' : List Entry) (root : Option ℕ) (ra
   items = ap (λ op. (after_reply op ran.reply tx).items) by.commits ∙ (ap (λ r. (after_reply Commit r tx).items) by.replied
       ∙ (ended_items (leb (lists_of v).level 1) tx ∙ ap (λ (sets : List SetWord). all_edited (set_edits sets) old) (sym by.are)))
 
-  pub leads : Leads v entries next entries' ran kept classes s (plain_pool pool)
+  pub leads : LeadsOn v entries next entries' ran kept classes s (plain_pool pool)
   leads = record {
     replies = is_done tx ran kept (ap is_inside by.commits) unrefused (subst (λ op. IsDone tx op kept ran.reply) (sym by.commits) done);
     stands = subst (StandIn next.fixed.shape classes (bits_now next entries' s)) (sym items) stands;

@@ -19,8 +19,8 @@ use Rattle.pm_view.specs.Entries.{Entry}
 use Rattle.pm_view.specs.View.{Constants, View}
 use Rattle.pm_world.specs.States.{State, over}
 use Rattle.pm_crash.specs.Looked.{Enters, refusal_by}
-use Rattle.pm_crash.specs.Sim.{Agrees, Came, Grows, Leads, SameBits, StandIn, Tells, bits_now, copy_of, lists_of, tx_with}
-use Rattle.pm_crash.specs.SimOps.{Extends, Finds, IsAborted, IsLeft, IsRefusedBy, Looks, RepliesBy, SimAborts, SimExtends, SimRefuses, leaves_copy}
+use Rattle.pm_crash.specs.Sim.{Agrees, Came, Grows, LeadsOn, SameBits, StandIn, Tells, bits_now, copy_of, lists_of, tx_with}
+use Rattle.pm_crash.specs.SimOps.{Extends, Finds, IsAborted, LeavesBits, IsRefusedBy, LookedAt, RepliesBy, SimAborts, SimExtends, SimRefuses, leaves_copy}
 use Rattle.pm_crash.specs.Spelled.{Holds}
 use Rattle.pm_crash.proofs.Looked.{item_so, read_is, refusal_is}
 use Rattle.pm_crash.proofs.SceneSteps.{scenes_begin}
@@ -66,7 +66,7 @@ pub is_refused : (tx : Transaction) (ran : Ran) (kept : Bool) (r : Refusal) → 
 is_refused tx ran kept r inside is y = record { inside = inside; reply = subst (λ o. MatchOption o (IsDone tx ran.operation kept ran.reply) (λ q. IsRefused q ran.reply)) (sym is) y }
 
 module _ (v next : View) (entries entries' : List Entry) (root : Option ℕ) (ran : Ran) (tells : Tells v next ran)
-    (grows : (kept : Bool) → Grows v (is_kept_by ran.operation kept) next kept) (looks : Looks v entries root ran.operation)
+    (grows : (kept : Bool) → Grows v (is_kept_by ran.operation kept) next kept) (looks : LookedAt v entries root ran.operation)
     (kept : Bool) (classes : ℕ → ℕ) (s : State) (header : Header) (pool : PoolView) (x : Agrees classes next kept s) (holds : Holds next.fixed.shape classes s header pool)
     (id : header.id ≡ next.fixed.pool) (c : Came v entries (is_kept_by ran.operation kept) classes s (plain_pool pool)) where
   abbrev was : Bool
@@ -116,7 +116,7 @@ module _ (v next : View) (entries entries' : List Entry) (root : Option ℕ) (ra
   value_is Cancel e y = y
   value_is op e y = absurd (false≢true e)
 
-  pub extended : Extends v entries next entries' root ran → Leads v entries next entries' ran kept classes s (plain_pool pool)
+  pub extended : Extends v entries next entries' root ran → LeadsOn v entries next entries' ran kept classes s (plain_pool pool)
   extended by = record {
     replies = is_done tx ran kept (leaves_inside ran.operation by.leaves) (first_is ∙ by.unrefused) (record {
       there = all_weaker (λ (want : Want). is_first_lock (lists_of v) want ≡ true → Finds next entries' want.id.off)
@@ -129,11 +129,11 @@ module _ (v next : View) (entries entries' : List Entry) (root : Option ℕ) (ra
 
   -- ---- REFUSED OPERATIONS
 
-  left_by : (b : Bool) (r : Refusal) → IsLeft v entries next entries' b → StandIn next.fixed.shape classes (bits_now next entries' s) (cond b tx (aborted (error.Refused r) tx)).items
+  left_by : (b : Bool) (r : Refusal) → LeavesBits v entries next entries' b → StandIn next.fixed.shape classes (bits_now next entries' s) (cond b tx (aborted (error.Refused r) tx)).items
   left_by true r left = stay left
   left_by false r left = nothing_left left.0 left.1
 
-  pub refused_by : IsRefusedBy v entries next entries' root ran → Leads v entries next entries' ran kept classes s (plain_pool pool)
+  pub refused_by : IsRefusedBy v entries next entries' root ran → LeadsOn v entries next entries' ran kept classes s (plain_pool pool)
   refused_by by = record {
     replies = is_refused tx ran kept by.refusal by.inside (first_is ∙ by.first) (record { traced = by.traced; replied = by.replied });
     stands = subst (λ reply. StandIn next.fixed.shape classes (bits_now next entries' s) (after_reply ran.operation reply tx).items) (sym by.replied) (left_by (is_action ran.operation) by.refusal by.left);
@@ -147,7 +147,7 @@ module _ (v next : View) (entries entries' : List Entry) (root : Option ℕ) (ra
   abort_items : (number : ℕ) → ran.reply ≡ None → (after_reply (Abort number) ran.reply tx).items ≡ (plain_pool pool).items
   abort_items number e = ap (λ r. (after_reply (Abort number) r tx).items) e
 
-  pub aborted_so : IsAborted v entries next root ran → entries' ≡ [] → Leads v entries next entries' ran kept classes s (plain_pool pool)
+  pub aborted_so : IsAborted v entries next root ran → entries' ≡ [] → LeadsOn v entries next entries' ran kept classes s (plain_pool pool)
   aborted_so by none = record {
     replies = is_done tx ran kept (ap is_inside by.aborts) (first_is ∙ by.unrefused) (subst (λ op. IsDone tx op kept ran.reply) (sym by.aborts) (abort_done by.number by.replied));
     stands = subst (StandIn next.fixed.shape classes (bits_now next entries' s)) (sym (ap (λ op. (after_reply op ran.reply tx).items) by.aborts ∙ abort_items by.number by.replied)) (nothing_left by.records none);

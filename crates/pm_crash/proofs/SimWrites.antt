@@ -25,7 +25,7 @@ use Rattle.pm_world.specs.States.{State, over, val}
 use Rattle.pm_crash.specs.Looked.{Enters, IsObject, bytes_seen, word_place, words_in}
 use Rattle.pm_crash.specs.Objects.{is_allocated, lines_of}
 use Rattle.pm_crash.specs.Scenes.{IsScene}
-use Rattle.pm_crash.specs.Sim.{Agrees, Came, Grows, Leads, StandIn, Tells, bits_now, copy_of, tx_with}
+use Rattle.pm_crash.specs.Sim.{Agrees, Came, Grows, LeadsOn, StandIn, Tells, bits_now, copy_of, tx_with}
 use Rattle.pm_crash.specs.SimOps.{IsWrite, PutsBytes, SimWrites}
 use Rattle.pm_crash.specs.Spelled.{Holds, has_blocks, number, words_by}
 use Rattle.pm_crash.specs.Writes.{IsWritten, written_word}
@@ -264,7 +264,7 @@ module _ (v next : View) (entries entries' : List Entry) (root : Option ℕ) (ra
   write_done : (o : Oid) → ran.reply ≡ None → IsDone tx (Write o by.at by.bytes) kept ran.reply
   write_done o e = record { there = Rattle.std.proofs.lemmas.List.Elements.All-nil _; publishes = tt; value = e }
 
-  pub leads : Leads v entries next entries' ran kept classes s (plain_pool pool)
+  pub leads : LeadsOn v entries next entries' ran kept classes s (plain_pool pool)
   leads = ⊎_elim
       (λ (y : (o : Oid) × (ran.operation ≡ Write o by.at by.bytes) × (o.off ≡ by.off) × (ran.reply ≡ None)). record {
         replies = is_done tx ran kept (ap is_inside y.1) unrefused (subst (λ op. IsDone tx op kept ran.reply) (sym y.1) (write_done y.0 y.3));

@@ -18,7 +18,7 @@ use Rattle.pm_world.specs.States.{State, live, over}
 use Rattle.pm_crash.specs.Calls.{pending_of, told_by}
 use Rattle.pm_crash.specs.Footprints.{geometry_of, has_found, is_of_object, is_run_to}
 use Rattle.pm_crash.specs.OpenRuns.{AreReplies, MayFollow, after_told, no_pool}
-use Rattle.pm_crash.specs.Sim.{Agrees, Came, Grows, IsAsBefore, Keeps, MayTell, SameBits, SimBegins, SimGoesOn, SimStays, StandIn, bits_now, change_so_far, copy_of, is_kept_block, lists_of, sees_at, tx_with}
+use Rattle.pm_crash.specs.Sim.{Agrees, Came, Grows, IsAsBefore, KeepsEntries, MayTell, SameBits, SimBegins, SimGoesOn, SimStays, StandIn, bits_now, change_so_far, copy_of, is_kept_block, lists_of, sees_at, tx_with}
 use Rattle.pm_crash.specs.Spelled.{Holds}
 use Rattle.pm_crash.proofs.OpenRuns.{replies_once_more, told_apart, told_once_more}
 use Rattle.pm_crash.proofs.SceneSteps.{scenes_begin}
@@ -36,7 +36,7 @@ sees_so v s (InHuge c w) b = refl
 sees_so v s (Descr c) b = refl
 sees_so v s RootWord b = refl
 
-module _ (v next : View) (kept kept' : Bool) (keeps : Keeps v next) (g : Grows v kept next kept') (classes : ℕ → ℕ) (s : State)
+module _ (v next : View) (kept kept' : Bool) (keeps : KeepsEntries v next) (g : Grows v kept next kept') (classes : ℕ → ℕ) (s : State)
     (x : Agrees classes next kept' s) where
   same_live : (p : Place) (b : ℕ) → sees_at v p b ≡ true → live s (geometry_of v) (is_run_to v) p ≡ true → live s (geometry_of next) (is_run_to next) p ≡ true
   same_live (InRun c w) b t l =
@@ -128,7 +128,7 @@ sim_begins v call records = record { come = come } where
 
 -- ---- A LANE THAT TELLS NOTHING
 
-module _ (v next : View) (keeps : Keeps v next) where
+module _ (v next : View) (keeps : KeepsEntries v next) where
   pub header_back : (header : Header) → header.id ≡ next.fixed.pool → header.id ≡ v.fixed.pool
   header_back header id = id ∙ ap (λ (f : Constants). f.pool) keeps.fixed
 

@@ -81,8 +81,8 @@ pub record Enters (v : View) (entries : List Entry) : Type 0 where
 -- ---- OBJECTS
 
 -- an object stands in the block: the lane found it and did not free it, or its call made it
-abbrev pub Stands : View → List Entry → Block → Type 0
-Stands v entries B =
+abbrev pub StandsNow : View → List Entry → Block → Type 0
+StandsNow v entries B =
     ((has_found v B ≡ true) × (given (turn (change_so_far v entries) B) ≡ false))
     ⊎ Makes (change_so_far v entries) B
 
@@ -94,7 +94,7 @@ IsWholeTo v B = Unit {0}
 
 pub record IsObject (v : View) (entries : List Entry) (B : Block) : Type 0 where
   pub inside : is_occupancy v.fixed.shape B ≡ true
-  pub stands : Stands v entries B
+  pub stands : StandsNow v entries B
   pub whole : IsWholeTo v B
 
 -- THE LANE KNOWS A BIT of a block as its call has it: the call gives it, or the lane saw it so before
@@ -144,8 +144,8 @@ pub record KnowsSize (v : View) (entries : List Entry) (off : ℕ) : Type 0 wher
   pub seen : size_seen v off ≡ Some size
 
 -- and of each object that the operation asks for, which it holds and did not free
-abbrev pub HasSizes : View → List Entry → Option ℕ → Operation → Type 0
-HasSizes v entries root op = (id : Oid) (write : Bool) → Contains (ids_sized (lists_of v) op) id
+abbrev pub KnowsSizes : View → List Entry → Option ℕ → Operation → Type 0
+KnowsSizes v entries root op = (id : Oid) (write : Bool) → Contains (ids_sized (lists_of v) op) id
     → is_not_held (tx_with v (pool_seen v root) (items_seen v)) write id ≡ false
     → is_gone (lists_of v) id.off ≡ false → KnowsSize v entries id.off
 
@@ -158,7 +158,7 @@ HasRoot v root op pool = (id : Oid) → Contains (ids_freed (lists_of v) op) id
 -- IT IS THE MODEL'S FIRST REFUSAL, from whatever bits and whatever pool
 abbrev pub RefusalIs : Type 0
 RefusalIs = (v : View) (entries : List Entry) (seen : Seen) (root : Option ℕ) (op : Operation)
-    → Enters v entries → HasSizes v entries root op
+    → Enters v entries → KnowsSizes v entries root op
     → (kept : Bool) (classes : ℕ → ℕ) (s : State) (header : Header) (pool : PoolView) (copy : Items)
     → Agrees classes v kept s → Holds v.fixed.shape classes s header pool
     → header.id ≡ v.fixed.pool → StandIn v.fixed.shape classes (bits_now v entries s) copy

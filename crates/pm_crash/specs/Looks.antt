@@ -5,7 +5,7 @@ use Rattle.pm_objects.specs.declared.calls.Operation.{Operation}
 use Rattle.pm_objects.specs.declared.calls.Operation.TheVariants.{AddRange, Write, Read, Increment, Free, Publish}
 use Rattle.pm_objects.specs.declared.ids.Oid.{Oid}
 use Rattle.pm_model.specs.Items.{Items, PlainPool, is_root, size_of}
-use Rattle.pm_crash.specs.OpenRuns.{with_copy}
+use Rattle.pm_crash.specs.OpenRuns.{on_pool}
 use Rattle.pm_model.specs.Pending.{SetWord}
 use Rattle.pm_model.specs.Refusals.{Seen, is_listed, is_not_held, refusal_of}
 use Rattle.pm_model.specs.Transaction.{Transaction, is_gone}
@@ -31,17 +31,17 @@ pub record AreAlike (tx : Transaction) (op : Operation) (before other : PlainPoo
   pub lanes : before.lanes ≡ other.lanes
   pub zones : before.zones ≡ other.zones
   pub sizes : (id : Oid) (write : Bool) → Contains (ids_sized tx op) id
-      → is_not_held (with_copy before copy tx) write id ≡ false → is_gone tx id.off ≡ false
+      → is_not_held (on_pool before copy tx) write id ≡ false → is_gone tx id.off ≡ false
       → size_of copy id.off ≡ size_of looked id.off
   pub roots : (id : Oid) → Contains (ids_freed tx op) id
-      → is_not_held (with_copy before copy tx) true id ≡ false → is_gone tx id.off ≡ false
+      → is_not_held (on_pool before copy tx) true id ≡ false → is_gone tx id.off ≡ false
       → is_root before.root id.off ≡ is_root other.root id.off
   pub listed : (id : Oid) → Contains (ids_freed tx op) id
-      → is_not_held (with_copy before copy tx) true id ≡ false → is_gone tx id.off ≡ false
+      → is_not_held (on_pool before copy tx) true id ≡ false → is_gone tx id.off ≡ false
       → is_listed copy id.off ≡ is_listed looked id.off
 
 -- SO THEY ARE REFUSED ALIKE
 abbrev pub RefusalsLook : Type 0
 RefusalsLook = (seen : Seen) (tx : Transaction) (op : Operation) (before other : PlainPool)
     (copy looked : Items) → AreAlike tx op before other copy looked
-    → refusal_of seen (with_copy before copy tx) op ≡ refusal_of seen (with_copy other looked tx) op
+    → refusal_of seen (on_pool before copy tx) op ≡ refusal_of seen (on_pool other looked tx) op

@@ -12,8 +12,8 @@ after_told [] tx = tx
 after_told (t ∷ told) tx = after_told told (after_reply t.operation t.reply tx)
 
 -- the same lists on another pool and another copy
-abbrev pub with_copy : PlainPool → Items → Transaction → Transaction
-with_copy before copy tx = record tx { before = before; items = copy }
+abbrev pub on_pool : PlainPool → Items → Transaction → Transaction
+on_pool before copy tx = record tx { before = before; items = copy }
 
 -- a pool without objects
 abbrev pub no_pool : PlainPool

@@ -28,7 +28,7 @@ use Rattle.pm_world.specs.States.{State, Call, Diff, after_diff, diff}
 use Rattle.pm_crash.specs.Calls.{pending_after, pending_of, pending_with, told_by}
 use Rattle.pm_crash.specs.Footprints.{MayPrecedeBut, bit_before, geometry_of, has_found, has_own}
 use Rattle.pm_crash.specs.Objects.{is_allocated, lines_of}
-use Rattle.pm_crash.specs.OpenRuns.{AreReplies, after_told, no_pool, with_copy}
+use Rattle.pm_crash.specs.OpenRuns.{AreReplies, after_told, no_pool, on_pool}
 use Rattle.pm_crash.specs.Scenes.{IsScene}
 use Rattle.pm_crash.specs.Spelled.{Holds, words_by}
 
@@ -41,7 +41,7 @@ lists_of v = after_told v.call (idle no_pool (pending_of v.entries))
 
 -- THE TRANSACTION OF THESE LISTS, on a pool and a copy of its objects
 abbrev pub tx_with : View → PlainPool → Items → Transaction
-tx_with v before copy = with_copy before copy (lists_of v)
+tx_with v before copy = on_pool before copy (lists_of v)
 
 -- the copy that its operations make of a pool's objects
 abbrev pub copy_of : View → PlainPool → Items
@@ -158,12 +158,12 @@ SameBits v entries next entries' = (p : Place) (b : ℕ)
     × (change_so_far next entries' p b ≡ Some y) × IsAsBefore next p b y)
 
 -- the lane's call is the same, or has one operation more
-pub record Keeps (v next : View) : Type 0 where
+pub record KeepsEntries (v next : View) : Type 0 where
   pub fixed : next.fixed ≡ v.fixed
   pub entries : next.entries ≡ v.entries
 
 pub record Tells (v next : View) (ran : Ran) : Type 0 where
-  pub keeps : Keeps v next
+  pub keeps : KeepsEntries v next
   pub call : next.call ≡ v.call ++ told_by ran ∷ []
 
 -- an operation may come: the first, or one that finds the transaction at work
@@ -172,7 +172,7 @@ MayTell v = (v.call ≡ []) ⊎ (is_working (lists_of v).stage ≡ true)
 
 -- what an operation owes with the bits in it: it replies as the model says, and what the model's
 -- operation makes of the copy stands in the bits then
-pub record Leads (v : View) (entries : List Entry) (next : View) (entries' : List Entry) (ran : Ran)
+pub record LeadsOn (v : View) (entries : List Entry) (next : View) (entries' : List Entry) (ran : Ran)
     (kept : Bool) (classes : ℕ → ℕ) (s : State) (pool : PlainPool) : Type 0 where
   pub replies : Replies (tx_with v pool (copy_of v pool)) ran kept
   pub stands : StandIn next.fixed.shape classes (bits_now next entries' s)
@@ -187,7 +187,7 @@ SimBegins = (v : View) → v.call ≡ [] → v.log.records ≡ [] → Sim v []
 -- A LANE THAT TELLS NOTHING, knows no less and leaves the bits goes on so
 abbrev pub SimStays : Type 0
 SimStays = (v next : View) (entries entries' : List Entry) → Sim v entries
-    → Keeps v next → next.call ≡ v.call → ((kept : Bool) → Grows v kept next kept)
+    → KeepsEntries v next → next.call ≡ v.call → ((kept : Bool) → Grows v kept next kept)
     → SameBits v entries next entries' → Sim next entries'
 
 -- ONE MORE OPERATION
@@ -199,7 +199,7 @@ SimGoesOn = (v next : View) (entries entries' : List Entry) (ran : Ran) → Sim 
     → Agrees classes next kept s → Holds next.fixed.shape classes s header pool
     → header.id ≡ next.fixed.pool
     → Came v entries (is_kept_by ran.operation kept) classes s (plain_pool pool)
-    → Leads v entries next entries' ran kept classes s (plain_pool pool))
+    → LeadsOn v entries next entries' ran kept classes s (plain_pool pool))
     → Sim next entries'
 
 -- AN OPERATION THAT IS TOLD leaves what the lane knows, and its blocks that are to be objects

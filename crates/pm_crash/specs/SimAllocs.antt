@@ -18,7 +18,7 @@ use Rattle.pm_crash.specs.Looked.{refusal_by, words_in}
 use Rattle.pm_crash.specs.OwnBlocks.{own_span}
 use Rattle.pm_crash.specs.Sim.{Grows, MayTell, SameBits, Sim, Tells, is_kept_block, known_offset, lists_of}
 use Rattle.pm_crash.specs.SimBlocks.{ChangesObjects, New, Old}
-use Rattle.pm_crash.specs.SimOps.{Looks}
+use Rattle.pm_crash.specs.SimOps.{LookedAt}
 
 -- a huge block's chunks lie in one zone
 abbrev pub IsInZone : View → Block → Type 0
@@ -27,7 +27,7 @@ IsInZone v B = Unit {0}
 
 -- THE LANE HAS A BLOCK for an object of this size at this offset, none of whose lines is one of these
 -- blocks'
-pub record HasRoom (v : View) (kept : Bool) (taken : List Placed) (b : Placed) : Type 0 where
+pub record HasBlockFor (v : View) (kept : Bool) (taken : List Placed) (b : Placed) : Type 0 where
   pub block : Block
   pub own : is_kept_block v kept block ≡ true
   pub inside : is_occupancy v.fixed.shape block ≡ true
@@ -37,10 +37,10 @@ pub record HasRoom (v : View) (kept : Bool) (taken : List Placed) (b : Placed) :
   pub others : (l : ℕ) → covers b l ≡ true → are_covered taken l ≡ false
 
 -- and for several, one after another
-unfoldable pub HasRooms : View → Bool → List Placed → List Placed → Type 0
-HasRooms v kept taken [] = Unit {0}
-HasRooms v kept taken (b ∷ blocks) =
-    HasRoom v kept taken b × HasRooms v kept (b ∷ taken) blocks
+unfoldable pub HaveBlocksFor : View → Bool → List Placed → List Placed → Type 0
+HaveBlocksFor v kept taken [] = Unit {0}
+HaveBlocksFor v kept taken (b ∷ blocks) =
+    HasBlockFor v kept taken b × HaveBlocksFor v kept (b ∷ taken) blocks
 
 -- ---- FREE
 
@@ -49,7 +49,7 @@ pub record IsFreeing (v : View) (entries : List Entry) (next : View) (entries' :
   pub id : Oid
   pub frees : ran.operation ≡ Free id
   pub replied : ran.reply ≡ None
-  pub looks : Looks v entries root ran.operation
+  pub looks : LookedAt v entries root ran.operation
   pub unrefused : refusal_by ran.seen v root ran.operation ≡ None
   pub block : Block
   pub changes : ChangesObjects v entries next entries' (record { block = block; off = id.off } ∷ []) []
@@ -69,10 +69,10 @@ pub record IsAllocation (v : View) (entries : List Entry) (next : View) (entries
   pub off : ℕ
   pub allocates : ran.operation ≡ Alloc size kind
   pub replied : ran.reply ≡ Some (Offset off)
-  pub looks : Looks v entries root ran.operation
+  pub looks : LookedAt v entries root ran.operation
   pub unrefused : refusal_by ran.seen v root ran.operation ≡ None
   pub can : CanHold v.fixed.shape.lanes v.fixed.shape.zones (class_of size) off
-  pub room : (kept : Bool) → HasRoom next kept (taken_by (lists_of v)) (record { off = off; size = size })
+  pub room : (kept : Bool) → HasBlockFor next kept (taken_by (lists_of v)) (record { off = off; size = size })
   pub block : Block
   pub changes : ChangesObjects v entries next entries' []
       (record { block = block; off = off; item = new_item kind size None } ∷ [])
@@ -92,10 +92,10 @@ pub record IsReservation (v : View) (entries : List Entry) (next : View) (entrie
   pub off : ℕ
   pub reserves : ran.operation ≡ Reserve size kind
   pub replied : ran.reply ≡ Some (Offset off)
-  pub looks : Looks v entries root ran.operation
+  pub looks : LookedAt v entries root ran.operation
   pub unrefused : refusal_by ran.seen v root ran.operation ≡ None
   pub can : CanHold v.fixed.shape.lanes v.fixed.shape.zones (class_of size) off
-  pub room : HasRoom next true (taken_by (lists_of v)) (record { off = off; size = size })
+  pub room : HasBlockFor next true (taken_by (lists_of v)) (record { off = off; size = size })
   pub same : SameBits v entries next entries'
 
 abbrev pub SimReserves : Type 0
@@ -110,10 +110,10 @@ pub record IsPublication (v : View) (entries : List Entry) (next : View) (entrie
     (root : Option ℕ) (ran : Ran) : Type 0 where
   pub publishes : ran.operation ≡ Publish
   pub replied : ran.reply ≡ None
-  pub looks : Looks v entries root ran.operation
+  pub looks : LookedAt v entries root ran.operation
   pub unrefused : refusal_by ran.seen v root ran.operation ≡ None
   pub rooms : (kept : Bool)
-      → HasRooms next kept (lists_of v).made (blocks_reserved (lists_of v).pending)
+      → HaveBlocksFor next kept (lists_of v).made (blocks_reserved (lists_of v).pending)
   pub olds : List Old
   pub news : List New
   pub freed : map (λ (o : Old). freed_item o.off) olds

@@ -24,27 +24,27 @@ pub record New : Type 0 where
   pub off : ℕ
   pub item : Item
 
-abbrev pub is_old : List Old → Block → Bool
-is_old olds C = list_any (λ (o : Old). same o.block C) olds
+abbrev pub is_going : List Old → Block → Bool
+is_going olds C = list_any (λ (o : Old). same o.block C) olds
 
-abbrev pub is_new : List New → Block → Bool
-is_new news C = list_any (λ (n : New). same n.block C) news
+abbrev pub is_coming : List New → Block → Bool
+is_coming news C = list_any (λ (n : New). same n.block C) news
 
 -- each once
 unfoldable pub OldOnce : List Old → Type 0
 OldOnce [] = Unit {0}
-OldOnce (o ∷ olds) = (is_old olds o.block ≡ false) × OldOnce olds
+OldOnce (o ∷ olds) = (is_going olds o.block ≡ false) × OldOnce olds
 
 unfoldable pub NewOnce : List New → Type 0
 NewOnce [] = Unit {0}
-NewOnce (n ∷ news) = (is_new news n.block ≡ false) × NewOnce news
+NewOnce (n ∷ news) = (is_coming news n.block ≡ false) × NewOnce news
 
-abbrev pub edits_of : List Old → List New → List Edit
-edits_of olds news = map (λ (o : Old). freed_item o.off) olds
+abbrev pub object_edits : List Old → List New → List Edit
+object_edits olds news = map (λ (o : Old). freed_item o.off) olds
     ++ map (λ (n : New). made_item n.off n.item) news
 
 -- THE OBJECT COMES TO BE in a block that the call makes: the lane knows its words, by their numbers
-pub record Becomes (next : View) (entries : List Entry) (n : New) : Type 0 where
+pub record ComesToBe (next : View) (entries : List Entry) (n : New) : Type 0 where
   pub at : known_offset next n.block ≡ n.off
   pub object : IsObject next entries n.block
   pub makes : Makes (change_so_far next entries) n.block
@@ -76,21 +76,21 @@ pub record ChangesObjects (v : View) (entries : List Entry) (next : View) (entri
   pub goes : (o : Old) → Contains olds o
       → IsObject v entries o.block × (known_offset v o.block ≡ o.off)
   pub goes_once : OldOnce olds
-  pub gone : (B : Block) → is_old olds B ≡ true → Frees (change_so_far next entries') B
+  pub gone : (B : Block) → is_going olds B ≡ true → Frees (change_so_far next entries') B
       ⊎ ((turn (change_so_far next entries') B ≡ None) × Makes (change_so_far v entries) B)
-  pub comes : (n : New) → Contains news n → Becomes next entries' n
+  pub comes : (n : New) → Contains news n → ComesToBe next entries' n
   pub comes_once : NewOnce news
-  pub was_none : (B : Block) → is_new news B ≡ true → Makes (change_so_far v entries) B → ⊥
+  pub was_none : (B : Block) → is_coming news B ≡ true → Makes (change_so_far v entries) B → ⊥
   -- no line of a new one is another's that the call made
-  pub apart : (B C : Block) (line : ℕ) → is_new news B ≡ true
+  pub apart : (B C : Block) (line : ℕ) → is_coming news B ≡ true
       → Makes (change_so_far next entries') C → B ≢ C
       → HasLineTo next B line → HasLineTo next C line → ⊥
-  pub stay : (C : Block) → is_old olds C ≡ false → is_new news C ≡ false
+  pub stay : (C : Block) → is_going olds C ≡ false → is_coming news C ≡ false
       → turn (change_so_far next entries') C ≡ turn (change_so_far v entries) C
-  pub descriptors : (f b : ℕ) → is_old olds (Big f) ≡ false → is_new news (Big f) ≡ false
+  pub descriptors : (f b : ℕ) → is_going olds (Big f) ≡ false → is_coming news (Big f) ≡ false
       → change_so_far next entries' (Descr f) b ≡ change_so_far v entries (Descr f) b
   pub words : (p : Place) (b : ℕ) → is_data p ≡ true
-      → ((B : Block) (k : ℕ) → is_old olds B ≡ true → k < words_in v B → p ≢ word_place v B k)
-      → ((B : Block) (k : ℕ) → is_new news B ≡ true → k < words_in next B
+      → ((B : Block) (k : ℕ) → is_going olds B ≡ true → k < words_in v B → p ≢ word_place v B k)
+      → ((B : Block) (k : ℕ) → is_coming news B ≡ true → k < words_in next B
       → p ≢ word_place next B k)
       → change_so_far next entries' p b ≡ change_so_far v entries p b

@@ -18,7 +18,7 @@ use Rattle.pm_crash.specs.HeapChanges.{Frees}
 use Rattle.pm_crash.specs.OwnBlocks.{own_span}
 use Rattle.pm_crash.specs.Looked.{IsObject, KnowsWord, refusal_by, word_place}
 use Rattle.pm_crash.specs.Sim.{Grows, MayTell, Sim, Tells, change_so_far, is_kept_block, known_offset, lists_of}
-use Rattle.pm_crash.specs.SimOps.{Looks}
+use Rattle.pm_crash.specs.SimOps.{LookedAt}
 use Rattle.pm_crash.specs.Writes.{written_word}
 
 -- a word to be set, with the block that its object stands in; none where the call freed it
@@ -38,13 +38,13 @@ abbrev pub is_put_in : Option Block → Bool
 is_put_in None = false
 is_put_in (Some B) = true
 
-abbrev pub is_set : ℕ → Setting → Bool
-is_set i p = is_put_in p.block && (nat_lt 0 (length (set_bytes p))
+abbrev pub is_word_set : ℕ → Setting → Bool
+is_word_set i p = is_put_in p.block && (nat_lt 0 (length (set_bytes p))
     && (nat_lt (8 * i) (set_place p + length (set_bytes p)) && nat_lt (set_place p) (8 * i + 8)))
 
 -- word i, which was x, after one of them and after all
 abbrev pub set_one : ℕ → Setting → ℕ → ℕ
-set_one i p x = cond (is_set i p) (written_word (set_place p) (set_bytes p) i x) x
+set_one i p x = cond (is_word_set i p) (written_word (set_place p) (set_bytes p) i x) x
 
 unfoldable pub set_all : ℕ → List Setting → ℕ → ℕ
 set_all i [] x = x
@@ -57,7 +57,7 @@ HasSomeLine v (Big f) = 1 ≤ own_span v f
 HasSomeLine v Root = Unit {0}
 
 -- an object that the call freed, where it stood: nothing of the copy is at its offset
-pub record IsGone (v : View) (entries : List Entry) (off : ℕ) : Type 0 where
+pub record WasFreed (v : View) (entries : List Entry) (off : ℕ) : Type 0 where
   pub block : Block
   pub at : known_offset v block ≡ off
   pub inside : is_occupancy v.fixed.shape block ≡ true
@@ -76,7 +76,7 @@ pub record CanSet (v : View) (entries : List Entry) (a : SetWord) (B : Block) : 
   pub inside : a.off + length (number_bytes a.value) ≤ size
 
 abbrev pub Settles : View → List Entry → SetWord → Option Block → Type 0
-Settles v entries a None = IsGone v entries a.id.off
+Settles v entries a None = WasFreed v entries a.id.off
 Settles v entries a (Some B) = CanSet v entries a B
 
 -- word i, one of those that a setting covers in a block, by its index there
@@ -84,7 +84,7 @@ pub record IsSetIn (settings : List Setting) (B : Block) (i : ℕ) : Type 0 wher
   pub setting : Setting
   pub among : Contains settings setting
   pub block : setting.block ≡ Some B
-  pub covers : is_set i setting ≡ true
+  pub covers : is_word_set i setting ≡ true
 
 abbrev pub index_of : View → Block → ℕ → ℕ
 index_of v B i = i - (known_offset v B / 8 - 8)
@@ -114,7 +114,7 @@ pub record IsCommit (v : View) (entries : List Entry) (next : View) (entries' : 
     (root : Option ℕ) (ran : Ran) : Type 0 where
   pub commits : ran.operation ≡ Commit
   pub replied : ran.reply ≡ None
-  pub looks : Looks v entries root ran.operation
+  pub looks : LookedAt v entries root ran.operation
   pub unrefused : refusal_by ran.seen v root ran.operation ≡ None
   pub settings : List Setting
   pub are : map (λ (p : Setting). p.set) settings ≡ sets_at (lists_of v).level (lists_of v).sets

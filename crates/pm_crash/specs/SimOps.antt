@@ -20,7 +20,7 @@ use Rattle.pm_view.specs.Places.{Block, Place}
 use Rattle.pm_view.specs.View.{View}
 use Rattle.pm_world.specs.Memory.{bit}
 use Rattle.pm_world.specs.States.{State}
-use Rattle.pm_crash.specs.Looked.{Enters, HasRoot, HasSizes, IsObject, KnowsRange, KnowsSize, KnowsWord, bytes_seen, refusal_by, word_place}
+use Rattle.pm_crash.specs.Looked.{Enters, HasRoot, KnowsSizes, IsObject, KnowsRange, KnowsSize, KnowsWord, bytes_seen, refusal_by, word_place}
 use Rattle.pm_crash.specs.Sim.{Agrees, change_so_far, Grows, MayTell, SameBits, Sim, Tells, known_offset, lists_of}
 use Rattle.pm_crash.specs.Spelled.{Holds}
 use Rattle.pm_crash.specs.Writes.{written_word}
@@ -33,9 +33,9 @@ KnowsRoot v root op = (kept : Bool) (classes : ℕ → ℕ) (s : State) (header 
     → HasRoot v root op (plain_pool pool)
 
 -- WHAT THE LANE LOOKED AT for an operation: sizes and the root
-pub record Looks (v : View) (entries : List Entry) (root : Option ℕ) (op : Operation) : Type 0 where
+pub record LookedAt (v : View) (entries : List Entry) (root : Option ℕ) (op : Operation) : Type 0 where
   pub enters : Enters v entries
-  pub sizes : HasSizes v entries root op
+  pub sizes : KnowsSizes v entries root op
   pub knows_root : KnowsRoot v root op
 
 -- ---- OPERATIONS THAT LEAVE THE COPY, and make or reserve no object
@@ -67,7 +67,7 @@ pub record Finds (v : View) (entries : List Entry) (off : ℕ) : Type 0 where
 pub record Extends (v : View) (entries : List Entry) (next : View) (entries' : List Entry)
     (root : Option ℕ) (ran : Ran) : Type 0 where
   pub leaves : leaves_copy ran.operation ≡ true
-  pub looks : Looks v entries root ran.operation
+  pub looks : LookedAt v entries root ran.operation
   pub unrefused : refusal_by ran.seen v root ran.operation ≡ None
   pub replies : RepliesBy v entries ran.operation ran.reply
   -- each object of which it took a first lock is there
@@ -85,19 +85,19 @@ SimExtends = (v next : View) (entries entries' : List Entry) (root : Option ℕ)
 -- ---- REFUSED OPERATIONS, and abort
 
 -- an operation on the pending list alone leaves all as it was; any other leaves nothing of the call
-abbrev pub IsLeft : View → List Entry → View → List Entry → Bool → Type 0
-IsLeft v entries next entries' true = SameBits v entries next entries'
-IsLeft v entries next entries' false = (next.log.records ≡ []) × (entries' ≡ [])
+abbrev pub LeavesBits : View → List Entry → View → List Entry → Bool → Type 0
+LeavesBits v entries next entries' true = SameBits v entries next entries'
+LeavesBits v entries next entries' false = (next.log.records ≡ []) × (entries' ≡ [])
 
 pub record IsRefusedBy (v : View) (entries : List Entry) (next : View) (entries' : List Entry)
     (root : Option ℕ) (ran : Ran) : Type 0 where
   pub inside : is_inside ran.operation ≡ true
-  pub looks : Looks v entries root ran.operation
+  pub looks : LookedAt v entries root ran.operation
   pub refusal : Refusal
   pub first : refusal_by ran.seen v root ran.operation ≡ Some refusal
   pub traced : is_untraced refusal ≡ false
   pub replied : ran.reply ≡ Some (Refused refusal)
-  pub left : IsLeft v entries next entries' (is_action ran.operation)
+  pub left : LeavesBits v entries next entries' (is_action ran.operation)
 
 abbrev pub SimRefuses : Type 0
 SimRefuses = (v next : View) (entries entries' : List Entry) (root : Option ℕ) (ran : Ran)
@@ -110,7 +110,7 @@ pub record IsAborted (v : View) (entries : List Entry) (next : View) (root : Opt
   pub number : ℕ
   pub aborts : ran.operation ≡ Abort number
   pub replied : ran.reply ≡ None
-  pub looks : Looks v entries root ran.operation
+  pub looks : LookedAt v entries root ran.operation
   pub unrefused : refusal_by ran.seen v root ran.operation ≡ None
   pub records : next.log.records ≡ []
 
@@ -153,7 +153,7 @@ Puts v entries ran off at bytes =
 
 pub record IsWrite (v : View) (entries : List Entry) (next : View) (entries' : List Entry)
     (root : Option ℕ) (ran : Ran) : Type 0 where
-  pub looks : Looks v entries root ran.operation
+  pub looks : LookedAt v entries root ran.operation
   pub unrefused : refusal_by ran.seen v root ran.operation ≡ None
   pub off : ℕ
   pub at : ℕ
