@@ -18,7 +18,7 @@ use Rattle.pm_world.specs.BlockLines.{AllocatedHas}
 use Rattle.pm_world.specs.Lanes.{is_occupancy}
 use Rattle.pm_world.specs.States.{State, Diff, after_diff, given, over, val}
 use Rattle.pm_world.proofs.Replays.{over_none}
-use Rattle.pm_crash.specs.HeapChanges.{BlocksChange, BlocksStay, ChangedHeapsHold, ChangesHeap, Makes}
+use Rattle.pm_crash.specs.HeapChanges.{ChangesBlocks, BlocksChange, BlocksStay, ChangedHeapsHold, ChangesHeap, Makes}
 use Rattle.pm_crash.specs.Objects.{IsGoodHeap, IsWhole, is_allocated, lines_of}
 use Rattle.pm_crash.specs.Spelled.{has_blocks, number, words_by}
 use Rattle.pm_crash.proofs.Classes.{run_has_lines}
@@ -33,27 +33,28 @@ option_cases (Some false) = inr (inr refl)
 pub next_times : (m i : ℕ) → m * suc i ≡ m * i + m
 next_times m i = mul_comm m (suc i) ∙ (let e : suc i * m ≡ i * m + m = omega arith in e ∙ ap (λ n. n + m) (mul_comm i m))
 
-module _ (sh : Shape) (class : ℕ → ℕ) (s : State) (d : Diff) (h : ChangesHeap sh class s d) where
+module _ (sh : Shape) (class : ℕ → ℕ) (s : State) (d : Diff) (cb : ChangesBlocks sh class s d)
+    (descriptors : (f b : ℕ) → given (turn d (Big f)) ≡ false → given (d (Descr f) b) ≡ false) where
   abbrev s' : State
   s' = after_diff d s
 
   pub blocks_stay : (B : Block) → given (turn d B) ≡ false → lines_of sh class (after_diff d s) B ≡ lines_of sh class s B
   blocks_stay (Small c i) e = refl
-  blocks_stay (Big f) e = ap (λ w. record { place = 8 * chunk_word sh.lanes f; lines = 64 * val w 8 56 }) (λ i b. over_none (d (Descr f) b) (s (Descr f) b) (h.descriptors f b e) i)
+  blocks_stay (Big f) e = ap (λ w. record { place = 8 * chunk_word sh.lanes f; lines = 64 * val w 8 56 }) (λ i b. over_none (d (Descr f) b) (s (Descr f) b) (descriptors f b e) i)
   blocks_stay Root e = refl
 
   module _ (g : IsGoodHeap sh class s) where
     -- ---- NO BLOCK IS MADE WHERE A HUGE ONE IS
     huge_alone : (f c : ℕ) (B : Block) (line : ℕ) → is_allocated sh s (Big f) ≡ true → f ≤ c → c < f + val (s (Descr f)) 8 56 → Makes d B
         → AllocatedHas sh (after_diff d s) (record { first = λ c. c; class = class }) B line → line_of_chunk sh c ≤ line → line < line_of_chunk sh c + 64 → ⊥
-    huge_alone f c B line a from to m has low high = h.blocks.apart B (Big f) line m has a (record {
+    huge_alone f c B line a from to m has low high = cb.apart B (Big f) line m has a (record {
       allocated = (and_parts (not (has_blocks s f)) (s (Descr f) 1) (and_parts (nat_lt f (chunks_of sh)) (not (has_blocks s f) && s (Descr f) 1) a).1).1;
       has = (c, and_from (nat_le f c) (nat_lt c (f + val (s (Descr f)) 8 56)) (le-leb f c from) (lt-ltb c (f + val (s (Descr f)) 8 56) to), record { from = low; to = high });
     })
 
     small_alone : (f c i : ℕ) → is_allocated sh s (Big f) ≡ true → f ≤ c → c < f + val (s (Descr f)) 8 56 → Makes d (Small c i) → ⊥
     small_alone f c i a from to m =
-        let inside = h.blocks.of_run c i m in
+        let inside = cb.of_run c i m in
         let some = run_has_lines (class c) i inside in
         let fit = run_fits (class c) i inside in
         let next = next_times (class c) i in
@@ -63,7 +64,7 @@ module _ (sh : Shape) (class : ℕ → ℕ) (s : State) (d : Diff) (h : ChangesH
 
     big_alone : (f c : ℕ) → is_allocated sh s (Big f) ≡ true → f ≤ c → c < f + val (s (Descr f)) 8 56 → Makes d (Big c) → ⊥
     big_alone f c a from to m =
-        let some = (h.blocks.of_chunks c m).1.some in
+        let some = (cb.of_chunks c m).1.some in
         huge_alone f c (Big c) (line_of_chunk sh c) a from to m
         (record {
           allocated = ap (λ o. over o (s (Descr c) 1)) m;
@@ -87,7 +88,7 @@ module _ (sh : Shape) (class : ℕ → ℕ) (s : State) (d : Diff) (h : ChangesH
         ⊎_elim
         (λ (z : given (d (InRun f 0) y.0) ≡ false). both_ways (has_blocks s' f) e (with_block s' f y.0 y.1 (over_none (d (InRun f 0) y.0) (s (InRun f 0) y.0) z ∙ y.2)))
         (λ z. ⊎_elim (λ (m : d (InRun f 0) y.0 ≡ Some true). both_ways (has_blocks s' f) e (with_block s' f y.0 y.1 (ap (λ o. over o (s (InRun f 0) y.0)) m)))
-        (λ (m : d (InRun f 0) y.0 ≡ Some false). both_ways (s (Descr f) 1) (h.blocks.plain f y.0 m) t) z)
+        (λ (m : d (InRun f 0) y.0 ≡ Some false). both_ways (s (Descr f) 1) (cb.plain f y.0 m) t) z)
         (option_cases (d (InRun f 0) y.0)))
 
     was_huge : (f : ℕ) → f < chunks_of sh → has_blocks s f ≡ false → s (Descr f) 1 ≡ true → is_allocated sh s (Big f) ≡ true
@@ -95,18 +96,18 @@ module _ (sh : Shape) (class : ℕ → ℕ) (s : State) (d : Diff) (h : ChangesH
         (and_from (not (has_blocks s f)) (s (Descr f) 1) (not_from_false (has_blocks s f) e) t)
 
     same_descr : (f : ℕ) → given (turn d (Big f)) ≡ false → s' (Descr f) ≡ s (Descr f)
-    same_descr f e = λ i b. over_none (d (Descr f) b) (s (Descr f) b) (h.descriptors f b e) i
+    same_descr f e = λ i b. over_none (d (Descr f) b) (s (Descr f) b) (descriptors f b e) i
 
     -- ---- THE CHUNKS ARE GOOD
 
-    runs : (c i : ℕ) → c < chunks_of sh → i < 64 → s' (InRun c 0) i ≡ true → i < blocks_of (class c)
+    pub runs : (c i : ℕ) → c < chunks_of sh → i < 64 → s' (InRun c 0) i ≡ true → i < blocks_of (class c)
     runs c i l m t = ⊎_elim
         (λ (q : given (d (InRun c 0) i) ≡ false). g.runs c i l m (sym (over_none (d (InRun c 0) i) (s (InRun c 0) i) q) ∙ t))
-        (λ q. ⊎_elim (λ (z : d (InRun c 0) i ≡ Some true). h.blocks.of_run c i z)
+        (λ q. ⊎_elim (λ (z : d (InRun c 0) i ≡ Some true). cb.of_run c i z)
         (λ (z : d (InRun c 0) i ≡ Some false). absurd (both_ways false refl (sym (ap (λ o. over o (s (InRun c 0) i)) z) ∙ t))) q)
         (option_cases (d (InRun c 0) i))
 
-    whole : (f : ℕ) → f < chunks_of sh → has_blocks s' f ≡ false → s' (Descr f) 1 ≡ true → IsWhole s' f
+    pub whole : (f : ℕ) → f < chunks_of sh → has_blocks s' f ≡ false → s' (Descr f) 1 ≡ true → IsWhole s' f
     whole f l e t = ⊎_elim
         (λ (q : given (d (Descr f) 1) ≡ false).
         let same = same_descr f q in
@@ -128,7 +129,7 @@ module _ (sh : Shape) (class : ℕ → ℕ) (s : State) (d : Diff) (h : ChangesH
                 (option_cases (d (Descr c) 1))),
           );
         })
-        (λ q. ⊎_elim (λ (z : d (Descr f) 1 ≡ Some true). (h.blocks.of_chunks f z).1)
+        (λ q. ⊎_elim (λ (z : d (Descr f) 1 ≡ Some true). (cb.of_chunks f z).1)
         (λ (z : d (Descr f) 1 ≡ Some false). absurd (both_ways false refl (sym (ap (λ o. over o (s (Descr f) 1)) z) ∙ t))) q)
         (option_cases (d (Descr f) 1))
 
@@ -147,7 +148,7 @@ module _ (sh : Shape) (class : ℕ → ℕ) (s : State) (d : Diff) (h : ChangesH
         (ap (λ t. nat_lt f (chunks_of sh) && (not (has_blocks s' f) && t)) same ∙ ap (λ t. nat_lt f (chunks_of sh) && t) (by_bit (s (Descr f) 1) refl)))
         (λ q. ⊎_elim
         (λ (z : d (Descr f) 1 ≡ Some true).
-        let e = (h.blocks.of_chunks f z).0 in
+        let e = (cb.of_chunks f z).0 in
         let set : s' (Descr f) 1 ≡ true = ap (λ t. over t (s (Descr f) 1)) z in
         and_from (nat_lt f (chunks_of sh)) (not (has_blocks s' f) && s' (Descr f) 1) o (and_from (not (has_blocks s' f)) (s' (Descr f) 1) (not_from_false (has_blocks s' f) e) set)
         ∙ sym (ap (λ t. over t (is_allocated sh s (Big f))) z))
@@ -180,13 +181,29 @@ module _ (sh : Shape) (class : ℕ → ℕ) (s : State) (d : Diff) (h : ChangesH
     occupancy_of (Big f) t a = (and_parts (nat_lt f (chunks_of sh)) (not (has_blocks t f) && t (Descr f) 1) a).0
     occupancy_of Root t a = absurd (both_ways false refl a)
 
+-- ---- AND ITS WORDS
+
+module _ (sh : Shape) (class : ℕ → ℕ) (s : State) (d : Diff) (h : ChangesHeap sh class s d) where
+  abbrev after : State
+  after = after_diff d s
+
+  pub lines_stay : (B : Block) → given (turn d B) ≡ false → lines_of sh class (after_diff d s) B ≡ lines_of sh class s B
+  lines_stay = blocks_stay sh class s d h.blocks h.descriptors
+
+  module _ (g : IsGoodHeap sh class s) where
+    pub changed_to : (B : Block) → is_occupancy sh B ≡ true → is_allocated sh after B ≡ over (turn d B) (is_allocated sh s B)
+    changed_to = blocks_change sh class s d h.blocks h.descriptors g
+
+    abbrev has_place : (B : Block) (t : State) → is_allocated sh t B ≡ true → is_occupancy sh B ≡ true
+    has_place = occupancy_of sh class s d h.blocks h.descriptors g
+
     -- the header of a block that stays
-    header_same : (B : Block) → is_allocated sh s B ≡ true → is_allocated sh s' B ≡ true → given (turn d B) ≡ false
-        → AgreeOn (ReadsHeader (lines_of sh class s B)) (words_by sh class s) (words_by sh class s')
+    header_same : (B : Block) → is_allocated sh s B ≡ true → is_allocated sh after B ≡ true → given (turn d B) ≡ false
+        → AgreeOn (ReadsHeader (lines_of sh class s B)) (words_by sh class s) (words_by sh class after)
     header_same (Small c i) a b e = record {
       same = λ w reads.
           let y = and_parts (is_occupancy sh (Small c i)) (true && s (InRun c 0) i) a in
-          let y' = and_parts (is_occupancy sh (Small c i)) (true && s' (InRun c 0) i) b in
+          let y' = and_parts (is_occupancy sh (Small c i)) (true && after (InRun c 0) i) b in
           let z = and_parts (nat_lt c (chunks_of sh)) (nat_lt i 64) y.0 in
           let l = ltb-true c (chunks_of sh) z.0 in let m = ltb-true i 64 z.1 in
           let fit = run_fits (class c) i (g.runs c i l m y.1) in
@@ -199,9 +216,9 @@ module _ (sh : Shape) (class : ℕ → ℕ) (s : State) (d : Diff) (h : ChangesH
           let is : w ≡ chunk_word sh.lanes c + r = omega arith in
           let low : r < 512 = omega arith in
           let few : k < 8 = omega arith in
-          let bits : s' (InRun c r) ≡ s (InRun c r) = λ j n. over_none (d (InRun c r) n) (s (InRun c r) n) (h.headers (Small c i) k n a e few) j in
+          let bits : after (InRun c r) ≡ s (InRun c r) = λ j n. over_none (d (InRun c r) n) (s (InRun c r) n) (h.headers (Small c i) k n a e few) j in
           ap (words_by sh class s) is ∙ (spelled s c r l low (with_block s c i m y.1) ∙ (ap number (sym bits)
-          ∙ (sym (spelled s' c r l low (with_block s' c i m y'.1)) ∙ sym (ap (words_by sh class s') is))));
+          ∙ (sym (spelled after c r l low (with_block after c i m y'.1)) ∙ sym (ap (words_by sh class after) is))));
     }
       where
         spelled : (t : State) (c r : ℕ) → c < chunks_of sh → r < 512 → has_blocks t c ≡ true → words_by sh class t (chunk_word sh.lanes c + r) ≡ number (t (InRun c r))
@@ -209,49 +226,49 @@ module _ (sh : Shape) (class : ℕ → ℕ) (s : State) (d : Diff) (h : ChangesH
     header_same (Big f) a b e = record {
       same = λ w reads.
           let y = and_parts (nat_lt f (chunks_of sh)) (not (has_blocks s f) && s (Descr f) 1) a in
-          let y' = and_parts (nat_lt f (chunks_of sh)) (not (has_blocks s' f) && s' (Descr f) 1) b in
+          let y' = and_parts (nat_lt f (chunks_of sh)) (not (has_blocks after f) && after (Descr f) 1) b in
           let z = and_parts (not (has_blocks s f)) (s (Descr f) 1) y.1 in
-          let z' = and_parts (not (has_blocks s' f)) (s' (Descr f) 1) y'.1 in
+          let z' = and_parts (not (has_blocks after f)) (after (Descr f) 1) y'.1 in
           let l = ltb-true f (chunks_of sh) y.0 in
           let from = reads.from in let to = reads.to in
           let k : ℕ = w - chunk_word sh.lanes f in
           let is : w ≡ chunk_word sh.lanes f + k = omega arith in
           let few : k < 8 = omega arith in
-          let bits : s' (InHuge f k) ≡ s (InHuge f k) = λ j n. over_none (d (InHuge f k) n) (s (InHuge f k) n) (h.headers (Big f) k n a e few) j in
+          let bits : after (InHuge f k) ≡ s (InHuge f k) = λ j n. over_none (d (InHuge f k) n) (s (InHuge f k) n) (h.headers (Big f) k n a e few) j in
           ap (words_by sh class s) is ∙ (spelled s f k l (omega arith) (not-true (has_blocks s f) z.0) ∙ (ap number (sym bits)
-          ∙ (sym (spelled s' f k l (omega arith) (not-true (has_blocks s' f) z'.0)) ∙ sym (ap (words_by sh class s') is))));
+          ∙ (sym (spelled after f k l (omega arith) (not-true (has_blocks after f) z'.0)) ∙ sym (ap (words_by sh class after) is))));
     }
       where
         spelled : (t : State) (c r : ℕ) → c < chunks_of sh → r < 512 → has_blocks t c ≡ false → words_by sh class t (chunk_word sh.lanes c + r) ≡ number (t (InHuge c r))
         spelled t c r l low has = chunk_spelled sh class t c r l low ∙ ap (λ p. number (t p)) (Rattle.std.proofs.lemmas.Bool.cond-false (has_blocks t c) (InRun c r) (InHuge c r) has)
     header_same Root a b e = absurd (both_ways false refl a)
 
-    good_blocks : (B : Block) → is_allocated sh s' B ≡ true
-        → (good_block (words_by sh class s') (lines_of sh class s' B) ≡ true) × (takes_links (words_by sh class s') (lines_of sh class s' B) ≡ true)
+    good_blocks : (B : Block) → is_allocated sh after B ≡ true
+        → (good_block (words_by sh class after) (lines_of sh class after B) ≡ true) × (takes_links (words_by sh class after) (lines_of sh class after B) ≡ true)
     good_blocks B b =
-        let o = occupancy_of B s' b in
-        let now = blocks_change B o in
+        let o = has_place B after b in
+        let now = changed_to B o in
         ⊎_elim
         (λ (q : given (turn d B) ≡ false).
         let a : is_allocated sh s B ≡ true = sym (over_none (turn d B) (is_allocated sh s B) q) ∙ (sym now ∙ b) in
         let agree = header_same B a b q in
         let y = g.blocks B a in
-        let at = blocks_stay B q in (
-          ap (good_block (words_by sh class s')) at ∙ (good_block_same (words_by sh class s) (words_by sh class s') (lines_of sh class s B) agree ∙ y.0),
-          ap (takes_links (words_by sh class s')) at ∙ (takes_links_same (words_by sh class s) (words_by sh class s') (lines_of sh class s B) agree ∙ y.1),
+        let at = lines_stay B q in (
+          ap (good_block (words_by sh class after)) at ∙ (good_block_same (words_by sh class s) (words_by sh class after) (lines_of sh class s B) agree ∙ y.0),
+          ap (takes_links (words_by sh class after)) at ∙ (takes_links_same (words_by sh class s) (words_by sh class after) (lines_of sh class s B) agree ∙ y.1),
         ))
         (λ q. ⊎_elim (λ (z : turn d B ≡ Some true). h.sized B z o)
         (λ (z : turn d B ≡ Some false). absurd (both_ways false refl (sym (now ∙ ap (λ t. over t (is_allocated sh s B)) z) ∙ b))) q)
         (option_cases (turn d B))
 
-    pub good_after : IsGoodHeap sh class s'
-    good_after = record { runs = runs; whole = whole; blocks = good_blocks; root = h.root }
+    pub good_after : IsGoodHeap sh class after
+    good_after = record { runs = runs sh class s d h.blocks h.descriptors g; whole = whole sh class s d h.blocks h.descriptors g; blocks = good_blocks; root = h.root }
 
 pub changed_holds : ChangedHeapsHold
 changed_holds sh class s d header pool holds h = good_holds sh class (after_diff d s) header (good_after sh class s d h (held_good sh class s header pool holds))
 
 pub changed_blocks : BlocksChange
-changed_blocks sh class s d header pool holds h B o = blocks_change sh class s d h (held_good sh class s header pool holds) B o
+changed_blocks sh class s d header pool holds h B o = changed_to sh class s d h (held_good sh class s header pool holds) B o
 
 pub staying : BlocksStay
-staying sh class s d h B e = blocks_stay sh class s d h B e
+staying sh class s d h B e = lines_stay sh class s d h B e

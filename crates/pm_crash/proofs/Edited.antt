@@ -123,13 +123,13 @@ module _ (sh : Shape) (class : ℕ → ℕ) (s : State) (d : Diff) (header : Hea
   same_place Root = refl
 
   now : (B : Block) → is_occupancy sh B ≡ true → is_allocated sh s' B ≡ over (turn d B) (is_allocated sh s B)
-  now B o = blocks_change sh class s d changes good B o
+  now B o = blocks_change sh class s d changes.blocks changes.descriptors good B o
 
   there_after : (B : Block) → Contains made B → is_allocated sh s' B ≡ true
   there_after B t = let y = lists.is_made B t in now B y.0 ∙ ap (λ a. over a (is_allocated sh s B)) y.1
 
   still : (B : Block) → is_allocated sh s B ≡ true → given (turn d B) ≡ false → is_allocated sh s' B ≡ true
-  still B a q = now B (occupancy_of sh class s d changes good B s a) ∙ (over_none (turn d B) (is_allocated sh s B) q ∙ a)
+  still B a q = now B (occupancy_of sh class s d changes.blocks changes.descriptors good B s a) ∙ (over_none (turn d B) (is_allocated sh s B) q ∙ a)
 
   abbrev gone : Items
   gone = all_edited (map (λ (B : Block). freed_item (place B)) freed) base
@@ -156,7 +156,7 @@ module _ (sh : Shape) (class : ℕ → ℕ) (s : State) (d : Diff) (header : Hea
       not_freed C c e = both_ways (given (turn d B)) q (ap given (sym (ap (turn d) e) ∙ (lists.is_freed C c).1))
 
   has : (B : Block) → is_allocated sh s' B ≡ true → new (place' B) ≡ Some (it B)
-  has B b = let o = occupancy_of sh class s d changes good B s' b in ⊎_elim
+  has B b = let o = occupancy_of sh class s d changes.blocks changes.descriptors good B s' b in ⊎_elim
       (λ (q : given (turn d B) ≡ false). stay_has B (sym (over_none (turn d B) (is_allocated sh s B) q) ∙ (sym (now B o) ∙ b)) q)
       (λ q. ⊎_elim
       (λ (m : Makes d B). made_has B (lists.makes B o m))
@@ -195,7 +195,7 @@ module _ (sh : Shape) (class : ℕ → ℕ) (s : State) (d : Diff) (header : Hea
       no_turn B a n m q = ⊎_elim
           (λ (z : given (turn d B) ≡ false). z)
           (λ z. ⊎_elim
-          (λ (y : Makes d B). absurd (n B (lists.makes B (occupancy_of sh class s d changes good B s a) y) (same_place B ∙ q)))
+          (λ (y : Makes d B). absurd (n B (lists.makes B (occupancy_of sh class s d changes.blocks changes.descriptors good B s a) y) (same_place B ∙ q)))
           (λ (y : Frees d B). absurd (m B (lists.frees B a y) q)) z)
           (option_cases (turn d B))
 

@@ -1,6 +1,6 @@
 -- A zone without room for n chunks in a row: in each stretch of n chunks some chunk is set, so stretches
 -- that were free at the opening are no more than the chunks that the lanes got.
-use Rattle.std.proofs.Common.{◌≡◌, ◌≢◌, ⊎_elim, ℕ, zero, suc, ◌+◌, ◌*◌, ◌<◌, ◌≤◌, not, ◌&&◌, true, false, List, [], ◌∷◌, length, sym, ap, subst, arith}
+use Rattle.std.proofs.Common.{◌≡◌, ◌≢◌, ⊎_elim, ℕ, zero, suc, ◌+◌, ◌*◌, ◌≤◌, not, ◌&&◌, true, false, List, [], ◌∷◌, length, sym, ap, subst, arith}
 use Rattle.std.proofs.lemmas.Bool.{and_from, cases_eq, cond-true}
 use Rattle.pm_view.specs.Places.{Big}
 use Rattle.pm_world.specs.Causes.{filled}

@@ -71,7 +71,7 @@ precedes_with cl cl' v s there_ own p = record {
       (or_cases (has_found v (Small c i)) (has_own v (Small c i)) t)
       ∙ p.class c i t;
   known = p.known;
-  apart = λ B C line a c. p.apart B C line a (back C line c);
+  apart = λ B C line o a c. p.apart B C line o a (back C line c);
 }
   where
     back : (C : Block) (line : ℕ)

@@ -1,5 +1,5 @@
 -- What a lane has for its own is free in all bits that may precede its call.
-use Rattle.std.proofs.Common.{◌≡◌, ⊎_elim, ℕ, ◌+◌, ◌*◌, ◌<◌, ◌≤◌, nat_le, nat_lt, true, false, Some, refl, sym, ◌∙◌, ap, subst, arith}
+use Rattle.std.proofs.Common.{◌≡◌, ⊎_elim, ℕ, ◌+◌, ◌*◌, ◌<◌, ◌≤◌, nat_le, nat_lt, Bool, true, false, Some, refl, sym, ◌∙◌, ap, subst, arith}
 use Rattle.std.proofs.lemmas.Bool.{and_from, both_ways, false_from_ne_true, le-leb, lt-ltb, or_right}
 use Rattle.pm_header.specs.declared.header.Header.{Header}
 use Rattle.pm_layout.specs.Chunks.{chunks_of, line_of_chunk}
@@ -14,7 +14,7 @@ use Rattle.pm_world.specs.BlockLines.{AllocatedHas, IsInChunk, IsInSmall, OwnHas
 use Rattle.pm_world.specs.Sights.{sight_of}
 use Rattle.pm_world.specs.States.{State, Diff, after_diff, given, over, val}
 use Rattle.pm_world.proofs.Replays.{over_none}
-use Rattle.pm_crash.specs.Footprints.{MayPrecede, geometry_of, has_found, has_own}
+use Rattle.pm_crash.specs.Footprints.{MayPrecedeBut, geometry_of, has_found}
 use Rattle.pm_crash.specs.HeapChanges.{ChangesBlocks, Makes}
 use Rattle.pm_crash.specs.Objects.{IsGoodHeap, IsWhole}
 use Rattle.pm_crash.specs.OwnBlocks.{MakesOwnBlocks, OwnBlocksAreFree, own_span}
@@ -24,8 +24,8 @@ use Rattle.pm_crash.proofs.Classes.{run_has_lines}
 use Rattle.pm_crash.proofs.GoodBits.{held_good}
 use Rattle.pm_crash.proofs.Spelling.{some_block, with_block}
 
-module _ (v : View) (class : ℕ → ℕ) (s : State) (d : Diff) (header : Header) (pool : PoolView)
-    (holds : Holds v.fixed.shape class s header pool) (p : MayPrecede class v s) (m : MakesOwnBlocks v s d) where
+module _ (v : View) (own_of : Block → Bool) (class : ℕ → ℕ) (s : State) (d : Diff) (header : Header) (pool : PoolView)
+    (holds : Holds v.fixed.shape class s header pool) (p : MayPrecedeBut class v own_of s) (m : MakesOwnBlocks v own_of s d) where
   abbrev sh : Shape
   sh = v.fixed.shape
 
@@ -36,17 +36,17 @@ module _ (v : View) (class : ℕ → ℕ) (s : State) (d : Diff) (header : Heade
   g = held_good sh class s header pool holds
 
   same_class : (c i : ℕ) → Makes d (Small c i) → class c ≡ claims.class v.claims c
-  same_class c i y = p.class c i (or_right (has_found v (Small c i)) (has_own v (Small c i)) (m.makes (Small c i) y))
+  same_class c i y = p.class c i (or_right (has_found v (Small c i)) (own_of (Small c i)) (m.makes (Small c i) y).0)
 
   -- ---- NO LINE OF ITS OWN IS AN ALLOCATED BLOCK'S
 
   free : (B C : Block) (line : ℕ) → Makes d B → AllocatedHas sh s' (record { first = λ c. c; class = class }) B line
       → AllocatedHas sh s (record { first = λ c. c; class = class }) C line → ⊥
-  free (Small c i) C line y a b = p.apart (Small c i) C line
-      (record { mine = m.makes (Small c i) y; has = subst (λ n. IsInSmall sh n c i line) (same_class c i y) a.has }) b
-  free (Big f) C line y a b = p.apart (Big f) C line
+  free (Small c i) C line y a b = p.apart (Small c i) C line (m.makes (Small c i) y).0
+      (record { mine = (m.makes (Small c i) y).1; has = subst (λ n. IsInSmall sh n c i line) (same_class c i y) a.has }) b
+  free (Big f) C line y a b = p.apart (Big f) C line (m.makes (Big f) y).0
       (record {
-        mine = m.makes (Big f) y;
+        mine = (m.makes (Big f) y).1;
         has = let t = a.has in (t.0, ap (λ n. in_span f n t.0) (sym (m.spans f y)) ∙ t.1, t.2);
       }) b
   free Root C line y a b = absurd cc
@@ -58,7 +58,7 @@ module _ (v : View) (class : ℕ → ℕ) (s : State) (d : Diff) (header : Heade
     within = and_from (nat_le f c) (nat_lt c (f + own_span v f)) (le-leb f c from) (lt-ltb c (f + own_span v f) to)
 
     own : (line : ℕ) → IsInChunk sh c line → OwnHas sh (sight_of v).hold (geometry_of v) (Big f) line
-    own line a = record { mine = m.makes (Big f) y; has = (c, within, a) }
+    own line a = record { mine = (m.makes (Big f) y).1; has = (c, within, a) }
 
     in_range : c < chunks_of sh
     in_range = let l = m.in_pool f y in let z = m.in_zone f y in omega arith
@@ -71,7 +71,7 @@ module _ (v : View) (class : ℕ → ℕ) (s : State) (d : Diff) (header : Heade
         let fit = run_fits (class c) i inside in
         let next = next_times (class c) i in
         let before : ℕ = class c * i in
-        p.apart (Big f) (Small c i) (line_of_chunk sh c + 1 + class c * i)
+        p.apart (Big f) (Small c i) (line_of_chunk sh c + 1 + class c * i) (m.makes (Big f) y).0
         (own (line_of_chunk sh c + 1 + class c * i) (record { from = omega arith; to = omega arith }))
         (record { allocated = b.2; has = record { from = omega arith; to = omega arith } }))
 
@@ -89,7 +89,7 @@ module _ (v : View) (class : ℕ → ℕ) (s : State) (d : Diff) (header : Heade
     no_huge t =
         let some = (g.whole c in_range none_before t).some in
         let n : ℕ = val (s (Descr c)) 8 56 in
-        p.apart (Big f) (Big c) (line_of_chunk sh c)
+        p.apart (Big f) (Big c) (line_of_chunk sh c) (m.makes (Big f) y).0
         (own (line_of_chunk sh c) (record { from = omega arith; to = omega arith }))
         (record {
           allocated = t;
@@ -123,4 +123,4 @@ module _ (v : View) (class : ℕ → ℕ) (s : State) (d : Diff) (header : Heade
   }
 
 pub own_free : OwnBlocksAreFree
-own_free v class s d header pool holds p m = changes v class s d header pool holds p m
+own_free v own class s d header pool holds p m = changes v own class s d header pool holds p m

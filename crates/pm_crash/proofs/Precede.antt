@@ -351,6 +351,6 @@ module _ (o : Opening) (mem : Memory) (views : Views) (g : Past) (x : World o me
     plain = found_plain;
     class = class_so;
     known = known_so;
-    apart = λ B C line a c. lines_apart B C line (subst (λ s. OwnHas s h (geometry_of v) B line) sh_is a)
+    apart = λ B C line t a c. lines_apart B C line (subst (λ s. OwnHas s h (geometry_of v) B line) sh_is a)
         (subst (λ s. AllocatedHas s K (record { first = λ c. c; class = g.geo.class }) C line) sh_is c);
   }

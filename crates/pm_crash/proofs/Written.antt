@@ -113,16 +113,16 @@ module _ (sh : Shape) (class : ℕ → ℕ) (s : State) (d : Diff) (header : Hea
   good = held_good sh class s header pool holds
 
   lies : (C : Block) → lines_of sh class s' C ≡ lines_of sh class s C
-  lies C = blocks_stay sh class s d write.changes C (write.stay C)
+  lies C = blocks_stay sh class s d write.changes.blocks write.changes.descriptors C (write.stay C)
 
   same_allocated : (C : Block) → is_occupancy sh C ≡ true → is_allocated sh s' C ≡ is_allocated sh s C
-  same_allocated C o = blocks_change sh class s d write.changes good C o ∙ over_none (turn d C) (is_allocated sh s C) (write.stay C)
+  same_allocated C o = blocks_change sh class s d write.changes.blocks write.changes.descriptors good C o ∙ over_none (turn d C) (is_allocated sh s C) (write.stay C)
 
   before : (C : Block) → is_allocated sh s' C ≡ true → is_allocated sh s C ≡ true
-  before C a = sym (same_allocated C (occupancy_of sh class s d write.changes good C s' a)) ∙ a
+  before C a = sym (same_allocated C (occupancy_of sh class s d write.changes.blocks write.changes.descriptors good C s' a)) ∙ a
 
   still : (C : Block) → is_allocated sh s C ≡ true → is_allocated sh s' C ≡ true
-  still C a = same_allocated C (occupancy_of sh class s d write.changes good C s a) ∙ a
+  still C a = same_allocated C (occupancy_of sh class s d write.changes.blocks write.changes.descriptors good C s a) ∙ a
 
   stands : (C : Block) → is_allocated sh s C ≡ true → Contains (blocks w sh.lanes sh.zones) (lines_of sh class s C)
   stands C a = told.allocated_block sh class s good.runs good.whole C a

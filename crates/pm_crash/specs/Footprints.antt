@@ -41,8 +41,9 @@ is_of_object v s p =
     is_recorded v.log.records p || live s (geometry_of v) (is_run_to v) p
 
 -- `s` MAY BE THE BITS BEFORE THE CALL, with runs of these classes: as far as the lane of this view
--- can know. Nothing is said of what other lanes have
-pub record MayPrecede (classes : ℕ → ℕ) (v : View) (s : State) : Type 0 where
+-- can know, and with these blocks of its own free. Nothing is said of what other lanes have
+pub record MayPrecedeBut (classes : ℕ → ℕ) (v : View) (own : Block → Bool) (s : State)
+    : Type 0 where
   -- what it found is allocated, a huge block of as many chunks as it knows
   pub found : (B : Block) → has_found v B ≡ true → there s B ≡ true
   pub spans : (f : ℕ) → has_found v (Big f) ≡ true
@@ -52,16 +53,20 @@ pub record MayPrecede (classes : ℕ → ℕ) (v : View) (s : State) : Type 0 wh
   -- and a run in which it found one is no huge block
   pub plain : (c i : ℕ) → has_found v (Small c i) ≡ true → s (Descr c) 1 ≡ false
   -- runs in which it found blocks, or has some, are of the class that it knows
-  pub class : (c i : ℕ) → (has_found v (Small c i) || has_own v (Small c i)) ≡ true
+  pub class : (c i : ℕ) → (has_found v (Small c i) || own (Small c i)) ≡ true
       → classes c ≡ Rattle.pm_view.specs.Claims.class v.claims c
   -- what it knows of the objects that it found, and of the root word under the lock of line 0, is so
   pub known : (p : Place) (b : ℕ) (y : Bool)
       → sees (geometry_of v) s (sight_of v).hold p b ≡ true → is_of_object v s p ≡ true
       → bit_before v p b ≡ Some y → s p b ≡ y
   -- no line of a block of its own is an allocated block's
-  pub apart : (B C : Block) (line : ℕ)
+  pub apart : (B C : Block) (line : ℕ) → own B ≡ true
       → OwnHas v.fixed.shape (sight_of v).hold (geometry_of v) B line
       → AllocatedHas v.fixed.shape s (record { first = λ c. c; class = classes }) C line → ⊥
+
+-- with all blocks of its own free
+abbrev pub MayPrecede : (ℕ → ℕ) → View → State → Type 0
+MayPrecede classes v s = MayPrecedeBut classes v (has_own v) s
 
 -- the bits after those of the first n calls that are kept
 abbrev pub kept_bits : Opening → Past → (ℕ → Bool) → ℕ → State

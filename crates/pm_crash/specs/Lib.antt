@@ -16,3 +16,12 @@ pub mod Edits
 pub mod Facts
 pub mod OwnBlocks
 pub mod Scenes
+pub mod OpenRuns
+pub mod Looks
+pub mod Sim
+pub mod Looked
+pub mod SimFacts
+pub mod SimOps
+pub mod SimBlocks
+pub mod SimAllocs
+pub mod SimCommits

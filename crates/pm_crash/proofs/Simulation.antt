@@ -1,0 +1,189 @@
+-- A lane at work goes on as the plain model's transaction.
+use Rattle.std.proofs.Common.{◌≡◌, ⊎_elim, ℕ, ◌&&◌, ◌||◌, ◌==◌, not, Bool, true, false, cond, List, [], ◌∷◌, ◌++◌, map, Option, Some, None, refl, sym, ◌∙◌, ap, subst}
+use Rattle.std.proofs.lemmas.Bool.{or_cases, or_left, or_right}
+use Rattle.std.proofs.lemmas.List.{map-append}
+use Rattle.pm_header.specs.declared.header.Header.{Header}
+use Rattle.pm_objects.specs.declared.pool.PoolView.{PoolView}
+use Rattle.pm_model.specs.Inside.{Ran, Replies, after, is_kept_by}
+use Rattle.pm_model.specs.Items.{PlainPool, plain_pool}
+use Rattle.pm_model.specs.Transaction.{Transaction, idle, is_working}
+use Rattle.pm_view.specs.Claims.{class, first}
+use Rattle.pm_view.specs.Entries.{Entry, latest, turn}
+use Rattle.pm_view.specs.Places.{Place, InRun, InHuge, Descr, RootWord, Block, Small, Big, Root}
+use Rattle.pm_view.specs.View.{Constants, View, Told}
+use Rattle.pm_world.specs.BlockLines.{AllocatedHas}
+use Rattle.pm_world.specs.Lanes.{sees}
+use Rattle.pm_world.specs.Sights.{is_recorded, picture, sight_of}
+use Rattle.pm_world.specs.States.{State, live, over}
+use Rattle.pm_crash.specs.Calls.{pending_of, told_by}
+use Rattle.pm_crash.specs.Footprints.{geometry_of, has_found, is_of_object, is_run_to}
+use Rattle.pm_crash.specs.OpenRuns.{AreReplies, MayFollow, after_told, no_pool}
+use Rattle.pm_crash.specs.Sim.{Agrees, Came, Grows, IsAsBefore, KeepsEntries, MayTell, SameBits, SimBegins, SimGoesOn, SimStays, StandIn, bits_now, change_so_far, copy_of, is_kept_block, lists_of, sees_at, tx_with}
+use Rattle.pm_crash.specs.Spelled.{Holds}
+use Rattle.pm_crash.proofs.OpenRuns.{replies_once_more, told_apart, told_once_more}
+use Rattle.pm_crash.proofs.SceneSteps.{scenes_begin}
+
+-- ---- THE TRANSACTION is that of its lists
+
+pub now_is : (v : View) (pool : PlainPool) → after_told v.call (idle pool (pending_of v.entries)) ≡ tx_with v pool (copy_of v pool)
+now_is v pool = told_apart v.call (idle no_pool (pending_of v.entries)) pool pool.items
+
+-- ---- A LANE THAT KNOWS NO LESS agrees with no more bits
+
+pub sees_so : (v : View) (s : State) (p : Place) (b : ℕ) → sees (geometry_of v) s (sight_of v).hold p b ≡ sees_at v p b
+sees_so v s (InRun c w) b = refl
+sees_so v s (InHuge c w) b = refl
+sees_so v s (Descr c) b = refl
+sees_so v s RootWord b = refl
+
+module _ (v next : View) (kept kept' : Bool) (keeps : KeepsEntries v next) (g : Grows v kept next kept') (classes : ℕ → ℕ) (s : State)
+    (x : Agrees classes next kept' s) where
+  same_live : (p : Place) (b : ℕ) → sees_at v p b ≡ true → live s (geometry_of v) (is_run_to v) p ≡ true → live s (geometry_of next) (is_run_to next) p ≡ true
+  same_live (InRun c w) b t l =
+      let e : class next.claims c ≡ class v.claims c = (g.sees (InRun c w) b t).1 in
+      subst (λ n. live s (record { first = first next.fixed.shape next.claims; class = λ d. n }) (λ d. not (n == 0)) (InRun c w) ≡ true) (sym e) l
+  same_live (InHuge c w) b t l =
+      let e : first next.fixed.shape next.claims c ≡ first v.fixed.shape v.claims c = (g.sees (InHuge c w) b t).1 in
+      subst (λ n. live s (record { first = λ d. n; class = class next.claims }) (is_run_to next) (InHuge c w) ≡ true) (sym e) l
+  same_live (Descr c) b t l = refl
+  same_live RootWord b t l = refl
+
+  same_object : (p : Place) (b : ℕ) → sees_at v p b ≡ true → is_of_object v s p ≡ true → is_of_object next s p ≡ true
+  same_object p b t o = ⊎_elim
+      (λ (r : is_recorded v.log.records p ≡ true). or_left (is_recorded next.log.records p) (live s (geometry_of next) (is_run_to next) p) (g.recorded p r))
+      (λ (l : live s (geometry_of v) (is_run_to v) p ≡ true). or_right (is_recorded next.log.records p) (live s (geometry_of next) (is_run_to next) p) (same_live p b t l))
+      (or_cases (is_recorded v.log.records p) (live s (geometry_of v) (is_run_to v) p) o)
+
+  pub agrees_back : Agrees classes v kept s
+  agrees_back = record {
+    found = λ B t. x.found B (g.found B t);
+    spans = λ f t. x.spans f (g.found (Big f) t) ∙ g.spans f t;
+    whole = λ f t. x.whole f (g.found (Big f) t);
+    plain = λ c i t. x.plain c i (g.found (Small c i) t);
+    class = λ c i t. x.class c i (⊎_elim
+        (λ (f : has_found v (Small c i) ≡ true). or_left (has_found next (Small c i)) (is_kept_block next kept' (Small c i)) (g.found (Small c i) f))
+        (λ (o : is_kept_block v kept (Small c i) ≡ true). or_right (has_found next (Small c i)) (is_kept_block next kept' (Small c i)) (g.own (Small c i) o))
+        (or_cases (has_found v (Small c i)) (is_kept_block v kept (Small c i)) t)) ∙ g.class c i t;
+    known = λ p b y t o e.
+        let t' : sees_at v p b ≡ true = sym (sees_so v s p b) ∙ t in
+        x.known p b y (sees_so next s p b ∙ (g.sees p b t').0) (same_object p b t' o) (g.knows p b y t' e);
+    apart = λ B C line o a c. x.apart B C line (g.own B o) (g.lines B line o a)
+        (subst (λ (f : Constants). AllocatedHas f.shape s (record { first = λ d. d; class = classes }) C line) (sym keeps.fixed) c);
+  }
+
+-- ---- THE BITS STAY
+
+module _ (v next : View) (entries entries' : List Entry) (same : SameBits v entries next entries') (kept : Bool) (classes : ℕ → ℕ) (s : State) (x : Agrees classes next kept s) where
+  same_bit : (p : Place) (b : ℕ) → bits_now next entries' s p b ≡ bits_now v entries s p b
+  same_bit p b = ⊎_elim
+      (λ (e : change_so_far next entries' p b ≡ change_so_far v entries p b). ap (λ o. over o (s p b)) e)
+      (λ (n : (y : Bool) × (change_so_far v entries p b ≡ None) × (change_so_far next entries' p b ≡ Some y) × IsAsBefore next p b y).
+      let y : Bool = n.0 in
+      let new = n.3 in
+      ap (λ o. over o (s p b)) n.2
+      ∙ (sym (x.known p b y (sees_so next s p b ∙ new.sees) (or_left (is_recorded next.log.records p) (live s (geometry_of next) (is_run_to next) p) new.recorded) new.before)
+      ∙ sym (ap (λ o. over o (s p b)) n.1)))
+      (same p b)
+
+  pub same_bits : bits_now next entries' s ≡ bits_now v entries s
+  same_bits = λ i p b. same_bit p b i
+
+-- ---- A CALL BEGINS
+
+no_turn : (B : Block) → turn (latest []) B ≡ None
+no_turn (Small c i) = refl
+no_turn (Big f) = refl
+no_turn Root = refl
+
+nothing_by : {A : Type 0} (d t : Bool) (x : Option A) → t ≡ false → cond (d && t) x None ≡ None
+nothing_by true t x e = ap (λ c. cond c x None) e
+nothing_by false t x e = refl
+
+pub nothing_yet : (v : View) → v.log.records ≡ [] → (p : Place) (b : ℕ) → change_so_far v [] p b ≡ None
+nothing_yet v none p b =
+    let B = Rattle.pm_view.specs.Places.block_of (geometry_of v) p b in
+    nothing_by (Rattle.pm_view.specs.Places.is_data p) (Rattle.pm_world.specs.Sights.is_made (turn (latest []) B) || is_recorded v.log.records p) (picture v.fixed.shape v.claims p b)
+    ((λ i. Rattle.pm_world.specs.Sights.is_made (no_turn B i) || is_recorded (none i) p))
+
+begin_none : (kept : Bool) (tx : Transaction) → AreReplies kept tx []
+unfolding AreReplies
+begin_none kept tx = tt
+
+told_none : (tx : Transaction) → (after_told [] tx).items ≡ tx.items
+unfolding after_told
+told_none tx = refl
+
+pub sim_begins : SimBegins
+sim_begins v call records = record { come = come } where
+  come : (kept : Bool) (classes : ℕ → ℕ) (s : State) (header : Header) (pool : PoolView) → Agrees classes v kept s → Holds v.fixed.shape classes s header pool → header.id ≡ v.fixed.pool → Came v [] kept classes s (plain_pool pool)
+  come kept classes s header pool x holds id = record {
+    runs = [];
+    told = sym call;
+    replies = begin_none kept (idle (plain_pool pool) (pending_of v.entries));
+    stands = subst (StandIn v.fixed.shape classes (bits_now v [] s)) (sym (ap (λ (t : List Told). (after_told t (idle (plain_pool pool) (pending_of v.entries))).items) call ∙ told_none (idle (plain_pool pool) (pending_of v.entries))))
+        (subst (λ (t : State). StandIn v.fixed.shape classes t (plain_pool pool).items) (sym same) (scenes_begin v.fixed.shape classes s header pool holds));
+  } where
+    same : bits_now v [] s ≡ s
+    same = λ i p b. ap (λ o. over o (s p b)) (nothing_yet v records p b) i
+
+-- ---- A LANE THAT TELLS NOTHING
+
+module _ (v next : View) (keeps : KeepsEntries v next) where
+  pub header_back : (header : Header) → header.id ≡ next.fixed.pool → header.id ≡ v.fixed.pool
+  header_back header id = id ∙ ap (λ (f : Constants). f.pool) keeps.fixed
+
+  pub holds_back : (classes : ℕ → ℕ) (s : State) (header : Header) (pool : PoolView) → Holds next.fixed.shape classes s header pool → Holds v.fixed.shape classes s header pool
+  holds_back classes s header pool = subst (λ (f : Constants). Holds f.shape classes s header pool) keeps.fixed
+
+  same_pending : pending_of v.entries ≡ pending_of next.entries
+  same_pending = ap pending_of (sym keeps.entries)
+
+pub sim_stays : SimStays
+sim_stays v next entries entries' sim keeps call grows same = record { come = come } where
+  come : (kept : Bool) (classes : ℕ → ℕ) (s : State) (header : Header) (pool : PoolView) → Agrees classes next kept s → Holds next.fixed.shape classes s header pool → header.id ≡ next.fixed.pool → Came next entries' kept classes s (plain_pool pool)
+  come kept classes s header pool x holds id =
+      let c = sim.come kept classes s header pool (agrees_back v next kept kept keeps (grows kept) classes s x) (holds_back v next keeps classes s header pool holds) (header_back v next keeps header id) in
+      let now = same_bits v next entries entries' same kept classes s x in
+      let copy : copy_of v (plain_pool pool) ≡ copy_of next (plain_pool pool) = λ i. (after_told (sym call i) (idle (plain_pool pool) (same_pending v next keeps i))).items in
+      record {
+        runs = c.runs;
+        told = c.told ∙ sym call;
+        replies = subst (λ p. AreReplies kept (idle (plain_pool pool) p) c.runs) (same_pending v next keeps) c.replies;
+        stands = subst (λ (f : Constants). StandIn f.shape classes (bits_now next entries' s) (copy_of next (plain_pool pool))) (sym keeps.fixed)
+            (subst (λ t. StandIn v.fixed.shape classes t (copy_of next (plain_pool pool))) (sym now)
+            (subst (StandIn v.fixed.shape classes (bits_now v entries s)) copy c.stands));
+      }
+
+-- ---- ONE MORE OPERATION
+
+may_follow : (v : View) (pool : PlainPool) (runs : List Ran) → map told_by runs ≡ v.call → MayTell v → MayFollow runs (after_told (map told_by runs) (idle pool (pending_of v.entries)))
+may_follow v pool [] told may = tt
+may_follow v pool (r ∷ runs) told may = ⊎_elim
+    (λ (none : v.call ≡ []). absurd cc)
+    (λ (works : is_working (lists_of v).stage ≡ true).
+    ap (λ (t : List Told). is_working (after_told t (idle pool (pending_of v.entries))).stage) told
+    ∙ (ap (λ (tx : Transaction). is_working tx.stage) (now_is v pool) ∙ works))
+    may
+
+pub sim_goes_on : SimGoesOn
+sim_goes_on v next entries entries' ran sim tells may grows owes = record { come = come } where
+  come : (kept : Bool) (classes : ℕ → ℕ) (s : State) (header : Header) (pool : PoolView) → Agrees classes next kept s → Holds next.fixed.shape classes s header pool → header.id ≡ next.fixed.pool → Came next entries' kept classes s (plain_pool pool)
+  come kept classes s header pool x holds id =
+      let keeps = tells.keeps in
+      let was : Bool = is_kept_by ran.operation kept in
+      let c = sim.come was classes s header pool (agrees_back v next was kept keeps (grows kept) classes s x) (holds_back v next keeps classes s header pool holds) (header_back v next keeps header id) in
+      let leads = owes kept classes s header pool x holds id c in
+      let start : Transaction = idle (plain_pool pool) (pending_of v.entries) in
+      let now : after_told (map told_by c.runs) start ≡ tx_with v (plain_pool pool) (copy_of v (plain_pool pool)) = ap (λ (t : List Told). after_told t start) c.told ∙ now_is v (plain_pool pool) in
+      let told : map told_by (c.runs ++ ran ∷ []) ≡ next.call = map-append told_by c.runs (ran ∷ []) ∙ (ap (λ (t : List Told). t ++ told_by ran ∷ []) c.told ∙ sym tells.call) in
+      let copy : (after ran (tx_with v (plain_pool pool) (copy_of v (plain_pool pool)))).items ≡ copy_of next (plain_pool pool) =
+      ap (λ (tx : Transaction). (after ran tx).items) (sym (now_is v (plain_pool pool)))
+      ∙ (ap (λ (tx : Transaction). tx.items) (sym (told_once_more v.call (told_by ran) start))
+      ∙ (λ i. (after_told (sym tells.call i) (idle (plain_pool pool) (same_pending v next keeps i))).items)) in
+      record {
+        runs = c.runs ++ ran ∷ [];
+        told = told;
+        replies = subst (λ p. AreReplies kept (idle (plain_pool pool) p) (c.runs ++ ran ∷ [])) (same_pending v next keeps)
+            (replies_once_more kept c.runs ran start c.replies (may_follow v (plain_pool pool) c.runs c.told may) (subst (λ (tx : Transaction). Replies tx ran kept) (sym now) leads.replies));
+        stands = subst (StandIn next.fixed.shape classes (bits_now next entries' s)) copy leads.stands;
+      }

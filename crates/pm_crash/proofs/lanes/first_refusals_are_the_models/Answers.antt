@@ -1,0 +1,12 @@
+use Rattle.pm_crash.proofs.Looked.{read_is, refusal_is}
+use Rattle.pm_crash.proofs.Looks.{refusals_look}
+use Rattle.pm_crash.proofs.lanes.first_refusals_are_the_models.Goals as goal
+
+pub returns-clause-refusal : goal.returns-clause-refusal
+returns-clause-refusal c = refusal_is
+
+pub returns-clause-reads : goal.returns-clause-reads
+returns-clause-reads c = read_is
+
+pub returns-clause-looks : goal.returns-clause-looks
+returns-clause-looks c = refusals_look
