@@ -1,0 +1,15 @@
+//! Locks of lines: taken in rising place, by waiting for each or by one try, raised, and given back.
+//!
+//! Promises the calls of a lane, over any lawful memory and whatever other lanes do, exactly which
+//! steps a part makes, and that the lane's list and its view have the locks then. A wait ends where
+//! the lock is got, or where it is not free and the stop word is set; that it ends is not promised.
+//! It stands on `pm_world` for lawful steps; docs/FORMAT.md, "Sequences".
+#![tactic(auto)]
+
+mod giving;
+mod laws;
+mod taking;
+
+pub use giving::give_back;
+pub use laws::{locks_are_held_once_taken, locks_may_be_given_back};
+pub use taking::{lock, lock_all, raise, try_all, try_lock};
