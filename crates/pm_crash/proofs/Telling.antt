@@ -1,6 +1,6 @@
 -- An operation that is told leaves the blocks of the lane's own that are to be objects.
-use Rattle.std.proofs.Common.{◌≡◌, ⊎_elim, ℕ, ◌==◌, ◌||◌, Bool, true, false, cond, List, [], ◌∷◌, ◌++◌, map, Option, Some, None, refl, sym, ◌∙◌, ap}
-use Rattle.std.specs.List.{list_any}
+use Rattle.std.proofs.Common.{inl, subst, ◌≡◌, ⊎_elim, ℕ, ◌==◌, ◌||◌, Bool, true, false, cond, List, [], ◌∷◌, ◌++◌, map, Option, Some, None, refl, sym, ◌∙◌, ap}
+use Rattle.std.specs.List.{Contains, list_any}
 use Rattle.std.proofs.lemmas.Bool.{and_from, and_parts, both_ways, or_cases, or_left, or_right}
 use Rattle.std.proofs.lemmas.List.{map-append}
 use Rattle.std.proofs.lemmas.List.Folds.{list_any-append}
@@ -13,12 +13,18 @@ use Rattle.pm_model.specs.Inside.{is_kept_by}
 use Rattle.pm_model.specs.Items.{put_bytes}
 use Rattle.pm_model.specs.Pending.{Pending, Reservation, block_of, blocks_reserved, new_reservation}
 use Rattle.pm_view.specs.Places.{Place, InRun, InHuge, Descr, RootWord}
+use Rattle.pm_objects.specs.declared.ids.Oid.{Oid}
+use Rattle.pm_image.proofs.Members.{no_member}
+use Rattle.pm_view.specs.Changes.{Undrained}
+use Rattle.pm_view.specs.Steps.{Step}
 use Rattle.pm_view.specs.Steps.Step.{Tell}
-use Rattle.pm_view.specs.View.{Told, View}
+use Rattle.pm_view.specs.View.{Seen, Told, View}
+use Rattle.pm_crash.specs.SimOps.{NoRootIsAsked}
+use Rattle.pm_crash.proofs.Simulation.{sim_stays}
 use Rattle.pm_view.specs.Views as views
 use Rattle.pm_crash.specs.Calls.{pending_after, pending_of, pending_with}
 use Rattle.pm_crash.specs.Footprints.{has_own}
-use Rattle.pm_crash.specs.Sim.{IsSamePlace, TellsGrow, blocks_kept, known_offset, made_after, made_by}
+use Rattle.pm_crash.specs.Sim.{SimIsKept, IsSamePlace, TellsGrow, blocks_kept, known_offset, made_after, made_by}
 
 -- some block begins at the offset
 abbrev has_off : ℕ → List Placed → Bool
@@ -134,3 +140,34 @@ tells_grow v op reply kept = record {
   recorded = λ p t. t;
   knows = λ p b y t e. e;
 }
+
+-- ---- steps that teach nothing of bits
+
+still_place : (v : View) (changes : List Undrained) (calls : ℕ) (occupancy : List Seen) (zones : List ℕ) (seen : List Step) (p : Place)
+    → IsSamePlace v (record v { changes = changes; calls = calls; occupancy = occupancy; zones = zones; seen = seen }) p
+still_place v changes calls occupancy zones seen (InRun c w) = refl
+still_place v changes calls occupancy zones seen (InHuge c w) = refl
+still_place v changes calls occupancy zones seen (Descr c) = tt
+still_place v changes calls occupancy zones seen RootWord = tt
+
+pub sim_is_kept : SimIsKept
+sim_is_kept v entries changes calls occupancy zones seen sim =
+    sim_stays v (record v { changes = changes; calls = calls; occupancy = occupancy; zones = zones; seen = seen }) entries entries sim
+    (record { fixed = refl; entries = refl }) refl
+    (λ kept. record {
+      found = λ B t. t;
+      spans = λ f t. refl;
+      class = λ c i t. refl;
+      own = λ B t. t;
+      lines = λ B line t y. y;
+      sees = λ p b t. (t, still_place v changes calls occupancy zones seen p);
+      recorded = λ p t. t;
+      knows = λ p b y t e. e;
+    })
+    (λ p b. inl refl)
+
+-- ---- operations that free nothing
+
+pub no_root_is_asked : NoRootIsAsked
+no_root_is_asked v root op none kept classes s header pool x holds id named held stays =
+    absurd (no_member id (subst (λ (xs : List Oid). Contains xs id) none named))

@@ -18,8 +18,10 @@ use Rattle.pm_model.specs.Transaction.{Transaction, idle, is_working}
 use Rattle.pm_view.specs.Claims.{class, first, header_in, span}
 use Rattle.pm_view.specs.Entries.{Entry}
 use Rattle.pm_view.specs.Places.{Place, InRun, InHuge, Block, Small, Big}
+use Rattle.pm_view.specs.Changes.{Undrained}
+use Rattle.pm_view.specs.Steps.{Step}
 use Rattle.pm_view.specs.Steps.Step.{Tell}
-use Rattle.pm_view.specs.View.{Told, View}
+use Rattle.pm_view.specs.View.{Seen, Told, View}
 use Rattle.pm_view.specs.Views as views
 use Rattle.pm_world.specs.BlockLines.{OwnHas}
 use Rattle.pm_world.specs.Lanes.{sees}
@@ -206,3 +208,16 @@ SimGoesOn = (v next : View) (entries entries' : List Entry) (ran : Ran) → Sim 
 abbrev pub TellsGrow : Type 0
 TellsGrow = (v : View) (op : Operation) (reply : Option Value) (kept : Bool)
     → Grows v (is_kept_by op kept) (views.after v (Tell op reply)) kept
+
+-- A STEP THAT TEACHES NOTHING OF BITS: flushes, tries that fail, zones' locks, occupancy words, numbers
+-- and stop words seen. It changes no claim, no record and nothing that was told
+abbrev pub SimIsKept : Type 0
+SimIsKept = (v : View) (entries : List Entry) (changes : List Undrained) (calls : ℕ)
+    (occupancy : List Seen) (zones : List ℕ) (seen : List Step) → Sim v entries
+    → Sim (record v {
+      changes = changes;
+      calls = calls;
+      occupancy = occupancy;
+      zones = zones;
+      seen = seen;
+    }) entries

@@ -21,6 +21,7 @@ use Rattle.pm_view.specs.View.{View}
 use Rattle.pm_world.specs.Memory.{bit}
 use Rattle.pm_world.specs.States.{State}
 use Rattle.pm_crash.specs.Looked.{Enters, HasRoot, KnowsSizes, IsObject, KnowsRange, KnowsSize, KnowsWord, bytes_seen, refusal_by, word_place}
+use Rattle.pm_crash.specs.Looks.{ids_freed}
 use Rattle.pm_crash.specs.Sim.{Agrees, change_so_far, Grows, MayTell, SameBits, Sim, Tells, known_offset, lists_of}
 use Rattle.pm_crash.specs.Spelled.{Holds}
 use Rattle.pm_crash.specs.Writes.{written_word}
@@ -31,6 +32,11 @@ abbrev pub KnowsRoot : View → Option ℕ → Operation → Type 0
 KnowsRoot v root op = (kept : Bool) (classes : ℕ → ℕ) (s : State) (header : Header) (pool : PoolView)
     → Agrees classes v kept s → Holds v.fixed.shape classes s header pool
     → HasRoot v root op (plain_pool pool)
+
+-- of an operation that frees nothing no root is asked
+abbrev pub NoRootIsAsked : Type 0
+NoRootIsAsked = (v : View) (root : Option ℕ) (op : Operation) → ids_freed (lists_of v) op ≡ []
+    → KnowsRoot v root op
 
 -- WHAT THE LANE LOOKED AT for an operation: sizes and the root
 pub record LookedAt (v : View) (entries : List Entry) (root : Option ℕ) (op : Operation) : Type 0 where

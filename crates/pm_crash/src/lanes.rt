@@ -1,5 +1,5 @@
-ghost use Rattle.pm_crash.specs.Sim.{SimBegins, SimGoesOn, SimStays, TellsGrow};
-ghost use Rattle.pm_crash.specs.SimOps.{SimAborts, SimExtends, SimRefuses, SimWrites};
+ghost use Rattle.pm_crash.specs.Sim.{SimBegins, SimGoesOn, SimIsKept, SimStays, TellsGrow};
+ghost use Rattle.pm_crash.specs.SimOps.{NoRootIsAsked, SimAborts, SimExtends, SimRefuses, SimWrites};
 ghost use Rattle.pm_crash.specs.SimAllocs.{SimAllocates, SimFrees, SimPublishes, SimReserves};
 ghost use Rattle.pm_crash.specs.SimCommits.{SimCommits};
 ghost use Rattle.pm_crash.specs.SimFacts.{SimsAreFacts};
@@ -15,6 +15,7 @@ pub fn a_lane_follows_the_model()
     ensures stays { SimStays }
     ensures goes_on { SimGoesOn }
     ensures tells { TellsGrow }
+    ensures kept { SimIsKept }
 {}
 
 /// A law: what each operation owes has no bits in it. Operations on the lane's lists, those that are
@@ -39,6 +40,7 @@ pub fn first_refusals_are_the_models()
     ensures refusal { RefusalIs }
     ensures reads { ReadIs }
     ensures looks { RefusalsLook }
+    ensures root { NoRootIsAsked }
 {}
 
 /// A law: a transaction that is over, and has the entries of the blocks that it made and freed in its

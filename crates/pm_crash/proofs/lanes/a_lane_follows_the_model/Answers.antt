@@ -1,5 +1,5 @@
 use Rattle.pm_crash.proofs.Simulation.{sim_begins, sim_goes_on, sim_stays}
-use Rattle.pm_crash.proofs.Telling.{tells_grow}
+use Rattle.pm_crash.proofs.Telling.{sim_is_kept, tells_grow}
 use Rattle.pm_crash.proofs.lanes.a_lane_follows_the_model.Goals as goal
 
 pub returns-clause-begins : goal.returns-clause-begins
@@ -13,3 +13,6 @@ returns-clause-goes_on c = sim_goes_on
 
 pub returns-clause-tells : goal.returns-clause-tells
 returns-clause-tells c = tells_grow
+
+pub returns-clause-kept : goal.returns-clause-kept
+returns-clause-kept c = sim_is_kept

@@ -1,5 +1,6 @@
 use Rattle.pm_crash.proofs.Looked.{read_is, refusal_is}
 use Rattle.pm_crash.proofs.Looks.{refusals_look}
+use Rattle.pm_crash.proofs.Telling.{no_root_is_asked}
 use Rattle.pm_crash.proofs.lanes.first_refusals_are_the_models.Goals as goal
 
 pub returns-clause-refusal : goal.returns-clause-refusal
@@ -10,3 +11,6 @@ returns-clause-reads c = read_is
 
 pub returns-clause-looks : goal.returns-clause-looks
 returns-clause-looks c = refusals_look
+
+pub returns-clause-root : goal.returns-clause-root
+returns-clause-root c = no_root_is_asked
