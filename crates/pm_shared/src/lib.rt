@@ -34,3 +34,6 @@ pub use mem::{LaneSeat, SharedMem};
 pub use pool::PoolSeat;
 pub use rule::{Beginning, Knows, WorldRule};
 pub use tally::Tally;
+
+#[cfg(test)]
+mod tests;
