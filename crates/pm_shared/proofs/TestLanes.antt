@@ -1,12 +1,11 @@
 -- What the crate's tests do: a lane of which no call is open takes a line's lock and gives it back; and the words of a pool without objects.
-use Rattle.std.proofs.Common.{◌≡◌, ◌≢◌, ℕ, ◌+◌, ◌-◌, ◌*◌, ◌/◌, ◌^◌, ◌<◌, ◌≤◌, ⊎_elim, Bool, true, false, List, [], ◌∷◌, length, replicate, slice_index, set, refl, sym, ap, ◌∙◌, subst, arith, length-set, get_or-set_same, get_or-set_other}
+use Rattle.std.proofs.Common.{◌≡◌, ◌≢◌, ℕ, ◌+◌, ◌*◌, ◌/◌, ◌^◌, ◌<◌, ◌≤◌, ⊎_elim, Bool, true, false, List, length, replicate, slice_index, set, refl, sym, ap, ◌∙◌, subst, arith, length-set, get_or-set_same, get_or-set_other}
 use Rattle.std.proofs.lemmas.Bool.{cases_eq, cases_lt}
 use Rattle.std.proofs.lemmas.List.{get_or-replicate, get_or_past, length-replicate}
 use Rattle.pm_layout.specs.Areas.{word_of_generation}
 use Rattle.pm_layout.specs.Chunks.{words_of}
 use Rattle.pm_memory.specs.Runs.{AnyStep, Made}
-use Rattle.pm_view.specs.Claims.{holds}
-use Rattle.pm_view.specs.Log.{Idle, is_early}
+use Rattle.pm_view.specs.Log.{is_early}
 use Rattle.pm_view.specs.Steps.Step.{TakeWrite, Give}
 use Rattle.pm_view.specs.View.{View}
 use Rattle.pm_world.specs.Lawful.{GiveFits}

@@ -1,5 +1,5 @@
 -- Lanes of the crate's tests: no call is open, and line 100's lock is free or held for writing.
-use Rattle.std.specs.Prelude.{◌≡◌, Bool, true, false}
+use Rattle.std.specs.Prelude.{◌≡◌, Bool}
 use Rattle.pm_shared.specs.Seats.{Seated, IsSeen}
 use Rattle.pm_view.specs.Claims.{holds}
 use Rattle.pm_view.specs.Log.{Idle}

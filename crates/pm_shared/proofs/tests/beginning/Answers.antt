@@ -1,4 +1,4 @@
-use Rattle.std.proofs.Common.{◌≡◌, ℕ, List, set, refl, ap}
+use Rattle.std.proofs.Common.{ℕ, List, set, refl, ap}
 use Rattle.pm_shared.proofs.TestLanes.{bare}
 use Rattle.pm_shared.proofs.tests.beginning.Goals as goal
 

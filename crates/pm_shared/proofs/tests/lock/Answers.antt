@@ -1,4 +1,4 @@
-use Rattle.std.proofs.Common.{◌≡◌, subst}
+use Rattle.std.proofs.Common.{subst}
 use Rattle.pm_memory.specs.Runs.{AnyStep, Made}
 use Rattle.pm_view.specs.Steps.Step.{TakeWrite}
 use Rattle.pm_shared.specs.Seats.{IsSeen}
