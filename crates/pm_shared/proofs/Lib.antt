@@ -19,3 +19,5 @@ pub mod Seats
 pub mod Beginnings
 pub mod Ends
 pub mod Pools
+pub mod Bare
+pub mod TestLanes

@@ -5,3 +5,5 @@ pub mod Openings
 pub mod Closings
 pub mod Tallies
 pub mod Seats
+pub mod Bare
+pub mod TestLanes

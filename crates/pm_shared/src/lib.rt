@@ -13,7 +13,8 @@
 //!
 //! `SharedMem::new` begins on a pool's recovered words, with a world of lanes that were asked
 //! nothing, all of them with the pool's seat. `split` hands the next lane out and `join` takes one
-//! back, so that lanes run in threads. `close` gives the words, which are those of a world that has
+//! back, so that lanes run in threads; a type, `TableName`, says that a lane is of the pool's table
+//! still, whatever ran on it. `close` gives the words, which are those of a world that has
 //! the final view of each lane that came back. The crate stands on the kit's `atomic_table`.
 #![tactic(auto)]
 
@@ -34,3 +35,6 @@ pub use mem::{LaneSeat, SharedMem};
 pub use pool::PoolSeat;
 pub use rule::{Beginning, Knows, WorldRule};
 pub use tally::Tally;
+
+#[cfg(test)]
+mod tests;

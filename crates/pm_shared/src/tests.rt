@@ -1,0 +1,144 @@
+ghost use Rattle.std.specs.Prelude.{◌≡◌, true, false, [], IfOk};
+ghost use Rattle.pm_shared.specs.Bare.{IsBare};
+ghost use Rattle.pm_shared.specs.Openings.{pool_of};
+ghost use Rattle.pm_shared.specs.TestLanes.{Rests};
+
+use super::*;
+use pm_layout::Shape;
+use pm_memory::LaneSync;
+use pm_objects::Stops;
+use std::alloc::Global;
+use std::marker::Brand;
+use std::sync::Wait;
+use std::sync::atomic::{AtomicU64, Ordering};
+use std::test::Fail;
+use std::thread;
+use std::thread::{Threads, join};
+
+/// The line whose lock the lanes take.
+const LINE: u64 = 100;
+
+/// What lanes begin on in a pool of two lanes and one zone that has no object.
+fn beginning(alloc: Global) -> Result<Beginning, Fail>
+    ensures { IfOk result (λ b. IsBare b × (b.lanes ≡ 2)) }
+{
+    let shape = Shape::new(2, 1)?;
+    let mut words = vec![in alloc; 0; 35840]?;
+    words[512] = 1;
+    words[1536] = 1;
+    Ok(Beginning {
+        shape,
+        pool: 7,
+        lanes: 2,
+        stops: Stops::none(),
+        words,
+        runs: vec![in alloc; u64::MAX; 70]?,
+        zones: vec![in alloc; 0; 1]?,
+    })
+}
+
+/// Waits for the line's lock.
+fn lock<N: TableName, R: Wait>(rt: &R, lane: &mut SharedLane<'_, N>)
+    requires { Rests lane.old false }
+    ensures { Rests lane.new true }
+{
+    for _ in rt.forever() {
+        if lane.take_write(LINE) {
+            return;
+        }
+        thread::yield_now();
+    }
+    unreachable!();
+}
+
+/// Adds 1 to the word under the line's lock, by a load and a store.
+fn add_under_lock<N: TableName, R: Wait>(rt: &R, lane: &mut SharedLane<'_, N>, word: &AtomicU64)
+    requires { Rests lane.old false }
+    ensures { Rests lane.new false }
+{
+    lock(rt, lane);
+    let found = word.load(Ordering::SeqCst);
+    word.store(found.wrapping_add(1), Ordering::SeqCst);
+    lane.give(LINE);
+}
+
+/// Adds 1 to the word 10,000 times.
+fn work<'a, N: TableName, R: Wait>(
+    rt: &R,
+    lane: SharedLane<'a, N>,
+    word: &AtomicU64,
+) -> SharedLane<'a, N>
+    requires { Rests lane false }
+    ensures { Rests result false }
+{
+    let mut lane = lane;
+    for _ in 0..10_000 {
+        add_under_lock(rt, &mut lane, word);
+    }
+    lane
+}
+
+/// Both lanes add to the word, in threads of their own.
+fn both<'a, N: TableName + Send + Sync, R: Threads + Wait + Sync>(
+    rt: &R,
+    first: SharedLane<'a, N>,
+    second: SharedLane<'a, N>,
+    word: &AtomicU64,
+) -> (SharedLane<'a, N>, SharedLane<'a, N>)
+    requires first { Rests first false }
+    requires second { Rests second false }
+    ensures first { Rests result.0 false }
+    ensures second { Rests result.1 false }
+{
+    join(
+        rt,
+        || -> SharedLane<'_, N>
+            requires { Rests first false }
+            ensures { Rests result false }
+        { work(rt, first, word) },
+        || -> SharedLane<'_, N>
+            requires { Rests second false }
+            ensures { Rests result false }
+        { work(rt, second, word) },
+    )
+}
+
+/// Two lanes of the memory add to the word; and the pool's words then.
+fn run<N: TableName + Send + Sync, R: Threads + Wait + Sync>(
+    rt: &R,
+    alloc: Global,
+    memory: SharedMem,
+    pool: PoolSeat,
+    word: &AtomicU64,
+) -> Result<Vec<u64>, Fail>
+    requires name { memory.table.shared.table_id ≡ N.table }
+    requires table { pool.table_id ≡ N.table }
+    requires lanes { memory.table.shared.key.lanes ≡ 2 }
+    requires pool { pool.me ≡ pool_of memory.table.shared.key 0 [] }
+{
+    let mut pool = pool;
+    let first = memory.split::<N>(alloc, &mut pool, 0)?;
+    let second = memory.split::<N>(alloc, &mut pool, 1)?;
+    let (first, second) = both(rt, first, second, word);
+    drop(first.join(&mut pool));
+    drop(second.join(&mut pool));
+    Ok(memory.close(pool))
+}
+
+/// Each addition under the lock is there at the end, and the pool's words are as they were.
+#[test]
+fn two_lanes_take_turns(rt: HostRuntime) -> Result<(), Fail> {
+    let word = AtomicU64::new(0);
+    let (memory, pool) = SharedMem::new(rt.alloc(), beginning(rt.alloc())?)?;
+    let words = run::<Brand, _>(&rt, rt.alloc(), memory, pool, &word)?;
+    assert_eq!(rt; word.load(Ordering::SeqCst), 20_000);
+    assert_eq!(rt; words.len(), 35840);
+    let mut stray = false;
+    for (at, word) in words.iter().enumerate() {
+        if at != 512 && at != 1536 && *word != 0 {
+            stray = true;
+        }
+    }
+    assert!(rt; !stray);
+    Ok(())
+}
