@@ -4,6 +4,7 @@ use Rattle.std.specs.Prelude.{drop, slice_set}
 use Rattle.std.specs.List.{refill}
 use Rattle.std.proofs.lemmas.List.{append_assoc, append-nil, take-append-le, take_all, take_more, length-take-le, map-append}
 use Rattle.pm_memory.specs.declared.lane_mem.Stopped.{Stopped}
+use Rattle.pm_view.specs.Founds.{Found}
 use Rattle.pm_view.specs.Steps.{Step}
 use Rattle.pm_view.specs.Steps.Step.{Raise}
 use Rattle.pm_view.specs.View.{View}
@@ -23,14 +24,14 @@ grown_on old mid new first l a b = (b.0 ∙ ap (λ (y : Lane _). record y { memo
 
 module _ {M : Type 0} (at : M → View → Type 0) (line : ℕ) (write : Bool) where
   -- ---- one try
-  pub tried_won : (old : Lane M) (memory : M) (new : Lane M) (won : Bool) → won ≡ true → ((v : View) → at old.memory v → MayTake v line → at memory (after v (takes line write won))) → new ≡ record old { memory = memory; locks = new.locks } → new.locks.items ≡ old.locks.items ++ lock_of line write ∷ [] → Tried at line write old new won
+  pub tried_won : (old : Lane M) (memory : M) (new : Lane M) (won : Bool) → won ≡ true → ((v : View) → at old.memory v → MayTake v line → at memory (after v (takes line write won)) × Found v (takes line write won)) → new ≡ record old { memory = memory; locks = new.locks } → new.locks.items ≡ old.locks.items ++ lock_of line write ∷ [] → Tried at line write old new won
   unfolding Tried
-  tried_won old memory new true e made is grown v seen may = (subst (λ m. at m (after v (takes line write true))) (sym (ap (λ (l : Lane M). l.memory) is)) (made v seen may), (is ∙ ap (λ m. record old { memory = m; locks = new.locks }) (sym (ap (λ (l : Lane M). l.memory) is)), grown))
+  tried_won old memory new true e made is grown v seen may = (subst (λ m. at m (after v (takes line write true))) (sym (ap (λ (l : Lane M). l.memory) is)) (made v seen may).0, (made v seen may).1, (is ∙ ap (λ m. record old { memory = m; locks = new.locks }) (sym (ap (λ (l : Lane M). l.memory) is)), grown))
   tried_won old memory new false e made is grown v seen may = absurd (Rattle.std.proofs.lemmas.Bool.both_ways false refl e)
 
-  pub tried_lost : (old : Lane M) (memory : M) (won : Bool) → won ≡ false → ((v : View) → at old.memory v → MayTake v line → at memory (after v (takes line write won))) → Tried at line write old (record old { memory = memory }) won
+  pub tried_lost : (old : Lane M) (memory : M) (won : Bool) → won ≡ false → ((v : View) → at old.memory v → MayTake v line → at memory (after v (takes line write won)) × Found v (takes line write won)) → Tried at line write old (record old { memory = memory }) won
   unfolding Tried
-  tried_lost old memory false e made v seen may = (made v seen may, refl)
+  tried_lost old memory false e made v seen may = (let t = made v seen may in (t.0, t.1, refl))
   tried_lost old memory true e made v seen may = absurd (Rattle.std.proofs.lemmas.Bool.both_ways true e refl)
 
   -- ---- a wait
@@ -119,7 +120,7 @@ module _ {M : Type 0} (at : M → View → Type 0) (locks : List HeldLock) (old 
         let h = has v seen may in
         let t = step (after_all v (tries (take k locks))) h.0 (next_try v seen may) in
         subst (λ (ls : List HeldLock). at new.memory (after_all v (tries ls)) × HasGrown ls old new) (sym (take_more locks k no_lock low))
-        (subst (at new.memory) (sym (ap (after_all v) (map-append (λ (l : HeldLock). takes l.line l.write true) (take k locks) (lock_at locks k ∷ [])) ∙ all_then v (tries (take k locks)) (takes (lock_at locks k).line (lock_at locks k).write true ∷ []))) t.0, grown_on old lane new (take k locks) (lock_at locks k) h.1 t.1)
+        (subst (at new.memory) (sym (ap (after_all v) (map-append (λ (l : HeldLock). takes l.line l.write true) (take k locks) (lock_at locks k ∷ [])) ∙ all_then v (tries (take k locks)) (takes (lock_at locks k).line (lock_at locks k).write true ∷ []))) t.0, grown_on old lane new (take k locks) (lock_at locks k) h.1 t.2)
 
     pub tried_up : (new : Lane M) (won : Bool) → won ≡ false → Tried at (lock_at locks k).line (lock_at locks k).write lane new won → AllTried at locks old new false
     unfolding Tried AllTried after_all
@@ -127,7 +128,7 @@ module _ {M : Type 0} (at : M → View → Type 0) (locks : List HeldLock) (old 
     tried_up new false e step v seen may =
         let h = has v seen may in
         let t = step (after_all v (tries (take k locks))) h.0 (next_try v seen may) in
-        (k, low, subst (at new.memory) (sym (all_then v (tries (take k locks)) (takes (lock_at locks k).line (lock_at locks k).write false ∷ []))) t.0, stepped lane new (take k locks) h.1 t.1)
+        (k, low, subst (at new.memory) (sym (all_then v (tries (take k locks)) (takes (lock_at locks k).line (lock_at locks k).write false ∷ []))) t.0, stepped lane new (take k locks) h.1 t.2)
       where
         stepped : (mid new : Lane M) (ls : List HeldLock) → HasGrown ls old mid → HasOnlyStepped mid new → HasGrown ls old new
         stepped mid new ls a b = (b ∙ (ap (λ (y : Lane M). record y { memory = new.memory }) a.0 ∙ ap (λ locks. record old { memory = new.memory; locks = locks }) (sym (ap (λ (y : Lane M). y.locks) b))), ap (λ (y : Lane M). y.locks.items) b ∙ a.1)
