@@ -59,7 +59,8 @@ lock_at locks i = slice_index_or locks i no_lock
 abbrev pub AllLockedAs : {M : Type 0} → (M → View → Type 0) → List HeldLock → View → Lane M → Lane M → Result (Unit {0}) Stopped → Type 0
 AllLockedAs at locks v old new (Ok done) = ((steps : List Step) × AreWaits locks steps × at new.memory (after_all v steps)) × HasGrown locks old new
 AllLockedAs at locks v old new (Err stopped) = (k : ℕ) × (k < length locks)
-    × ((steps : List Step) × (n : ℕ) × AreWaits (take k locks) steps × at new.memory (after_all v (steps ++ stops n (lock_at locks k).line (lock_at locks k).write))) × HasGrown (take k locks) old new
+    × ((steps : List Step) × (n : ℕ) × AreWaits (take k locks) steps × at new.memory (after_all v (steps ++ stops n (lock_at locks k).line (lock_at locks k).write))
+    × Found (after_all (after_all v steps) (refusals n (lock_at locks k).line (lock_at locks k).write)) (takes (lock_at locks k).line (lock_at locks k).write false)) × HasGrown (take k locks) old new
 
 unfoldable pub AllLocked : {M : Type 0} → (M → View → Type 0) → List HeldLock → Lane M → Lane M → Result (Unit {0}) Stopped → Type 0
 AllLocked at locks old new result = (v : View) → at old.memory v → MayTakeAll v locks → AllLockedAs at locks v old new result
@@ -68,7 +69,8 @@ AllLocked at locks old new result = (v : View) → at old.memory v → MayTakeAl
 abbrev pub AllTriedAs : {M : Type 0} → (M → View → Type 0) → List HeldLock → View → Lane M → Lane M → Bool → Type 0
 AllTriedAs at locks v old new true = at new.memory (after_all v (tries locks)) × HasGrown locks old new
 AllTriedAs at locks v old new false = (k : ℕ) × (k < length locks)
-    × at new.memory (after_all v (tries (take k locks) ++ takes (lock_at locks k).line (lock_at locks k).write false ∷ [])) × HasGrown (take k locks) old new
+    × at new.memory (after_all v (tries (take k locks) ++ takes (lock_at locks k).line (lock_at locks k).write false ∷ []))
+    × Found (after_all v (tries (take k locks))) (takes (lock_at locks k).line (lock_at locks k).write false) × HasGrown (take k locks) old new
 
 unfoldable pub AllTried : {M : Type 0} → (M → View → Type 0) → List HeldLock → Lane M → Lane M → Bool → Type 0
 AllTried at locks old new won = (v : View) → at old.memory v → MayTakeAll v locks → AllTriedAs at locks v old new won
@@ -76,9 +78,9 @@ AllTried at locks old new won = (v : View) → at old.memory v → MayTakeAll v 
 -- ---- a lock that is held for reading is raised, at one try
 
 abbrev pub RaisedAs : {M : Type 0} → (M → View → Type 0) → ℕ → View → Lane M → Lane M → Bool → Type 0
-RaisedAs at i v old new true = at new.memory (after v (Raise (lock_at old.locks.items i).line true))
+RaisedAs at i v old new true = at new.memory (after v (Raise (lock_at old.locks.items i).line true)) × Found v (Raise (lock_at old.locks.items i).line true)
     × (new ≡ record old { memory = new.memory; locks = new.locks }) × (new.locks.items ≡ slice_set old.locks.items i (lock_of (lock_at old.locks.items i).line true))
-RaisedAs at i v old new false = at new.memory (after v (Raise (lock_at old.locks.items i).line false)) × HasOnlyStepped old new
+RaisedAs at i v old new false = at new.memory (after v (Raise (lock_at old.locks.items i).line false)) × Found v (Raise (lock_at old.locks.items i).line false) × HasOnlyStepped old new
 
 unfoldable pub Raised : {M : Type 0} → (M → View → Type 0) → ℕ → Lane M → Lane M → Bool → Type 0
 Raised at i old new won = (v : View) → at old.memory v → MayRaise v (lock_at old.locks.items i).line → RaisedAs at i v old new won

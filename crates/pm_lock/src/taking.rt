@@ -116,7 +116,7 @@ pub fn try_all<M: LawfulMem>(lane: &mut Lane<M>, locks: &[HeldLock]) -> bool
 /// Tries once to hold a line for writing that is held for reading.
 fn raise_line<M: LawfulMem>(mem: &mut M, line: u64) -> bool
     requires { (v : View) × M.at mem.old v × MayRaise v line }
-    ensures { (v : View) → M.at mem.old v → MayRaise v line → M.at mem.new (after v (Raise line result)) }
+    ensures { (v : View) → M.at mem.old v → MayRaise v line → M.at mem.new (after v (Raise line result)) × Found v (Raise line result) }
 {
     mem.raise(line)
 }
