@@ -4,6 +4,7 @@ use Rattle.std.specs.Prelude.{drop, slice_set}
 use Rattle.std.specs.List.{refill}
 use Rattle.std.proofs.lemmas.List.{append_assoc, append-nil, take-append-le, take_all, take_more, length-take-le, map-append}
 use Rattle.pm_memory.specs.declared.lane_mem.Stopped.{Stopped}
+use Rattle.pm_view.specs.Founds.{Found}
 use Rattle.pm_view.specs.Steps.{Step}
 use Rattle.pm_view.specs.Steps.Step.{Raise}
 use Rattle.pm_view.specs.View.{View}
@@ -23,14 +24,14 @@ grown_on old mid new first l a b = (b.0 ∙ ap (λ (y : Lane _). record y { memo
 
 module _ {M : Type 0} (at : M → View → Type 0) (line : ℕ) (write : Bool) where
   -- ---- one try
-  pub tried_won : (old : Lane M) (memory : M) (new : Lane M) (won : Bool) → won ≡ true → ((v : View) → at old.memory v → MayTake v line → at memory (after v (takes line write won))) → new ≡ record old { memory = memory; locks = new.locks } → new.locks.items ≡ old.locks.items ++ lock_of line write ∷ [] → Tried at line write old new won
+  pub tried_won : (old : Lane M) (memory : M) (new : Lane M) (won : Bool) → won ≡ true → ((v : View) → at old.memory v → MayTake v line → at memory (after v (takes line write won)) × Found v (takes line write won)) → new ≡ record old { memory = memory; locks = new.locks } → new.locks.items ≡ old.locks.items ++ lock_of line write ∷ [] → Tried at line write old new won
   unfolding Tried
-  tried_won old memory new true e made is grown v seen may = (subst (λ m. at m (after v (takes line write true))) (sym (ap (λ (l : Lane M). l.memory) is)) (made v seen may), (is ∙ ap (λ m. record old { memory = m; locks = new.locks }) (sym (ap (λ (l : Lane M). l.memory) is)), grown))
+  tried_won old memory new true e made is grown v seen may = (subst (λ m. at m (after v (takes line write true))) (sym (ap (λ (l : Lane M). l.memory) is)) (made v seen may).0, (made v seen may).1, (is ∙ ap (λ m. record old { memory = m; locks = new.locks }) (sym (ap (λ (l : Lane M). l.memory) is)), grown))
   tried_won old memory new false e made is grown v seen may = absurd (Rattle.std.proofs.lemmas.Bool.both_ways false refl e)
 
-  pub tried_lost : (old : Lane M) (memory : M) (won : Bool) → won ≡ false → ((v : View) → at old.memory v → MayTake v line → at memory (after v (takes line write won))) → Tried at line write old (record old { memory = memory }) won
+  pub tried_lost : (old : Lane M) (memory : M) (won : Bool) → won ≡ false → ((v : View) → at old.memory v → MayTake v line → at memory (after v (takes line write won)) × Found v (takes line write won)) → Tried at line write old (record old { memory = memory }) won
   unfolding Tried
-  tried_lost old memory false e made v seen may = (made v seen may, refl)
+  tried_lost old memory false e made v seen may = (let t = made v seen may in (t.0, t.1, refl))
   tried_lost old memory true e made v seen may = absurd (Rattle.std.proofs.lemmas.Bool.both_ways true e refl)
 
   -- ---- a wait
@@ -85,7 +86,7 @@ module _ {M : Type 0} (at : M → View → Type 0) (locks : List HeldLock) (old 
     locked_up new stopped (Err e) error step v seen may =
         let h = has v seen may in let steps : List Step = h.0.0 in
         let t = step (after_all v steps) h.0.2 (may_next v (after_all v steps) locks k may low (waits_taken v (take k locks) steps h.0.1)) in
-        (k, low, (steps, t.0.0, h.0.1, subst (at new.memory) (sym (all_then v steps (stops t.0.0 (lock_at locks k).line (lock_at locks k).write))) t.0.1), stepped lane new (take k locks) h.1 t.1)
+        (k, low, (steps, t.0.0, h.0.1, subst (at new.memory) (sym (all_then v steps (stops t.0.0 (lock_at locks k).line (lock_at locks k).write))) t.0.1, t.0.2), stepped lane new (take k locks) h.1 t.1)
       where
         stepped : (mid new : Lane M) (ls : List HeldLock) → HasGrown ls old mid → HasOnlyStepped mid new → HasGrown ls old new
         stepped mid new ls a b = (b ∙ (ap (λ (y : Lane M). record y { memory = new.memory }) a.0 ∙ ap (λ locks. record old { memory = new.memory; locks = locks }) (sym (ap (λ (y : Lane M). y.locks) b))), ap (λ (y : Lane M). y.locks.items) b ∙ a.1)
@@ -119,7 +120,7 @@ module _ {M : Type 0} (at : M → View → Type 0) (locks : List HeldLock) (old 
         let h = has v seen may in
         let t = step (after_all v (tries (take k locks))) h.0 (next_try v seen may) in
         subst (λ (ls : List HeldLock). at new.memory (after_all v (tries ls)) × HasGrown ls old new) (sym (take_more locks k no_lock low))
-        (subst (at new.memory) (sym (ap (after_all v) (map-append (λ (l : HeldLock). takes l.line l.write true) (take k locks) (lock_at locks k ∷ [])) ∙ all_then v (tries (take k locks)) (takes (lock_at locks k).line (lock_at locks k).write true ∷ []))) t.0, grown_on old lane new (take k locks) (lock_at locks k) h.1 t.1)
+        (subst (at new.memory) (sym (ap (after_all v) (map-append (λ (l : HeldLock). takes l.line l.write true) (take k locks) (lock_at locks k ∷ [])) ∙ all_then v (tries (take k locks)) (takes (lock_at locks k).line (lock_at locks k).write true ∷ []))) t.0, grown_on old lane new (take k locks) (lock_at locks k) h.1 t.2)
 
     pub tried_up : (new : Lane M) (won : Bool) → won ≡ false → Tried at (lock_at locks k).line (lock_at locks k).write lane new won → AllTried at locks old new false
     unfolding Tried AllTried after_all
@@ -127,7 +128,7 @@ module _ {M : Type 0} (at : M → View → Type 0) (locks : List HeldLock) (old 
     tried_up new false e step v seen may =
         let h = has v seen may in
         let t = step (after_all v (tries (take k locks))) h.0 (next_try v seen may) in
-        (k, low, subst (at new.memory) (sym (all_then v (tries (take k locks)) (takes (lock_at locks k).line (lock_at locks k).write false ∷ []))) t.0, stepped lane new (take k locks) h.1 t.1)
+        (k, low, subst (at new.memory) (sym (all_then v (tries (take k locks)) (takes (lock_at locks k).line (lock_at locks k).write false ∷ []))) t.0, t.1, stepped lane new (take k locks) h.1 t.2)
       where
         stepped : (mid new : Lane M) (ls : List HeldLock) → HasGrown ls old mid → HasOnlyStepped mid new → HasGrown ls old new
         stepped mid new ls a b = (b ∙ (ap (λ (y : Lane M). record y { memory = new.memory }) a.0 ∙ ap (λ locks. record old { memory = new.memory; locks = locks }) (sym (ap (λ (y : Lane M). y.locks) b))), ap (λ (y : Lane M). y.locks.items) b ∙ a.1)
@@ -144,17 +145,18 @@ module _ {M : Type 0} (at : M → View → Type 0) (old : Lane M) (i line : ℕ)
   pub raise_stands : Stands at old (λ v. MayRaise v (lock_at old.locks.items i).line) → (v : View) × at old.memory v × MayRaise v line
   raise_stands s = (s.0, s.1, subst (MayRaise s.0) (sym is_line) s.2)
 
-  pub raised_won : (new : Lane M) (won : Bool) → won ≡ true → ((v : View) → at old.memory v → MayRaise v line → at memory (after v (Raise line won))) → new ≡ record old { memory = memory; locks = new.locks }
+  pub raised_won : (new : Lane M) (won : Bool) → won ≡ true → ((v : View) → at old.memory v → MayRaise v line → at memory (after v (Raise line won)) × Found v (Raise line won)) → new ≡ record old { memory = memory; locks = new.locks }
       → new.locks.items ≡ slice_set old.locks.items i (lock_of (lock_at old.locks.items i).line true) → Raised at i old new won
   unfolding Raised
   raised_won new false e made is items v seen may = absurd (Rattle.std.proofs.lemmas.Bool.both_ways false refl e)
   raised_won new true e made is items v seen may = (
-    subst (λ m. at m (after v (Raise (lock_at old.locks.items i).line true))) (sym (ap (λ (l : Lane M). l.memory) is)) (subst (λ l. at memory (after v (Raise l true))) is_line (made v seen (subst (MayRaise v) (sym is_line) may))),
+    subst (λ m. at m (after v (Raise (lock_at old.locks.items i).line true))) (sym (ap (λ (l : Lane M). l.memory) is)) (subst (λ l. at memory (after v (Raise l true))) is_line (made v seen (subst (MayRaise v) (sym is_line) may)).0),
+    (made v seen (subst (MayRaise v) (sym is_line) may)).1,
     is ∙ ap (λ m. record old { memory = m; locks = new.locks }) (sym (ap (λ (l : Lane M). l.memory) is)),
     items,
   )
 
-  pub raised_lost : (won : Bool) → won ≡ false → ((v : View) → at old.memory v → MayRaise v line → at memory (after v (Raise line won))) → Raised at i old (record old { memory = memory }) won
+  pub raised_lost : (won : Bool) → won ≡ false → ((v : View) → at old.memory v → MayRaise v line → at memory (after v (Raise line won)) × Found v (Raise line won)) → Raised at i old (record old { memory = memory }) won
   unfolding Raised
   raised_lost true e made v seen may = absurd (Rattle.std.proofs.lemmas.Bool.both_ways true e refl)
-  raised_lost false e made v seen may = (subst (λ l. at memory (after v (Raise l false))) is_line (made v seen (subst (MayRaise v) (sym is_line) may)), refl)
+  raised_lost false e made v seen may = (subst (λ l. at memory (after v (Raise l false))) is_line (made v seen (subst (MayRaise v) (sym is_line) may)).0, (made v seen (subst (MayRaise v) (sym is_line) may)).1, refl)

@@ -1,3 +1,4 @@
 pub mod Waiting
 pub mod Holds
 pub mod Lanes
+pub mod Planned

@@ -1,3 +1,4 @@
 pub mod Steps
 pub mod Holding
 pub mod Locking
+pub mod Plans

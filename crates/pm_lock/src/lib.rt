@@ -8,8 +8,13 @@
 
 mod giving;
 mod laws;
+mod planning;
 mod taking;
 
 pub use giving::give_back;
-pub use laws::{locks_are_held_once_taken, locks_may_be_given_back};
+pub use laws::{locks_are_held_once_taken, locks_may_be_given_back, plans_rise};
+pub use planning::plan_lock;
 pub use taking::{lock, lock_all, raise, try_all, try_lock};
+
+#[cfg(test)]
+mod tests;

@@ -1,4 +1,5 @@
 ghost use Rattle.std.specs.Prelude.{◌≡◌, ◌+◌, ◌<◌, ◌≤◌, true, length, slice_set};
+ghost use Rattle.pm_view.specs.Founds.{Found};
 ghost use Rattle.pm_view.specs.Steps.Step.{Raise};
 ghost use Rattle.pm_view.specs.View.{View};
 ghost use Rattle.pm_view.specs.Views.{after};
@@ -14,7 +15,7 @@ use std::sync::Wait;
 /// Tries a line's lock once.
 fn try_line<M: LawfulMem>(mem: &mut M, line: u64, write: bool) -> bool
     requires { (v : View) × M.at mem.old v × MayTake v line }
-    ensures { (v : View) → M.at mem.old v → MayTake v line → M.at mem.new (after v (takes line write result)) }
+    ensures { (v : View) → M.at mem.old v → MayTake v line → M.at mem.new (after v (takes line write result)) × Found v (takes line write result) }
 {
     if write {
         mem.take_write(line)
@@ -115,7 +116,7 @@ pub fn try_all<M: LawfulMem>(lane: &mut Lane<M>, locks: &[HeldLock]) -> bool
 /// Tries once to hold a line for writing that is held for reading.
 fn raise_line<M: LawfulMem>(mem: &mut M, line: u64) -> bool
     requires { (v : View) × M.at mem.old v × MayRaise v line }
-    ensures { (v : View) → M.at mem.old v → MayRaise v line → M.at mem.new (after v (Raise line result)) }
+    ensures { (v : View) → M.at mem.old v → MayRaise v line → M.at mem.new (after v (Raise line result)) × Found v (Raise line result) }
 {
     mem.raise(line)
 }

@@ -1,4 +1,4 @@
--- A drain behind a flush drops something.
+-- A drain after a flush drops something.
 use Rattle.std.proofs.Common.{◌≡◌, ℕ, zero, suc, ◌<◌, Bool, true, false, not, cond, IsTrue, List, [], ◌∷◌, length, slice_index_or, refl, ap, ◌∙◌, arith, rules}
 use Rattle.std.proofs.lemmas.Bool.{cond-true}
 use Rattle.pm_view.specs.Changes.{Undrained}

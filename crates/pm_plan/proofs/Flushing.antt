@@ -114,7 +114,7 @@ same_reach line (c ∷ changes) = ap (λ n. max ((mark line c).word / 8 + 1) n) 
   at true e = ap (λ (d : Undrained). d.word) (mark_here line c e)
   at false e = ap (λ (d : Undrained). d.word) (mark_elsewhere line c e)
 
--- no line behind the last change has any
+-- no line past the last change has any
 within_reach : (line : ℕ) (changes : List Undrained) → is_unflushed changes line ≡ true → line < lines_up_to changes
 unfolding lines_up_to
 within_reach line [] e = absurd (search rules)
@@ -140,7 +140,7 @@ pub none_unflushed : (changes : List Undrained) → IsFirstUnflushed changes Non
 unfolding unflushed_lines
 none_unflushed changes none = none_passes (is_unflushed changes) 0 (lines_up_to changes) none
 
--- The first line comes first, and behind it come those that are left once it is flushed.
+-- The first line comes first, and after it come those that are left once it is flushed.
 pub first_unflushed : (changes : List Undrained) (line : ℕ) → IsFirstUnflushed changes (Some line) → unflushed_lines changes ≡ line ∷ unflushed_lines (flushed line changes)
 unfolding unflushed_lines
 first_unflushed changes line first =
@@ -151,7 +151,7 @@ first_unflushed changes line first =
     head ∙ ap (λ l. line ∷ l) (sym (subst (λ m. filter (is_unflushed (flushed line changes)) (range_with_len 0 m) ≡ drop 1 (filter (is_unflushed changes) (range_with_len 0 n))) (sym (same_reach line changes))
     (rest_passes (is_unflushed changes) (is_unflushed (flushed line changes)) line 0 n _ (none_in_flushed line changes) (λ k other. others_stay line k changes other) head)))
 
--- Whatever line comes first, behind it come those that are left once it is flushed.
+-- Whatever line comes first, after it come those that are left once it is flushed.
 pub rest_unflushed : (changes : List Undrained) (line : ℕ) (rest : List ℕ) → unflushed_lines changes ≡ line ∷ rest → unflushed_lines (flushed line changes) ≡ rest
 unfolding unflushed_lines
 rest_unflushed changes line rest e =

@@ -13,7 +13,7 @@ use Rattle.pm_model.specs.Items.{is_among}
 use Rattle.pm_world.specs.declared.lane.Span.{Span}
 use Rattle.pm_undo.specs.Spans.{span_in, spans_for, plan_of, words_in, AreSpansOf}
 
--- the last record with a word more, or a record of its own behind it
+-- the last record with a word more, or a record of its own after it
 abbrev added : ℕ × ℕ → ℕ → List (ℕ × ℕ)
 added last w = cond (eqb w (last.0 + last.1) && ltb last.1 4) ((last.0, last.1 + 1) ∷ []) (last ∷ (w, 1) ∷ [])
 
@@ -68,7 +68,7 @@ more_records (x ∷ ws) w front last e = last_added (x, 1) ws w front last e
 as_pairs : (spans : List Span) (ws : List ℕ) → AreSpansOf spans ws → records_of ws ≡ map pair_of spans
 as_pairs spans ws are = sym (ap (map pair_of) are ∙ pairs_again (records_of ws))
 
--- the records behind, as spans
+-- the records after, as spans
 as_spans : (spans : List Span) (ws : List ℕ) → records_of ws ≡ map pair_of spans → AreSpansOf spans ws
 as_spans spans ws e = sym (ap (map span_in) e ∙ spans_again spans)
 
@@ -88,7 +88,7 @@ unfolding records_of records_from
 is_first [] w are = refl
 is_first (x ∷ ws) w are = absurd (let n = ap length are in let m = length-map (records_of (x ∷ ws)) span_in in let some = some_records (x, 1) ws in omega (arith, n, m, some))
 
--- the word begins a record of its own behind the last
+-- the word begins a record of its own after the last
 pub stands_apart : (front : List Span) (last : Span) (ws : List ℕ) (w : ℕ) → AreSpansOf (front ++ last ∷ []) ws → (last.word + last.count ≡ w → 4 ≤ last.count)
     → AreSpansOf ((front ++ last ∷ []) ++ record { word = w; count = 1 } ∷ []) (ws ++ w ∷ [])
 stands_apart front last ws w are other =
