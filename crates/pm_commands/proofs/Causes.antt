@@ -10,7 +10,7 @@ use Rattle.pm_image.specs.declared.fault.MeansFault.{MeansFault}
 use Rattle.pm_image.specs.declared.fault.MeansFault.TheVariants.{Image, Memory}
 use Rattle.pm_image.specs.declared.fault.ImageFault.{ImageFault}
 use Rattle.pm_image.proofs.Meanings.{no_meaning_and_fault, one_meaning}
-use Rattle.pm_options.specs.Words.{Check, Create, Exec, IsCheck, IsCreate, IsDump, IsExec, IsInfo}
+use Rattle.pm_options.specs.Words.{Check, Create, Exec, IsCheck, IsCreate, IsDump, IsExec, IsInfo, IsRecover, Recover}
 use Rattle.pm_pool.specs.Created.{Wanted}
 use Rattle.pm_pool.specs.declared.creating.CreateFault.TheVariants.{BadId, BadLayout, BadSize}
 use Rattle.solo_script.proofs.Readings.{not_both as no_script_and_bad_line}
@@ -22,14 +22,15 @@ use Rattle.pm_commands.specs.Answers.{DidFail, IsCauseOf}
 use Rattle.pm_commands.specs.Checked.{HasFaultLeft, IsRepair}
 use Rattle.pm_commands.specs.Created.{HasGoodValues, IsValueCause}
 use Rattle.pm_commands.specs.Executed.{AreOfMoreLanes, AreOfOtherLayout, CanRun, IsRunFault, IsRunOf, script_limit}
-use Rattle.pm_commands.specs.Failures.{IsCauseBefore, IsCheckCause, IsCreateCause, IsExecCause, IsReadCause, IsShowCause, IsWriteCause, failure_of}
+use Rattle.pm_commands.specs.Failures.{IsCauseBefore, IsCheckCause, IsCreateCause, IsExecCause, IsReadCause, IsRecoverCause, IsShowCause, IsWriteCause, failure_of}
 use Rattle.pm_commands.specs.Lines.{failure_status}
 use Rattle.pm_commands.specs.PoolFiles.{limit, BytesMean, BytesFail, Mends}
+use Rattle.pm_commands.specs.Recovered.{CanRecover, IsRecoveryOf}
 use Rattle.pm_commands.specs.declared.failure.Failure.{Failure}
 use Rattle.pm_commands.specs.declared.failure.Failure.TheVariants.{Usage, BadShape, BadValue, Faulty, Fault, OtherLayout, FewerLanes, NotRead, TooLong, BadScript, NotWritten, NoMemory}
 use Rattle.pm_commands.specs.declared.status.Status.TheVariants as status
 use Rattle.pm_commands.proofs.Checking.{mended_fault}
-use Rattle.pm_commands.proofs.OneCommand.{only_check, only_create, only_dump, only_exec, only_info}
+use Rattle.pm_commands.proofs.OneCommand.{only_check, only_create, only_dump, only_exec, only_info, only_recover}
 
 -- a failure is handed on as it is
 pub passed : {T E : Type 0} (result : Result T E) (e : E) (Q : E → Type 0) → IsErrAnd result (λ y. y ≡ e) → Q e → IfErr result Q
@@ -102,6 +103,21 @@ exec_unwritten e held read after before old new written text kept less run failu
   go NoMemory cause = tt
   go failure cause = absurd cause
 
+-- a recovery that was not made, or not written, is not done
+pub recover_unmade : (r : Recover) (held after : Option Held) (faults faults_after : ℕ) (failure : Failure) → IsShowCause r.pool held faults faults_after failure → after ≡ held
+    → IsRecoverCause r held after faults faults_after failure
+recover_unmade r held after faults faults_after (NotWritten name) cause kept = absurd cause
+recover_unmade r held after faults faults_after NoMemory cause kept = tt
+recover_unmade r held after faults faults_after failure cause kept = (cause, kept)
+
+pub recover_unwritten : (r : Recover) (held read after : Option Held) (before old new : ℕ) (written text : List ℕ) → read ≡ held → before ≤ old → IsRecoveryOf held r written text
+    → (failure : Failure) → IsWriteCause r.out read old new failure → IsRecoverCause r held after before new failure
+recover_unwritten r held read after before old new written text kept less run failure cause = go failure (write_cause_since r.out held read before old new kept less failure cause) where
+  go : (f : Failure) → IsWriteCause r.out held before new f → IsRecoverCause r held after before new f
+  go (NotWritten failed) cause = (written, text, run, cause)
+  go NoMemory cause = tt
+  go failure cause = absurd cause
+
 -- where the words ask for a command, why it failed is why that one did
 module _ (words : List (List ℕ)) (held after : Option Held) (faults faults_after : ℕ) where
   pub create_failed : (c : Create) → IsCreate words c → (failure : Failure) → DidFail words held after faults faults_after failure → IsCreateCause c held after faults faults_after failure
@@ -115,6 +131,12 @@ module _ (words : List (List ℕ)) (held after : Option Held) (faults faults_aft
   exec_failed e is NoMemory did = tt
   exec_failed e is failure did =
       only_exec words e is did.0 did.1 (λ asked. IsCauseOf asked held after faults faults_after failure) (λ run. IsExecCause run held after faults faults_after failure) (λ other cause. cause) did.2
+
+  pub recover_failed : (r : Recover) → IsRecover words r → (failure : Failure) → DidFail words held after faults faults_after failure → IsRecoverCause r held after faults faults_after failure
+  recover_failed r is (Usage more) did = absurd (did.0.no_command.no_recover r is)
+  recover_failed r is NoMemory did = tt
+  recover_failed r is failure did =
+      only_recover words r is did.0 did.1 (λ asked. IsCauseOf asked held after faults faults_after failure) (λ recovery. IsRecoverCause recovery held after faults faults_after failure) (λ other cause. cause) did.2
 
   pub check_failed : (c : Check) → IsCheck words c → (failure : Failure) → DidFail words held after faults faults_after failure → IsCheckCause c held after faults faults_after failure
   check_failed c is (Usage more) did = absurd (did.0.no_command.no_check c is)
@@ -268,3 +290,8 @@ module _ (faults faults_after : ℕ) (calm : ¬ Rose faults faults_after) where
   exec_fails e held after can (NotWritten name) cause = write_fails (Some held) e.out (not_there held e.out can.absent) (NotWritten name) cause.3
   exec_fails e held after can NoMemory cause = refl
   exec_fails e held after can failure cause = before_fails e held can failure cause.0
+
+  pub recover_fails : (r : Recover) (held : Held) (after : Option Held) → CanRecover held r → (failure : Failure) → IsRecoverCause r (Some held) after faults faults_after failure → failure_status failure ≡ status.NoMemory
+  recover_fails r held after can (NotWritten name) cause = write_fails (Some held) r.out (not_there held r.out can.absent) (NotWritten name) cause.3
+  recover_fails r held after can NoMemory cause = refl
+  recover_fails r held after can failure cause = show_fails held r.pool can.source can.pool can.pool_there can.means failure cause.0

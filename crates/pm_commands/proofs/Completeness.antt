@@ -2,7 +2,7 @@
 use Rattle.std.proofs.Common.{◌≡◌, ◌⊎◌, inl, inr, ⊎_elim, ℕ, List, Option, Some, refl, ◌∙◌, subst}
 use Rattle.pm_objects.specs.declared.pool.PoolView.{PoolView}
 use Rattle.pm_image.specs.declared.fault.ImageFault.{ImageFault}
-use Rattle.pm_options.specs.Words.{Check, Create, Exec, IsCheck, IsCreate, IsDump, IsExec, IsInfo}
+use Rattle.pm_options.specs.Words.{Check, Create, Exec, IsCheck, IsCreate, IsDump, IsExec, IsInfo, IsRecover, Recover}
 use Rattle.pm_shelf.specs.Outside.{Held, Rose, IsThere}
 use Rattle.pm_commands.specs.Answers.{CameTo, Did, DidFail, Does, Printed}
 use Rattle.pm_commands.specs.Checked.{HasFaultLeft, IsChecked, IsRepair}
@@ -11,14 +11,15 @@ use Rattle.pm_commands.specs.Executed.{CanRun, IsExecuted}
 use Rattle.pm_commands.specs.Failures.{IsCheckCause}
 use Rattle.pm_commands.specs.Lines.{failure_line, failure_status, fault_line}
 use Rattle.pm_commands.specs.PoolFiles.{AreFactsIn, BytesMean, IsDumpOf, Mends}
+use Rattle.pm_commands.specs.Recovered.{CanRecover, IsPoolRecovered}
 use Rattle.pm_commands.specs.Saying.{IsAnswered, Said}
 use Rattle.pm_commands.specs.declared.failure.Failure.{Failure}
 use Rattle.pm_commands.specs.declared.failure.Failure.TheVariants.{Fault, NotRead, TooLong, NotWritten, NoMemory}
 use Rattle.pm_commands.specs.declared.status.Status.{Status}
 use Rattle.pm_commands.specs.declared.status.Status.TheVariants as status
-use Rattle.pm_commands.proofs.Causes.{check_failed, check_fails, create_failed, create_fails, dump_failed, exec_failed, exec_fails, fault_fails, info_failed, mend_fails, not_both, same_bytes, show_fails}
+use Rattle.pm_commands.proofs.Causes.{check_failed, check_fails, create_failed, create_fails, dump_failed, exec_failed, exec_fails, fault_fails, info_failed, mend_fails, not_both, recover_failed, recover_fails, same_bytes, show_fails}
 use Rattle.pm_commands.proofs.Checking.{mended_fault}
-use Rattle.pm_commands.proofs.OneCommand.{only_check, only_create, only_dump, only_exec, only_info}
+use Rattle.pm_commands.proofs.OneCommand.{only_check, only_create, only_dump, only_exec, only_info, only_recover}
 use Rattle.pm_commands.proofs.Printing.{printed_so}
 
 -- a failure has another status than 0
@@ -65,6 +66,11 @@ module _ (words : List (List ℕ)) (held after : Option Held) (faults faults_aft
   exec_done e is at = go (done at) where
     go : Printed told told_after (Did words held after) → Printed told told_after (IsExecuted e held after)
     go did = (did.0, only_exec words e is did.1.0 did.1.1 (λ asked. Does asked held after did.0) (λ run. IsExecuted run held after did.0) (λ other does. does) did.1.2, did.2)
+
+  pub recover_done : (r : Recover) → IsRecover words r → result ≡ status.Done → Printed told told_after (IsPoolRecovered r held after)
+  recover_done r is at = go (done at) where
+    go : Printed told told_after (Did words held after) → Printed told told_after (IsPoolRecovered r held after)
+    go did = (did.0, only_recover words r is did.1.0 did.1.1 (λ asked. Does asked held after did.0) (λ recovery. IsPoolRecovered recovery held after did.0) (λ other does. does) did.1.2, did.2)
 
   pub check_done : (c : Check) → IsCheck words c → result ≡ status.Done → Printed told told_after (IsChecked c held after)
   check_done c is at = go (done at) where
@@ -113,6 +119,11 @@ module _ (words : List (List ℕ)) (old after : Option Held) (faults faults_afte
   exec_complete e is can =
       ends_so words (Some held) after faults faults_after sink sink_after told told_after result answered_here still status.Done (λ text did. refl)
       (λ failure did. inr (exec_fails faults faults_after calm e held after can failure (exec_failed words (Some held) after faults faults_after e is failure did)))
+
+  pub recover_complete : (r : Recover) → IsRecover words r → CanRecover held r → (result ≡ status.Done) ⊎ (result ≡ status.NoMemory)
+  recover_complete r is can =
+      ends_so words (Some held) after faults faults_after sink sink_after told told_after result answered_here still status.Done (λ text did. refl)
+      (λ failure did. inr (recover_fails faults faults_after calm r held after can failure (recover_failed words (Some held) after faults faults_after r is failure did)))
 
   pub check_complete : (c : Check) (bytes : List ℕ) (pool : PoolView) → IsCheck words c → held c.pool ≡ Some bytes → BytesMean bytes pool → (result ≡ status.Done) ⊎ (result ≡ status.NoMemory)
   check_complete c bytes pool is there means =

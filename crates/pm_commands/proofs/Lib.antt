@@ -2,6 +2,7 @@ pub mod FileBytes
 pub mod OneCommand
 pub mod OneLane
 pub mod Running
+pub mod Recovering
 pub mod NewNames
 pub mod Printing
 pub mod Checking

@@ -1,15 +1,16 @@
 -- Words are one command at most, and ask for one thing.
-use Rattle.std.proofs.Common.{eqb, get_or, ◌≡◌, ℕ, List, true, false, inl, inr, Some, None, codes, refl, sym, ap, ◌∙◌, subst}
+use Rattle.std.proofs.Common.{eqb, get_or, ◌≡◌, ℕ, List, true, false, inl, inr, Option, Some, None, codes, refl, sym, ap, ◌∙◌, subst}
 use Rattle.std.specs.Borrow.{Bor}
 use Rattle.clap.specs.Words.{Row, Text, fault_of, first_of}
 use Rattle.clap.specs.declared.error.kind.ErrorKind.TheVariants.{DisplayHelp, DisplayVersion}
 use Rattle.pm_options.proofs.Commands.{nothing_among, one_given}
-use Rattle.pm_options.specs.Asked.{IsAsked, check_asked, create_asked, exec_asked}
+use Rattle.pm_options.specs.Asked.{IsAsked, check_asked, create_asked, exec_asked, recover_asked}
 use Rattle.pm_options.specs.Program.{program}
-use Rattle.pm_options.specs.Words.{Check, Create, Exec, HasCheck, HasCreate, HasExec, HasNumber, HasNumberOrZero, HasStops, HasValue, IsCheck, IsCreate, IsDump, IsExec, IsGiven, IsHelp, IsInfo}
+use Rattle.pm_options.specs.Words.{Check, Create, Exec, HasCheck, HasCreate, HasExec, HasNumber, HasNumberIfThere, HasNumberOrZero, HasRecover, HasStops, HasValue, IsCheck, IsCreate, IsDump, IsExec, IsGiven, IsHelp, IsInfo, IsRecover, Recover}
 use Rattle.pm_options.specs.declared.command.CheckWords.{CheckWords}
 use Rattle.pm_options.specs.declared.command.CreateWords.{CreateWords}
 use Rattle.pm_options.specs.declared.command.ExecWords.{ExecWords}
+use Rattle.pm_options.specs.declared.command.RecoverWords.{RecoverWords}
 use Rattle.pm_options.specs.declared.command.Command.{Command}
 use Rattle.pm_options.specs.declared.command.Command.TheVariants as command
 use Rattle.pm_script.specs.Numbers.{number_of}
@@ -38,6 +39,12 @@ one_number_or_zero rows name n m (inl is) (inl also) = is.1 ∙ sym also.1
 one_number_or_zero rows name n m (inl is) (inr also) = absurd (not_left_out rows name also.0 is.0 also.1)
 one_number_or_zero rows name n m (inr is) (inl also) = absurd (not_left_out rows name is.0 also.0 is.1)
 one_number_or_zero rows name n m (inr is) (inr also) = one_number rows name n m is also
+
+one_number_if_there : (rows : List Row) (name : Text) (n m : Option ℕ) → HasNumberIfThere rows name n → HasNumberIfThere rows name m → n ≡ m
+one_number_if_there rows name None None is also = refl
+one_number_if_there rows name None (Some m) is also = absurd (not_left_out rows name also.0 is also.1)
+one_number_if_there rows name (Some n) None is also = absurd (not_left_out rows name is.0 also is.1)
+one_number_if_there rows name (Some n) (Some m) is also = ap Some (one_number rows name n m is also)
 
 one_list_of_stops : (rows : List Row) (stops other : List (ℕ × ℕ)) → HasStops rows stops → HasStops rows other → stops ≡ other
 one_list_of_stops rows stops other (inl is) (inl also) = is.1 ∙ sym also.1
@@ -69,6 +76,14 @@ one_exec rows e other is also = λ k. record {
   keep = one_number_or_zero rows (codes "keep") e.keep other.keep is.keep also.keep k;
 }
 
+one_recover : (rows : List Row) (r other : Recover) → HasRecover rows r → HasRecover rows other → r ≡ other
+one_recover rows r other is also = λ k. record {
+  pool = one_value rows (codes "POOL") r.pool other.pool is.pool also.pool k;
+  out = one_value rows (codes "out") r.out other.out is.out also.out k;
+  stop = one_number_if_there rows (codes "stop") r.stop other.stop is.stop also.stop k;
+  keep = one_number_or_zero rows (codes "keep") r.keep other.keep is.keep also.keep k;
+}
+
 one_check : (rows : List Row) (c other : Check) → HasCheck rows c → HasCheck rows other → c ≡ other
 one_check rows c other is also = λ k. record {
   pool = one_value rows (codes "POOL") c.pool other.pool is.pool also.pool k;
@@ -86,6 +101,10 @@ same_create words c other is also =
 same_exec : (words : List Text) (e other : Exec) → IsExec words e → IsExec words other → e ≡ other
 same_exec words e other is also =
     one_exec is.0 e other is.2 (subst (λ (rows : List Row). HasExec rows other) (same_rows words (codes "exec") is.0 also.0 is.1 also.1) also.2)
+
+same_recover : (words : List Text) (r other : Recover) → IsRecover words r → IsRecover words other → r ≡ other
+same_recover words r other is also =
+    one_recover is.0 r other is.2 (subst (λ (rows : List Row). HasRecover rows other) (same_rows words (codes "recover") is.0 also.0 is.1 also.1) also.2)
 
 same_check : (words : List Text) (c other : Check) → IsCheck words c → IsCheck words other → c ≡ other
 same_check words c other is also =
@@ -121,6 +140,7 @@ pub only_create : (words : List Text) (c : Create) → IsCreate words c → (ask
     → ((other : CreateWords) → F (command.Create other) → G (create_asked other)) → F asked → G c
 only_create words c is (command.Create other) also F G step holds = subst G (same_create words (create_asked other) c also is) (step other holds)
 only_create words c is (command.Exec other) also F G step holds = absurd (two_names words (codes "create") (codes "exec") is.0 also.0 is.1 also.1 refl refl)
+only_create words c is (command.Recover other) also F G step holds = absurd (two_names words (codes "create") (codes "recover") is.0 also.0 is.1 also.1 refl refl)
 only_create words c is (command.Check other) also F G step holds = absurd (two_names words (codes "create") (codes "check") is.0 also.0 is.1 also.1 refl refl)
 only_create words c is (command.Info other) also F G step holds = absurd (two_names words (codes "create") (codes "info") is.0 also.0 is.1 also.1 refl refl)
 only_create words c is (command.Dump other) also F G step holds = absurd (two_names words (codes "create") (codes "dump") is.0 also.0 is.1 also.1 refl refl)
@@ -130,16 +150,28 @@ pub only_exec : (words : List Text) (e : Exec) → IsExec words e → (asked : C
     → ((other : ExecWords) → F (command.Exec other) → G (exec_asked other)) → F asked → G e
 only_exec words e is (command.Exec other) also F G step holds = subst G (same_exec words (exec_asked other) e also is) (step other holds)
 only_exec words e is (command.Create other) also F G step holds = absurd (two_names words (codes "exec") (codes "create") is.0 also.0 is.1 also.1 refl refl)
+only_exec words e is (command.Recover other) also F G step holds = absurd (two_names words (codes "exec") (codes "recover") is.0 also.0 is.1 also.1 refl refl)
 only_exec words e is (command.Check other) also F G step holds = absurd (two_names words (codes "exec") (codes "check") is.0 also.0 is.1 also.1 refl refl)
 only_exec words e is (command.Info other) also F G step holds = absurd (two_names words (codes "exec") (codes "info") is.0 also.0 is.1 also.1 refl refl)
 only_exec words e is (command.Dump other) also F G step holds = absurd (two_names words (codes "exec") (codes "dump") is.0 also.0 is.1 also.1 refl refl)
 only_exec words e is (command.Help text) also F G step holds = absurd (no_help words (codes "exec") is.0 is.1 also)
+
+pub only_recover : (words : List Text) (r : Recover) → IsRecover words r → (asked : Command) → IsAsked words asked → (F : Command → Type 0) (G : Recover → Type 0)
+    → ((other : RecoverWords) → F (command.Recover other) → G (recover_asked other)) → F asked → G r
+only_recover words r is (command.Recover other) also F G step holds = subst G (same_recover words (recover_asked other) r also is) (step other holds)
+only_recover words r is (command.Create other) also F G step holds = absurd (two_names words (codes "recover") (codes "create") is.0 also.0 is.1 also.1 refl refl)
+only_recover words r is (command.Exec other) also F G step holds = absurd (two_names words (codes "recover") (codes "exec") is.0 also.0 is.1 also.1 refl refl)
+only_recover words r is (command.Check other) also F G step holds = absurd (two_names words (codes "recover") (codes "check") is.0 also.0 is.1 also.1 refl refl)
+only_recover words r is (command.Info other) also F G step holds = absurd (two_names words (codes "recover") (codes "info") is.0 also.0 is.1 also.1 refl refl)
+only_recover words r is (command.Dump other) also F G step holds = absurd (two_names words (codes "recover") (codes "dump") is.0 also.0 is.1 also.1 refl refl)
+only_recover words r is (command.Help text) also F G step holds = absurd (no_help words (codes "recover") is.0 is.1 also)
 
 pub only_check : (words : List Text) (c : Check) → IsCheck words c → (asked : Command) → IsAsked words asked → (F : Command → Type 0) (G : Check → Type 0)
     → ((other : CheckWords) → F (command.Check other) → G (check_asked other)) → F asked → G c
 only_check words c is (command.Check other) also F G step holds = subst G (same_check words (check_asked other) c also is) (step other holds)
 only_check words c is (command.Create other) also F G step holds = absurd (two_names words (codes "check") (codes "create") is.0 also.0 is.1 also.1 refl refl)
 only_check words c is (command.Exec other) also F G step holds = absurd (two_names words (codes "check") (codes "exec") is.0 also.0 is.1 also.1 refl refl)
+only_check words c is (command.Recover other) also F G step holds = absurd (two_names words (codes "check") (codes "recover") is.0 also.0 is.1 also.1 refl refl)
 only_check words c is (command.Info other) also F G step holds = absurd (two_names words (codes "check") (codes "info") is.0 also.0 is.1 also.1 refl refl)
 only_check words c is (command.Dump other) also F G step holds = absurd (two_names words (codes "check") (codes "dump") is.0 also.0 is.1 also.1 refl refl)
 only_check words c is (command.Help text) also F G step holds = absurd (no_help words (codes "check") is.0 is.1 also)
@@ -149,6 +181,7 @@ pub only_info : (words : List Text) (pool : Text) → IsInfo words pool → (ask
 only_info words pool is (command.Info other) also F G step holds = subst G (same_info words other.now pool also is) (step other holds)
 only_info words pool is (command.Create other) also F G step holds = absurd (two_names words (codes "info") (codes "create") is.0 also.0 is.1 also.1 refl refl)
 only_info words pool is (command.Exec other) also F G step holds = absurd (two_names words (codes "info") (codes "exec") is.0 also.0 is.1 also.1 refl refl)
+only_info words pool is (command.Recover other) also F G step holds = absurd (two_names words (codes "info") (codes "recover") is.0 also.0 is.1 also.1 refl refl)
 only_info words pool is (command.Check other) also F G step holds = absurd (two_names words (codes "info") (codes "check") is.0 also.0 is.1 also.1 refl refl)
 only_info words pool is (command.Dump other) also F G step holds = absurd (two_names words (codes "info") (codes "dump") is.0 also.0 is.1 also.1 refl refl)
 only_info words pool is (command.Help text) also F G step holds = absurd (no_help words (codes "info") is.0 is.1 also)
@@ -158,6 +191,7 @@ pub only_dump : (words : List Text) (pool : Text) → IsDump words pool → (ask
 only_dump words pool is (command.Dump other) also F G step holds = subst G (same_dump words other.now pool also is) (step other holds)
 only_dump words pool is (command.Create other) also F G step holds = absurd (two_names words (codes "dump") (codes "create") is.0 also.0 is.1 also.1 refl refl)
 only_dump words pool is (command.Exec other) also F G step holds = absurd (two_names words (codes "dump") (codes "exec") is.0 also.0 is.1 also.1 refl refl)
+only_dump words pool is (command.Recover other) also F G step holds = absurd (two_names words (codes "dump") (codes "recover") is.0 also.0 is.1 also.1 refl refl)
 only_dump words pool is (command.Check other) also F G step holds = absurd (two_names words (codes "dump") (codes "check") is.0 also.0 is.1 also.1 refl refl)
 only_dump words pool is (command.Info other) also F G step holds = absurd (two_names words (codes "dump") (codes "info") is.0 also.0 is.1 also.1 refl refl)
 only_dump words pool is (command.Help text) also F G step holds = absurd (no_help words (codes "dump") is.0 is.1 also)

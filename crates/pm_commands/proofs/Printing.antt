@@ -25,6 +25,7 @@ no_usage_before e held faults faults_after more (inr (inr run)) = run.4
 no_usage : (asked : Command) (held after : Option Held) (faults faults_after : ℕ) (more : String Global) → IsCauseOf asked held after faults faults_after (Usage more) → ⊥
 no_usage (command.Create c) held after faults faults_after more cause = cause.0
 no_usage (command.Exec e) held after faults faults_after more cause = no_usage_before (exec_asked e) held faults faults_after more cause.0
+no_usage (command.Recover r) held after faults faults_after more cause = cause.0
 no_usage (command.Check c) held after faults faults_after more cause = cause.0
 no_usage (command.Info pool) held after faults faults_after more cause = cause.0
 no_usage (command.Dump pool) held after faults faults_after more cause = cause.0

@@ -1,7 +1,7 @@
 -- What a command of the command line comes to: the text that it prints, its status, and what it leaves on the shelf. `held` and `after` are
 -- what the shelf held before and after, `faults` and `faults_after` how often it had failed, `told` and `told_after` what the sink had been told.
 use Rattle.std.specs.Prelude.{◌≡◌, ◌⊎◌, ℕ, List, Option, string_bytes, ⊤}
-use Rattle.pm_options.specs.Asked.{IsAsked, check_asked, create_asked, exec_asked}
+use Rattle.pm_options.specs.Asked.{IsAsked, check_asked, create_asked, exec_asked, recover_asked}
 use Rattle.pm_options.specs.Words.{IsFaulty}
 use Rattle.pm_options.specs.declared.command.Command.{Command}
 use Rattle.pm_options.specs.declared.command.Command.TheVariants as command
@@ -10,9 +10,10 @@ use Rattle.pm_text.specs.Lines.{GainedLines}
 use Rattle.pm_commands.specs.Checked.{IsChecked, MayAddMended}
 use Rattle.pm_commands.specs.Created.{IsCreated, pool_bytes}
 use Rattle.pm_commands.specs.Executed.{IsExecuted, MayAddRun}
-use Rattle.pm_commands.specs.Failures.{IsCheckCause, IsCreateCause, IsExecCause, IsShowCause}
+use Rattle.pm_commands.specs.Failures.{IsCheckCause, IsCreateCause, IsExecCause, IsRecoverCause, IsShowCause}
 use Rattle.pm_commands.specs.Lines.{failure_line, failure_status}
 use Rattle.pm_commands.specs.PoolFiles.{AreFactsIn, IsDumpOf}
+use Rattle.pm_commands.specs.Recovered.{IsPoolRecovered, MayAddRecovery}
 use Rattle.pm_commands.specs.declared.failure.Failure.{Failure}
 use Rattle.pm_commands.specs.declared.failure.Failure.TheVariants.{Usage, NoMemory}
 use Rattle.pm_commands.specs.declared.status.Status.{Status}
@@ -22,6 +23,7 @@ use Rattle.pm_commands.specs.declared.status.Status.TheVariants.{Done}
 abbrev pub Does : Command → Option Held → Option Held → List ℕ → Type 0
 Does (command.Create c) held after text = IsCreated (create_asked c) held after text
 Does (command.Exec e) held after text = IsExecuted (exec_asked e) held after text
+Does (command.Recover r) held after text = IsPoolRecovered (recover_asked r) held after text
 Does (command.Check c) held after text = IsChecked (check_asked c) held after text
 Does (command.Info pool) held after text = AreFactsIn held pool.now text × (after ≡ held)
 Does (command.Dump pool) held after text = IsDumpOf held pool.now text × (after ≡ held)
@@ -31,6 +33,7 @@ Does (command.Help help) held after text = (text ≡ string_bytes help) × (afte
 abbrev pub IsCauseOf : Command → Option Held → Option Held → ℕ → ℕ → Failure → Type 0
 IsCauseOf (command.Create c) held after faults faults_after failure = IsCreateCause (create_asked c) held after faults faults_after failure
 IsCauseOf (command.Exec e) held after faults faults_after failure = IsExecCause (exec_asked e) held after faults faults_after failure
+IsCauseOf (command.Recover r) held after faults faults_after failure = IsRecoverCause (recover_asked r) held after faults faults_after failure
 IsCauseOf (command.Check c) held after faults faults_after failure = IsCheckCause (check_asked c) held after faults faults_after failure
 IsCauseOf (command.Info pool) held after faults faults_after failure = IsShowCause pool.now held faults faults_after failure × (after ≡ held)
 IsCauseOf (command.Dump pool) held after faults faults_after failure = IsShowCause pool.now held faults faults_after failure × (after ≡ held)
@@ -40,6 +43,7 @@ IsCauseOf (command.Help help) held after faults faults_after failure = ⊥
 abbrev pub MayChange : Command → Option Held → Option Held → Type 0
 MayChange (command.Create c) held after = MayAddPart held after c.pool.now (pool_bytes (create_asked c))
 MayChange (command.Exec e) held after = MayAddRun (exec_asked e) held after
+MayChange (command.Recover r) held after = MayAddRecovery (recover_asked r) held after
 MayChange (command.Check c) held after = MayAddMended (check_asked c) held after
 MayChange (command.Info pool) held after = after ≡ held
 MayChange (command.Dump pool) held after = after ≡ held

@@ -4,12 +4,13 @@ use Rattle.std.specs.Prelude.{◌≡◌, ◌⊎◌, ℕ, List, Option, ⊤}
 use Rattle.pm_image.specs.declared.fault.ImageFault.{ImageFault}
 use Rattle.pm_image.specs.declared.fault.MeansFault.{MeansFault}
 use Rattle.pm_image.specs.declared.fault.MeansFault.TheVariants.{Image, Memory}
-use Rattle.pm_options.specs.Words.{Check, Create, Exec}
+use Rattle.pm_options.specs.Words.{Check, Create, Exec, Recover}
 use Rattle.pm_shelf.specs.Outside.{Held, Rose, IsThere, IsMissing, IsFront, IsWhole}
 use Rattle.pm_commands.specs.Checked.{HasFaultLeft, IsRepair}
 use Rattle.pm_commands.specs.Created.{HasGoodValues, IsValueCause}
 use Rattle.pm_commands.specs.Executed.{IsRunFault, IsRunOf, script_limit}
 use Rattle.pm_commands.specs.PoolFiles.{HasFault, limit}
+use Rattle.pm_commands.specs.Recovered.{IsRecoveryOf}
 use Rattle.pm_commands.specs.declared.failure.Failure.{Failure}
 use Rattle.pm_commands.specs.declared.failure.Failure.TheVariants.{Faulty, Fault, NotRead, TooLong, NotWritten, NoMemory}
 
@@ -58,6 +59,13 @@ IsExecCause e held after faults faults_after (NotWritten name) =
     (written text : List ℕ) × IsRunOf held e written text × IsWriteCause e.out held faults faults_after (NotWritten name)
 IsExecCause e held after faults faults_after NoMemory = ⊤
 IsExecCause e held after faults faults_after failure = IsCauseBefore e held faults faults_after failure × (after ≡ held)
+
+-- of `recover`: the pool was not read; else it has a fault; else it was recovered, and what is left was not written
+abbrev pub IsRecoverCause : Recover → Option Held → Option Held → ℕ → ℕ → Failure → Type 0
+IsRecoverCause r held after faults faults_after (NotWritten name) =
+    (written text : List ℕ) × IsRecoveryOf held r written text × IsWriteCause r.out held faults faults_after (NotWritten name)
+IsRecoverCause r held after faults faults_after NoMemory = ⊤
+IsRecoverCause r held after faults faults_after failure = IsShowCause r.pool held faults faults_after failure × (after ≡ held)
 
 -- the failure that an image without a meaning is
 abbrev pub failure_of : MeansFault → Failure

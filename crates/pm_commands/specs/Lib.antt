@@ -4,6 +4,7 @@ pub mod Statuses
 pub mod Created
 pub mod Checked
 pub mod Executed
+pub mod Recovered
 pub mod Failures
 pub mod Answers
 pub mod Saying

@@ -7,6 +7,8 @@ use Rattle.pm_pool.specs.Created.{Wanted, root_offset}
 use Rattle.pm_pool.specs.Texts.{create_fault_text}
 use Rattle.pm_image.specs.Texts.{fault_text}
 use Rattle.pm_image.specs.declared.fault.ImageFault.{ImageFault}
+use Rattle.pm_reopen.specs.declared.end.RecoverEnd.{RecoverEnd}
+use Rattle.pm_reopen.specs.declared.end.RecoverEnd.TheVariants as end
 use Rattle.pm_commands.specs.declared.failure.Failure.{Failure}
 use Rattle.pm_commands.specs.declared.failure.Failure.TheVariants.{Usage, BadShape, BadValue, Faulty, Fault, OtherLayout, FewerLanes, NotRead, TooLong, BadScript, NotWritten, NoMemory}
 use Rattle.solo_script.specs.declared.fault.BadLine.{BadLine}
@@ -33,6 +35,11 @@ fault_line found = codes "fault " ++ fault_text found ++ codes "\n"
 -- and of one that was mended
 abbrev pub mended_lines : ImageFault → List ℕ
 mended_lines found = codes "fault " ++ fault_text found ++ codes "\nmended\n"
+
+-- what `recover` prints
+abbrev pub recover_line : RecoverEnd → List ℕ
+recover_line (end.Whole calls) = codes "recovered after " ++ (decimal calls ++ codes " calls\n")
+recover_line (end.Stopped calls) = codes "stopped after " ++ (decimal calls ++ codes " calls\n")
 
 -- the pool has another layout name than was asked for
 abbrev pub other_layout_line : List ℕ → List ℕ → List ℕ

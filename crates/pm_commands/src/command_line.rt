@@ -1,7 +1,7 @@
 ghost use Rattle.std.specs.Prelude.{◌≡◌, ◌⊎◌, ℕ, ◌≤◌, List, Some, length, IfOk, IfErr};
 ghost use Rattle.pm_image.specs.declared.fault.ImageFault.{ImageFault};
 ghost use Rattle.pm_objects.specs.declared.pool.PoolView.{PoolView};
-ghost use Rattle.pm_options.specs.Words.{Check, Create, Exec, IsCheck, IsCreate, IsDump, IsExec, IsInfo, IsNoCommand, texts};
+ghost use Rattle.pm_options.specs.Words.{Check, Create, Exec, IsCheck, IsCreate, IsDump, IsExec, IsInfo, IsNoCommand, IsRecover, Recover, texts};
 ghost use Rattle.pm_shelf.specs.Outside.{Held, Rose, IsThere, MayAddPart};
 ghost use Rattle.pm_commands.specs.Answers.{CameTo, Did, DidChange, DidFail, Does, IsCauseOf, IsCutShort, IsNotPrinted, MayChange, Printed};
 ghost use Rattle.pm_commands.specs.Checked.{HasFaultLeft, IsChecked, IsRepair, MayAddMended};
@@ -9,12 +9,14 @@ ghost use Rattle.pm_commands.specs.Created.{HasGoodValues, IsCreated, pool_bytes
 ghost use Rattle.pm_commands.specs.Executed.{CanRun, IsExecuted, MayAddRun};
 ghost use Rattle.pm_commands.specs.Lines.{failure_line, failure_status, fault_line, no_memory_line};
 ghost use Rattle.pm_commands.specs.PoolFiles.{AreFactsIn, BytesMean, IsDumpOf};
+ghost use Rattle.pm_commands.specs.Recovered.{CanRecover, IsPoolRecovered, MayAddRecovery};
 ghost use Rattle.pm_commands.specs.Saying.{IsAnswered, Said};
 
 use crate::check_command::run_check;
 use crate::create_command::run_create;
 use crate::exec_command::run_exec;
 use crate::failure::{Failure, failure_line, failure_status};
+use crate::recover_command::run_recover;
 use crate::show_commands::{run_dump, run_info};
 use crate::status::Status;
 use pm_options::{Command, OptionsFault, command_of};
@@ -53,6 +55,8 @@ pub fn top<S: Shelf, K: Sink>(alloc: Global, words: &[String], shelf: &mut S, ou
         → Printed (K.told out.old) (K.told out.new) (IsCreated c (S.content shelf.old) (S.content shelf.new)) }
     ensures exec_done { (e : Exec) → IsExec (texts words.now) e → result ≡ Status.Done
         → Printed (K.told out.old) (K.told out.new) (IsExecuted e (S.content shelf.old) (S.content shelf.new)) }
+    ensures recover_done { (r : Recover) → IsRecover (texts words.now) r → result ≡ Status.Done
+        → Printed (K.told out.old) (K.told out.new) (IsPoolRecovered r (S.content shelf.old) (S.content shelf.new)) }
     ensures info_done { (name : List ℕ) → IsInfo (texts words.now) name → result ≡ Status.Done
         → Printed (K.told out.old) (K.told out.new) (AreFactsIn (S.content shelf.old) name) }
     ensures dump_done { (name : List ℕ) → IsDump (texts words.now) name → result ≡ Status.Done
@@ -63,9 +67,10 @@ pub fn top<S: Shelf, K: Sink>(alloc: Global, words: &[String], shelf: &mut S, ou
         × Printed (K.told out.old) (K.told out.new) (λ text. (found : ImageFault) × HasFaultLeft c (S.content shelf.old) found × (text ≡ fault_line found)) }
 
     // Whatever the status: no name but the new pool's changes, and that is as it was, or new with a front of the pool; a run's with a front
-    // of what the run leaves; a check's only where the pool was mended, with a front of the mended one.
+    // of what the run leaves, and so a recovery's; a check's only where the pool was mended, with a front of the mended one.
     ensures one_name { (c : Create) → IsCreate (texts words.now) c → MayAddPart (S.content shelf.old) (S.content shelf.new) c.pool (pool_bytes c) }
     ensures exec_name { (e : Exec) → IsExec (texts words.now) e → MayAddRun e (S.content shelf.old) (S.content shelf.new) }
+    ensures recover_name { (r : Recover) → IsRecover (texts words.now) r → MayAddRecovery r (S.content shelf.old) (S.content shelf.new) }
     ensures check_name { (c : Check) → IsCheck (texts words.now) c → MayAddMended c (S.content shelf.old) (S.content shelf.new) }
     ensures info_writes_none { (name : List ℕ) → IsInfo (texts words.now) name → S.content shelf.new ≡ S.content shelf.old }
     ensures dump_writes_none { (name : List ℕ) → IsDump (texts words.now) name → S.content shelf.new ≡ S.content shelf.old }
@@ -78,6 +83,11 @@ pub fn top<S: Shelf, K: Sink>(alloc: Global, words: &[String], shelf: &mut S, ou
 
     // A pool of the layout and a script of one lane under their names, a new name and no fault: done, or want of memory.
     ensures exec_complete { (e : Exec) (held : Held) → IsExec (texts words.now) e → S.content shelf.old ≡ Some held → CanRun held e
+        → ¬ Rose (S.faults shelf.old) (S.faults shelf.new) → ¬ Rose (K.faults out.old) (K.faults out.new)
+        → (result ≡ Status.Done) ⊎ (result ≡ Status.NoMemory) }
+
+    // A pool under the name, a new name and no fault: done, or want of memory.
+    ensures recover_complete { (r : Recover) (held : Held) → IsRecover (texts words.now) r → S.content shelf.old ≡ Some held → CanRecover held r
         → ¬ Rose (S.faults shelf.old) (S.faults shelf.new) → ¬ Rose (K.faults out.old) (K.faults out.new)
         → (result ≡ Status.Done) ⊎ (result ≡ Status.NoMemory) }
 
@@ -153,6 +163,7 @@ fn run_command<'a, S: Shelf>(
             Err(failure) => Err(failure),
         },
         Command::Exec(exec) => run_exec(alloc, &exec, shelf),
+        Command::Recover(recover) => run_recover(alloc, &recover, shelf),
         Command::Check(check) => run_check(alloc, &check, shelf),
         Command::Info(pool) => run_info(alloc, pool, shelf),
         Command::Dump(pool) => run_dump(alloc, pool, shelf),

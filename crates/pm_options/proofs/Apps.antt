@@ -1,6 +1,6 @@
 -- How a command of `clap` is read while words and commands are added to it.
 use Rattle.std.proofs.Common.{◌≡◌, ◌||◌, false, ◌∙◌, ap, ap₂}
-use Rattle.clap.specs.Words.{AddsArg, AddsSubcommand, App, Rule, app_of, rule_of, with_rule, with_subcommand}
+use Rattle.clap.specs.Words.{AddsArg, AddsSubcommand, App, Rule, rule_of, with_rule, with_subcommand}
 use Rattle.clap.specs.declared.builder.arg.Arg.{Arg}
 use Rattle.clap.specs.declared.builder.command.Command.{Command}
 use Rattle.pm_options.specs.Program.{IsApp}

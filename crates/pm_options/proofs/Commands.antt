@@ -10,7 +10,7 @@ use Rattle.clap.specs.declared.parser.matches.ArgMatches.{ArgMatches}
 use Rattle.clap.proofs.OnLiterals.{clap_on_literals}
 use Rattle.pm_options.specs.Asked.{HasFound, IsAsked, IsFault, IsHelpOf}
 use Rattle.pm_options.specs.Program.{IsApp, program}
-use Rattle.pm_options.specs.Words.{Check, Create, Exec, HasCheck, HasCreate, HasExec, HasValue, IsFaulty, IsGiven, IsNoCommand}
+use Rattle.pm_options.specs.Words.{Check, Create, Exec, HasCheck, HasCreate, HasExec, HasRecover, HasValue, IsFaulty, IsGiven, IsNoCommand, Recover}
 use Rattle.pm_options.specs.declared.command.Command.{Command}
 use Rattle.pm_options.specs.declared.command.Command.TheVariants as command
 
@@ -29,17 +29,21 @@ one_given words name other rows more given also = (ap name_in (sym given.command
 pub no_command : (words : List Text) (name : Text) (rows : List Row) → IsGiven words name rows
     → (name ≡ codes "create" → (c : Create) → ¬ HasCreate rows c)
     → (name ≡ codes "exec" → (e : Exec) → ¬ HasExec rows e)
+    → (name ≡ codes "recover" → (r : Recover) → ¬ HasRecover rows r)
     → (name ≡ codes "check" → (c : Check) → ¬ HasCheck rows c)
     → (name ≡ codes "info" → (pool : Text) → ¬ HasValue rows (codes "POOL") pool)
     → (name ≡ codes "dump" → (pool : Text) → ¬ HasValue rows (codes "POOL") pool)
     → IsNoCommand words
-no_command words name rows given no_create no_exec no_check no_info no_dump = record {
+no_command words name rows given no_create no_exec no_recover no_check no_info no_dump = record {
   no_create = λ c is.
       let same = one_given words name (codes "create") rows is.0 given is.1 in
       no_create same.0 c (subst (λ (rs : List Row). HasCreate rs c) (sym same.1) is.2);
   no_exec = λ e is.
       let same = one_given words name (codes "exec") rows is.0 given is.1 in
       no_exec same.0 e (subst (λ (rs : List Row). HasExec rs e) (sym same.1) is.2);
+  no_recover = λ r is.
+      let same = one_given words name (codes "recover") rows is.0 given is.1 in
+      no_recover same.0 r (subst (λ (rs : List Row). HasRecover rs r) (sym same.1) is.2);
   no_check = λ c is.
       let same = one_given words name (codes "check") rows is.0 given is.1 in
       no_check same.0 c (subst (λ (rs : List Row). HasCheck rs c) (sym same.1) is.2);
@@ -64,6 +68,7 @@ pub not_create : (name : Text) (rows : List Row) → name ≡ codes "create" →
 not_create name rows is none words given =
     no_command words name rows given (λ same. none)
     (λ other. absurd (apart name (codes "create") (codes "exec") is other refl refl))
+    (λ other. absurd (apart name (codes "create") (codes "recover") is other refl refl))
     (λ other. absurd (apart name (codes "create") (codes "check") is other refl refl))
     (λ other. absurd (apart name (codes "create") (codes "info") is other refl refl))
     (λ other. absurd (apart name (codes "create") (codes "dump") is other refl refl))
@@ -73,15 +78,27 @@ not_exec name rows is none words given =
     no_command words name rows given
     (λ other. absurd (apart name (codes "exec") (codes "create") is other refl refl))
     (λ same. none)
+    (λ other. absurd (apart name (codes "exec") (codes "recover") is other refl refl))
     (λ other. absurd (apart name (codes "exec") (codes "check") is other refl refl))
     (λ other. absurd (apart name (codes "exec") (codes "info") is other refl refl))
     (λ other. absurd (apart name (codes "exec") (codes "dump") is other refl refl))
+
+pub not_recover : (name : Text) (rows : List Row) → name ≡ codes "recover" → ((r : Recover) → ¬ HasRecover rows r) → (words : List Text) → IsGiven words name rows → IsNoCommand words
+not_recover name rows is none words given =
+    no_command words name rows given
+    (λ other. absurd (apart name (codes "recover") (codes "create") is other refl refl))
+    (λ other. absurd (apart name (codes "recover") (codes "exec") is other refl refl))
+    (λ same. none)
+    (λ other. absurd (apart name (codes "recover") (codes "check") is other refl refl))
+    (λ other. absurd (apart name (codes "recover") (codes "info") is other refl refl))
+    (λ other. absurd (apart name (codes "recover") (codes "dump") is other refl refl))
 
 pub not_check : (name : Text) (rows : List Row) → name ≡ codes "check" → ((c : Check) → ¬ HasCheck rows c) → (words : List Text) → IsGiven words name rows → IsNoCommand words
 not_check name rows is none words given =
     no_command words name rows given
     (λ other. absurd (apart name (codes "check") (codes "create") is other refl refl))
     (λ other. absurd (apart name (codes "check") (codes "exec") is other refl refl))
+    (λ other. absurd (apart name (codes "check") (codes "recover") is other refl refl))
     (λ same. none)
     (λ other. absurd (apart name (codes "check") (codes "info") is other refl refl))
     (λ other. absurd (apart name (codes "check") (codes "dump") is other refl refl))
@@ -91,6 +108,7 @@ not_info name rows is none words given =
     no_command words name rows given
     (λ other. absurd (apart name (codes "info") (codes "create") is other refl refl))
     (λ other. absurd (apart name (codes "info") (codes "exec") is other refl refl))
+    (λ other. absurd (apart name (codes "info") (codes "recover") is other refl refl))
     (λ other. absurd (apart name (codes "info") (codes "check") is other refl refl))
     (λ same. none)
     (λ other. absurd (apart name (codes "info") (codes "dump") is other refl refl))
@@ -100,15 +118,16 @@ not_dump name rows is none words given =
     no_command words name rows given
     (λ other. absurd (apart name (codes "dump") (codes "create") is other refl refl))
     (λ other. absurd (apart name (codes "dump") (codes "exec") is other refl refl))
+    (λ other. absurd (apart name (codes "dump") (codes "recover") is other refl refl))
     (λ other. absurd (apart name (codes "dump") (codes "check") is other refl refl))
     (λ other. absurd (apart name (codes "dump") (codes "info") is other refl refl))
     (λ same. none)
 
 -- the words name none of the commands
-pub not_any : (name : Text) (rows : List Row) → (name ≡ codes "create" → ⊥) → (name ≡ codes "exec" → ⊥) → (name ≡ codes "check" → ⊥) → (name ≡ codes "info" → ⊥) → (name ≡ codes "dump" → ⊥)
+pub not_any : (name : Text) (rows : List Row) → (name ≡ codes "create" → ⊥) → (name ≡ codes "exec" → ⊥) → (name ≡ codes "recover" → ⊥) → (name ≡ codes "check" → ⊥) → (name ≡ codes "info" → ⊥) → (name ≡ codes "dump" → ⊥)
     → (words : List Text) → IsGiven words name rows → IsNoCommand words
-not_any name rows no_create no_exec no_check no_info no_dump words given =
-    no_command words name rows given (λ is. absurd (no_create is)) (λ is. absurd (no_exec is)) (λ is. absurd (no_check is)) (λ is. absurd (no_info is)) (λ is. absurd (no_dump is))
+not_any name rows no_create no_exec no_recover no_check no_info no_dump words given =
+    no_command words name rows given (λ is. absurd (no_create is)) (λ is. absurd (no_exec is)) (λ is. absurd (no_recover is)) (λ is. absurd (no_check is)) (λ is. absurd (no_info is)) (λ is. absurd (no_dump is))
 
 -- words for which `clap` found no command are none
 pub none_found : (words : List Text) → subcommand_of program words ≡ None → IsNoCommand words
@@ -117,6 +136,7 @@ none_found words none =
     record {
       no_create = λ c is. never _ is.0 is.1;
       no_exec = λ e is. never _ is.0 is.1;
+      no_recover = λ r is. never _ is.0 is.1;
       no_check = λ c is. never _ is.0 is.1;
       no_info = λ pool is. never _ is.0 is.1;
       no_dump = λ pool is. never _ is.0 is.1;
@@ -154,6 +174,7 @@ help_kind words kind text (inr among) (inr version) = inr (subst (λ (k : ErrorK
 pub help_asked : (words : List Text) (kind : ErrorKind) (asked : Command) → (kind ≡ OutOfMemory) ⊎ IsAmong kind (fault_of program words) → IsHelpOf kind asked → IsAsked words asked
 help_asked words kind (command.Create create) has is = absurd is
 help_asked words kind (command.Exec e) has is = absurd is
+help_asked words kind (command.Recover r) has is = absurd is
 help_asked words kind (command.Check check) has is = absurd is
 help_asked words kind (command.Info pool) has is = absurd is
 help_asked words kind (command.Dump pool) has is = absurd is
@@ -172,6 +193,7 @@ faulty words kind (inr among) is =
       no_command = record {
         no_create = λ c is. never _ is.0 is.1;
         no_exec = λ e is. never _ is.0 is.1;
+        no_recover = λ r is. never _ is.0 is.1;
         no_check = λ c is. never _ is.0 is.1;
         no_info = λ pool is. never _ is.0 is.1;
         no_dump = λ pool is. never _ is.0 is.1;

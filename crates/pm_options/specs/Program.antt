@@ -32,6 +32,10 @@ exec_rules =
     positional (codes "POOL") ∷ option (codes "script") true ∷ option (codes "out") true ∷ option (codes "layout") true
     ∷ option (codes "stops") false ∷ option (codes "keep") false ∷ []
 
+abbrev pub recover_rules : List Rule
+recover_rules =
+    positional (codes "POOL") ∷ option (codes "out") true ∷ option (codes "stop") false ∷ option (codes "keep") false ∷ []
+
 abbrev pub check_rules : List Rule
 check_rules = positional (codes "POOL") ∷ option (codes "repair") false ∷ []
 
@@ -41,8 +45,8 @@ pool_rules = positional (codes "POOL") ∷ []
 
 abbrev pub commands : List Shape
 commands =
-    command (codes "create") create_rules ∷ command (codes "exec") exec_rules ∷ command (codes "check") check_rules
-    ∷ command (codes "info") pool_rules ∷ command (codes "dump") pool_rules ∷ []
+    command (codes "create") create_rules ∷ command (codes "exec") exec_rules ∷ command (codes "recover") recover_rules
+    ∷ command (codes "check") check_rules ∷ command (codes "info") pool_rules ∷ command (codes "dump") pool_rules ∷ []
 
 -- the program: one of its commands has to be named, and each of them answers `--version`
 abbrev pub program : App

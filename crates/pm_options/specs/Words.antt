@@ -30,6 +30,11 @@ HasNumber rows name number = (text : Text) × HasValue rows name text × (number
 abbrev pub HasNumberOrZero : List Row → Text → ℕ → Type 0
 HasNumberOrZero rows name number = ((first_of name rows ≡ None) × (number ≡ 0)) ⊎ HasNumber rows name number
 
+-- it has this number for its value, or is left out, for none
+abbrev pub HasNumberIfThere : List Row → Text → Option ℕ → Type 0
+HasNumberIfThere rows name None = first_of name rows ≡ None
+HasNumberIfThere rows name (Some number) = HasNumber rows name number
+
 -- `--stops` has a list of these stops, each a lane and its stop number, or is left out, for none
 abbrev pub HasStops : List Row → List (ℕ × ℕ) → Type 0
 HasStops rows stops =
@@ -49,6 +54,14 @@ pub record Exec : Type 0 where
   pub out : Text
   pub layout : Text
   pub stops : List (ℕ × ℕ)
+  pub keep : ℕ
+
+-- what `recover` is asked for: the names of the pool and of the recovered one, after how many counted calls it stops, if it does, and what
+-- survives
+pub record Recover : Type 0 where
+  pub pool : Text
+  pub out : Text
+  pub stop : Option ℕ
   pub keep : ℕ
 
 -- what `check` is asked for: the name of the pool, and the one that a mended pool gets, if it is to be mended
@@ -74,6 +87,13 @@ pub record HasExec (rows : List Row) (e : Exec) : Type 0 where
   pub stops : HasStops rows e.stops
   pub keep : HasNumberOrZero rows (codes "keep") e.keep
 
+-- of `recover`'s
+pub record HasRecover (rows : List Row) (r : Recover) : Type 0 where
+  pub pool : HasValue rows (codes "POOL") r.pool
+  pub out : HasValue rows (codes "out") r.out
+  pub stop : HasNumberIfThere rows (codes "stop") r.stop
+  pub keep : HasNumberOrZero rows (codes "keep") r.keep
+
 -- of `check`'s
 pub record HasCheck (rows : List Row) (c : Check) : Type 0 where
   pub pool : HasValue rows (codes "POOL") c.pool
@@ -86,6 +106,10 @@ IsCreate words c = (rows : List Row) × IsGiven words (codes "create") rows × H
 -- the words are `exec POOL --script FILE --out POOL2 --layout NAME [--stops LIST] [--keep K]`, the options in any order
 abbrev pub IsExec : List Text → Exec → Type 0
 IsExec words e = (rows : List Row) × IsGiven words (codes "exec") rows × HasExec rows e
+
+-- the words are `recover POOL --out POOL2 [--stop N] [--keep K]`, the options in any order
+abbrev pub IsRecover : List Text → Recover → Type 0
+IsRecover words r = (rows : List Row) × IsGiven words (codes "recover") rows × HasRecover rows r
 
 -- the words are `check POOL [--repair POOL2]`
 abbrev pub IsCheck : List Text → Check → Type 0
@@ -107,6 +131,7 @@ IsHelp words = IsAmong DisplayHelp (fault_of program words) ⊎ IsAmong DisplayV
 pub record IsNoCommand (words : List Text) : Type 0 where
   pub no_create : (c : Create) → ¬ IsCreate words c
   pub no_exec : (e : Exec) → ¬ IsExec words e
+  pub no_recover : (r : Recover) → ¬ IsRecover words r
   pub no_check : (c : Check) → ¬ IsCheck words c
   pub no_info : (pool : Text) → ¬ IsInfo words pool
   pub no_dump : (pool : Text) → ¬ IsDump words pool

@@ -25,6 +25,18 @@ pub struct ExecWords<'a> {
     pub keep: u64,
 }
 
+/// What `recover` is asked for.
+#[derive(Clone, Copy, Debug)]
+pub struct RecoverWords<'a> {
+    /// The name of the pool that is read, and the one that the recovered pool gets.
+    pub pool: &'a str,
+    pub out: &'a str,
+    /// After how many counted calls it stops, if it does.
+    pub stop: Option<u64>,
+    /// What survives of undrained changes: docs/FORMAT.md, "Keep".
+    pub keep: u64,
+}
+
 /// What `check` is asked for.
 #[derive(Clone, Copy, Debug)]
 pub struct CheckWords<'a> {
@@ -41,6 +53,8 @@ pub enum Command<'a> {
     Create(CreateWords<'a>),
     /// Runs a script on a pool.
     Exec(ExecWords<'a>),
+    /// Recovers a pool.
+    Recover(RecoverWords<'a>),
     /// Checks a pool.
     Check(CheckWords<'a>),
     /// Shows the facts of the pool with this name.

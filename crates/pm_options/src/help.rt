@@ -3,7 +3,8 @@
 /// What `--version` prints behind the name.
 pub const VERSION: &str = "0.1.0";
 
-pub const PROGRAM: &str = "Pools of persistent memory: makes, runs, checks and shows them.";
+pub const PROGRAM: &str =
+    "Pools of persistent memory: makes, runs, recovers, checks and shows them.";
 
 pub const PROGRAM_END: &str = "\
 Statuses: 0 done; 1 the pool has a fault, or a value is refused; 2 the words are no command;
@@ -25,6 +26,14 @@ Reads POOL and FILE, writes POOL2, which must not be there, and prints a line fo
 each lane. POOL is not changed.
 Status 1 where POOL has a fault, another layout name, or fewer lanes than the script; 3 where POOL
 or FILE can't be read; 4 where POOL2 is there or can't be written; 6 where FILE has a bad line.";
+
+pub const RECOVER: &str = "Recovers a pool, up to a power failure where it stops.";
+
+pub const RECOVER_END: &str = "\
+Makes the calls of the memory that the opening of POOL makes, writes POOL2, which must not be there,
+and prints `recovered after N calls`, or `stopped after N calls`. POOL is not changed.
+Status 1 where POOL has a fault; 3 where it can't be read; 4 where POOL2 is there or can't be
+written.";
 
 pub const CHECK: &str = "Tells whether a pool is consistent, or its first fault.";
 

@@ -13,7 +13,7 @@ mod program;
 mod reading;
 mod values;
 
-pub use command::{CheckWords, Command, CreateWords, ExecWords};
+pub use command::{CheckWords, Command, CreateWords, ExecWords, RecoverWords};
 pub use fault::OptionsFault;
 pub use reading::command_of;
 

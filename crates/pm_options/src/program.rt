@@ -2,7 +2,7 @@
 
 ghost use Rattle.std.specs.Prelude.{◌≡◌, IfOk, [], codes, false};
 ghost use Rattle.clap.specs.Words.{new_app, rule_of};
-ghost use Rattle.pm_options.specs.Program.{IsApp, check_rules, command_app, create_rules, exec_rules, option, pool_rules, positional, program};
+ghost use Rattle.pm_options.specs.Program.{IsApp, check_rules, command_app, create_rules, exec_rules, option, pool_rules, positional, program, recover_rules};
 
 use crate::help;
 use clap::{Arg, ArgAction, Command};
@@ -19,7 +19,8 @@ pub fn program<'a>(alloc: Global) -> Result<Command<'a>, AllocError>
         .disable_help_subcommand(true);
     let with_create = top.subcommand(create(alloc)?)?;
     let with_exec = with_create.subcommand(exec(alloc)?)?;
-    let with_check = with_exec.subcommand(check(alloc)?)?;
+    let with_recover = with_exec.subcommand(recover(alloc)?)?;
+    let with_check = with_recover.subcommand(check(alloc)?)?;
     let with_info = with_check.subcommand(info(alloc)?)?;
     let with_dump = with_info.subcommand(dump(alloc)?)?;
     Ok(with_dump)
@@ -56,6 +57,30 @@ fn exec<'a>(alloc: Global) -> Result<Command<'a>, AllocError>
         false,
     ))?;
     let keep = stops.arg(option(
+        alloc,
+        "keep",
+        "K",
+        "Which undrained changes survive: 0 none, 1 all, else chosen by K [default: 0]",
+        false,
+    ))?;
+    Ok(keep)
+}
+
+/// `recover POOL --out POOL2 [--stop N] [--keep K]`.
+fn recover<'a>(alloc: Global) -> Result<Command<'a>, AllocError>
+    ensures { IfOk result (λ built. IsApp built (command_app (codes "recover") recover_rules)) }
+{
+    let empty = named(alloc, "recover", help::RECOVER, help::RECOVER_END);
+    let pool = empty.arg(positional(alloc, "POOL", "The pool to recover"))?;
+    let out = pool.arg(option(alloc, "out", "POOL2", "The pool that is left", true))?;
+    let stop = out.arg(option(
+        alloc,
+        "stop",
+        "N",
+        "After how many counted calls it stops [default: never]",
+        false,
+    ))?;
+    let keep = stop.arg(option(
         alloc,
         "keep",
         "K",

@@ -8,7 +8,7 @@ ghost use Rattle.pm_options.specs.Words.{IsFaulty, IsGiven, IsNoCommand, texts};
 use crate::command::Command;
 use crate::fault::OptionsFault;
 use crate::program::program;
-use crate::values::{check_in, create_in, exec_in, text};
+use crate::values::{check_in, create_in, exec_in, recover_in, text};
 use clap::error::ErrorKind;
 use clap::{ArgMatches, Error};
 use std::alloc::Global;
@@ -61,6 +61,9 @@ fn named_command<'a>(
     }
     if name == "exec" {
         return Ok(Command::Exec(exec_in(alloc, given)?));
+    }
+    if name == "recover" {
+        return Ok(Command::Recover(recover_in(alloc, given)?));
     }
     if name == "check" {
         return Ok(Command::Check(check_in(alloc, given)?));

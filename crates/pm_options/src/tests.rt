@@ -34,7 +34,13 @@ fn any_order(rt: HostRuntime) -> Result<(), Fail> {
 /// Requests for help and for the version, which are no fault.
 #[test]
 fn help(rt: HostRuntime) -> Result<(), Fail> {
-    for line in ["--help", "--version", "check --help", "info --version"] {
+    for line in [
+        "--help",
+        "--version",
+        "check --help",
+        "recover --help",
+        "info --version",
+    ] {
         let words = words(rt.alloc(), line)?;
         assert!(rt;
             matches!(command_of(rt.alloc(), &words), Ok(Command::Help(_))),
@@ -60,6 +66,8 @@ fn faulty_lines(rt: HostRuntime) -> Result<(), Fail> {
         "exec P --script S --out Q --layout demo --stops 0:1,0:2",
         "exec P --script S --out Q --layout demo --stops 0:",
         "exec P --script S --out Q --layout demo --keep x",
+        "recover P --stop 3",
+        "recover P --out Q --stop x",
     ] {
         let words = words(rt.alloc(), line)?;
         let told = command_of(rt.alloc(), &words);

@@ -1,11 +1,11 @@
 //! The values of a command's words and options.
 
-ghost use Rattle.std.specs.Prelude.{◌≡◌, ℕ, List, None, IfErr, IfOk, IfSome, option_map};
+ghost use Rattle.std.specs.Prelude.{◌≡◌, ℕ, List, Option, None, IfErr, IfOk, IfSome, option_map};
 ghost use Rattle.clap.specs.Words.{Text, first_of, found_of, rows_of};
-ghost use Rattle.pm_options.specs.Asked.{IfUsage, check_asked, create_asked, exec_asked};
-ghost use Rattle.pm_options.specs.Words.{Check, Create, Exec, HasCheck, HasCreate, HasExec, HasNumber, HasNumberOrZero, HasStops, HasValue};
+ghost use Rattle.pm_options.specs.Asked.{IfUsage, check_asked, create_asked, exec_asked, recover_asked};
+ghost use Rattle.pm_options.specs.Words.{Check, Create, Exec, HasCheck, HasCreate, HasExec, HasNumber, HasNumberIfThere, HasNumberOrZero, HasRecover, HasStops, HasValue, Recover};
 
-use crate::command::{CheckWords, CreateWords, ExecWords};
+use crate::command::{CheckWords, CreateWords, ExecWords, RecoverWords};
 use crate::fault::OptionsFault;
 use clap::ArgMatches;
 use pm_script::{number, stops};
@@ -51,6 +51,27 @@ pub fn exec_in<'a>(alloc: Global, given: &ArgMatches<'a>) -> Result<ExecWords<'a
         out,
         layout,
         stops,
+        keep,
+    })
+}
+
+/// The values of `recover`.
+pub fn recover_in<'a>(
+    alloc: Global,
+    given: &ArgMatches<'a>,
+) -> Result<RecoverWords<'a>, OptionsFault>
+    ensures some { IfOk result (λ r. HasRecover (rows_of (found_of given.now)) (recover_asked r)) }
+    ensures none { IfErr result (λ e. IfUsage e
+        ((r : Recover) → ¬ HasRecover (rows_of (found_of given.now)) r)) }
+{
+    let pool = text(alloc, given, "POOL")?;
+    let out = text(alloc, given, "out")?;
+    let stop = number_if_there(alloc, given, "stop")?;
+    let keep = number_or_zero(alloc, given, "keep")?;
+    Ok(RecoverWords {
+        pool,
+        out,
+        stop,
         keep,
     })
 }
@@ -109,6 +130,25 @@ fn number_or_zero(alloc: Global, given: &ArgMatches<'_>, name: &str) -> Result<u
     };
     match number(text) {
         Some(number) => Ok(number),
+        None => Err(OptionsFault::Usage(bad_value(alloc, name, text)?)),
+    }
+}
+
+/// The number that is an option's value, if the option is there.
+fn number_if_there(
+    alloc: Global,
+    given: &ArgMatches<'_>,
+    name: &str,
+) -> Result<Option<u64>, OptionsFault>
+    ensures some { IfOk result (HasNumberIfThere (rows_of (found_of given.now)) name.now) }
+    ensures none { IfErr result (λ e. IfUsage e
+        ((n : Option ℕ) → ¬ HasNumberIfThere (rows_of (found_of given.now)) name.now n)) }
+{
+    let Some(text) = value(given, name) else {
+        return Ok(None);
+    };
+    match number(text) {
+        Some(number) => Ok(Some(number)),
         None => Err(OptionsFault::Usage(bad_value(alloc, name, text)?)),
     }
 }

@@ -1,6 +1,6 @@
 use Rattle.pm_commands.specs.declared.status.Status.TheVariants as status
-use Rattle.pm_commands.proofs.Completeness.{check_complete, check_done, check_refused, create_complete, create_done, dump_complete, dump_done, exec_complete, exec_done, fault_complete, info_complete, info_done, mend_complete}
-use Rattle.pm_commands.proofs.NewNames.{check_changes, create_changes, dump_keeps, exec_changes, info_keeps, none_keeps}
+use Rattle.pm_commands.proofs.Completeness.{check_complete, check_done, check_refused, create_complete, create_done, dump_complete, dump_done, exec_complete, exec_done, fault_complete, info_complete, info_done, mend_complete, recover_complete, recover_done}
+use Rattle.pm_commands.proofs.NewNames.{check_changes, create_changes, dump_keeps, exec_changes, info_keeps, none_keeps, recover_changes}
 use Rattle.pm_commands.proofs.Printing.{printed_or_cut, printed_or_failed, printed_so}
 use Rattle.pm_commands.proofs.command_line.top.Goals as goal
 
@@ -31,6 +31,9 @@ returns-clause-create_done g c = create_done _ _ _ _ _ _ _ _ _ _ c.answer.ensure
 pub returns-clause-exec_done : goal.returns-clause-exec_done
 returns-clause-exec_done g c = exec_done _ _ _ _ _ _ _ _ _ _ c.answer.ensures.answered
 
+pub returns-clause-recover_done : goal.returns-clause-recover_done
+returns-clause-recover_done g c = recover_done _ _ _ _ _ _ _ _ _ _ c.answer.ensures.answered
+
 pub returns-clause-info_done : goal.returns-clause-info_done
 returns-clause-info_done g c = info_done _ _ _ _ _ _ _ _ _ _ c.answer.ensures.answered
 
@@ -49,6 +52,9 @@ returns-clause-one_name g c = create_changes _ _ _ c.answer.ensures.changed
 pub returns-clause-exec_name : goal.returns-clause-exec_name
 returns-clause-exec_name g c = exec_changes _ _ _ c.answer.ensures.changed
 
+pub returns-clause-recover_name : goal.returns-clause-recover_name
+returns-clause-recover_name g c = recover_changes _ _ _ c.answer.ensures.changed
+
 pub returns-clause-check_name : goal.returns-clause-check_name
 returns-clause-check_name g c = check_changes _ _ _ c.answer.ensures.changed
 
@@ -66,6 +72,9 @@ returns-clause-complete g c = create_complete _ _ _ _ _ _ _ _ _ _ c.answer.ensur
 
 pub returns-clause-exec_complete : goal.returns-clause-exec_complete
 returns-clause-exec_complete g c = λ e held is tells can calm still. exec_complete _ _ _ _ _ _ _ _ _ _ c.answer.ensures.answered held tells calm still e is can
+
+pub returns-clause-recover_complete : goal.returns-clause-recover_complete
+returns-clause-recover_complete g c = λ r held is tells can calm still. recover_complete _ _ _ _ _ _ _ _ _ _ c.answer.ensures.answered held tells calm still r is can
 
 pub returns-clause-check_complete : goal.returns-clause-check_complete
 returns-clause-check_complete g c = λ k bytes pool held is tells there means calm still. check_complete _ _ _ _ _ _ _ _ _ _ c.answer.ensures.answered held tells calm still k bytes pool is there means

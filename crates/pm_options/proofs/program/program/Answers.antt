@@ -1,4 +1,4 @@
-use Rattle.std.proofs.Common.{◌≡◌, true, ◌∙◌, ap, codes}
+use Rattle.std.proofs.Common.{true, ◌∙◌, ap, codes}
 use Rattle.clap.specs.Words.{App, new_app}
 use Rattle.clap.specs.Simple.{app_of_fields, on_top}
 use Rattle.clap.specs.declared.builder.command.Command.{Command}
@@ -24,6 +24,7 @@ returns c =
     } in
     let create = command_added _ _ _ _ _ c.in_ok-with_create.ensures set c.in_ok-create.ensures in
     let exec = command_added _ _ _ _ _ c.in_ok-with_exec.ensures create c.in_ok-exec.ensures in
-    let check = command_added _ _ _ _ _ c.in_ok-with_check.ensures exec c.in_ok-check.ensures in
+    let recover = command_added _ _ _ _ _ c.in_ok-with_recover.ensures exec c.in_ok-recover.ensures in
+    let check = command_added _ _ _ _ _ c.in_ok-with_check.ensures recover c.in_ok-check.ensures in
     let info = command_added _ _ _ _ _ c.in_ok-with_info.ensures check c.in_ok-info.ensures in
     command_added _ _ _ _ _ c.in_ok-with_dump.ensures info c.in_ok-dump.ensures
