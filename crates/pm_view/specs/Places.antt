@@ -1,6 +1,6 @@
 -- Places and blocks. A word may have two uses: the first word of a chunk is a run's bitmap, or the first of a huge block's header; a place is
 -- a word with its use. Chunks are numbered through all zones.
-use Rattle.std.specs.Prelude.{ℕ, ◌+◌, ◌-◌, ◌*◌, ◌/◌, nat_le, nat_lt, Bool, true, false, cond, ◌==◌, ◌&&◌}
+use Rattle.std.specs.Prelude.{ℕ, ◌+◌, ◌-◌, ◌*◌, ◌/◌, ◌%◌, nat_le, nat_lt, Bool, true, false, cond, ◌==◌, ◌&&◌}
 use Rattle.pm_layout.specs.Areas.{page_words}
 use Rattle.pm_layout.specs.declared.shape.Shape.{Shape}
 use Rattle.pm_layout.specs.Chunks.{chunks_of, word_of_chunk, line_of_chunk, word_of_descriptor, word_of_root}
@@ -117,21 +117,21 @@ is_place sh (InHuge c w) = nat_lt c (chunks_of sh) && nat_lt w page_words
 is_place sh (Descr c) = nat_lt c (chunks_of sh)
 is_place sh RootWord = true
 
--- the place so many words after another, of the same use
+-- the place so many words after another, of the same use: a huge block's words go on in its next chunk
 abbrev pub place_after : Place → ℕ → Place
 place_after (InRun c w) n = InRun c (w + n)
-place_after (InHuge c w) n = InHuge c (w + n)
+place_after (InHuge c w) n = InHuge (c + (w + n) / page_words) ((w + n) % page_words)
 place_after (Descr c) n = Descr (c + n)
 place_after RootWord n = RootWord
 
 -- how many words one place is after another: none where it is before it, or elsewhere
 abbrev pub is_after : Place → Place → Bool
 is_after (InRun c w) (InRun d v) = (c == d) && nat_le w v
-is_after (InHuge c w) (InHuge d v) = (c == d) && nat_le w v
+is_after (InHuge c w) (InHuge d v) = nat_lt v page_words && nat_le (page_words * c + w) (page_words * d + v)
 is_after RootWord RootWord = true
 is_after p q = false
 
 abbrev pub distance : Place → Place → ℕ
 distance (InRun c w) (InRun d v) = v - w
-distance (InHuge c w) (InHuge d v) = v - w
+distance (InHuge c w) (InHuge d v) = (page_words * d + v) - (page_words * c + w)
 distance p q = 0

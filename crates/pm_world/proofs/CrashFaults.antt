@@ -20,7 +20,7 @@ use Rattle.pm_view.specs.Places.{Place, InRun, InHuge, Descr, RootWord, word_of,
 use Rattle.pm_view.specs.Entries.{Entry}
 use Rattle.pm_view.specs.Log.{Phase, Idle, Open, Drawn, Sealing, Applying, Clearing, Retiring, Voiding, Recorded, Log}
 use Rattle.pm_world.specs.Lanes.{is_decided}
-use Rattle.pm_world.specs.Logs.{IsRecordAt, EntryOf, AreWhole, BumpFits, PhaseFits, ends_with, used_slots}
+use Rattle.pm_world.specs.Logs.{IsRecordAt, EntryOf, AreInRow, AreWhole, BumpFits, PhaseFits, ends_with, used_slots}
 use Rattle.pm_world.specs.Memory.{Memory}
 use Rattle.pm_world.specs.Sights.{sight_of}
 use Rattle.pm_world.specs.World.{Opening, Views, Past, World}
@@ -104,12 +104,6 @@ module _ (o : Opening) (mem : Memory) (views : Views) (g : Past) (x : World o me
 
     -- ---- ITS VALID RECORDS
 
-    after_sum : (p : Place) (n : ℕ) → is_single p ≡ false → word_of o.shape (place_after p n) ≡ word_of o.shape p + n
-    after_sum (InRun c u) n s = omega arith
-    after_sum (InHuge c u) n s = omega arith
-    after_sum (Descr c) n s = absurd (both_ways true s refl)
-    after_sum RootWord n s = absurd (both_ways true s refl)
-
     after_kind : (p : Place) (n : ℕ) → is_single p ≡ false → is_single (place_after p n) ≡ false
     after_kind (InRun c u) n s = refl
     after_kind (InHuge c u) n s = refl
@@ -120,14 +114,14 @@ module _ (o : Opening) (mem : Memory) (views : Views) (g : Past) (x : World o me
     all_in P from zero h = refl
     all_in P from (suc n) h = and_from (P from) (list_all P (range_with_len (from + 1) n)) (h from (omega arith) (omega arith)) (all_in P (from + 1) n (λ i a b. h i (omega arith) (omega arith)))
 
-    record_good : (r : Recorded) → is_single r.place ≡ false → 1 ≤ length r.old → length r.old ≤ 4 → ((i : ℕ) → i < length r.old → is_place o.shape (place_after r.place i) ≡ true) → (views k).log.generation < greatest_generation o.shape
+    record_good : (r : Recorded) → is_single r.place ≡ false → 1 ≤ length r.old → length r.old ≤ 4 → AreInRow o.shape r → (views k).log.generation < greatest_generation o.shape
         → good_record o.shape.lanes o.shape.zones (undo_from o.shape (views k).log.generation r) ≡ true
     unfolding good_record
     record_good r s one four each below = let W : ℕ = word_of o.shape r.place in let n = length r.old in let lanes = o.shape.lanes in let zones = o.shape.zones in
         and_from (nat_le 1 n && nat_le n 4 && (8 * W) % 8 == 0 && list_all (λ i. in_chunk lanes zones (8 * W / 8 + i)) (range_with_len 0 n)) (not ((views k).log.generation == 2 ^ 62))
         (and_from (nat_le 1 n && nat_le n 4 && (8 * W) % 8 == 0) (list_all (λ i. in_chunk lanes zones (8 * W / 8 + i)) (range_with_len 0 n))
         (and_from (nat_le 1 n && nat_le n 4) ((8 * W) % 8 == 0) (and_from (nat_le 1 n) (nat_le n 4) (le-leb 1 n one) (le-leb n 4 four)) (eq-eqb ((8 * W) % 8) 0 (omega arith)))
-        (all_in (λ i. in_chunk lanes zones (8 * W / 8 + i)) 0 n (λ i a b. let at : 8 * W / 8 + i ≡ W + i = omega arith in ap (in_chunk lanes zones) (at ∙ sym (after_sum r.place i s)) ∙ place_chunk o.shape (place_after r.place i) (after_kind r.place i s) (each i (omega arith)))))
+        (all_in (λ i. in_chunk lanes zones (8 * W / 8 + i)) 0 n (λ i a b. let at : 8 * W / 8 + i ≡ W + i = omega arith in ap (in_chunk lanes zones) (at ∙ sym (each i (omega arith)).1) ∙ place_chunk o.shape (place_after r.place i) (after_kind r.place i s) (each i (omega arith)).0)))
         (ap not (ne_eqb (views k).log.generation (2 ^ 62) (λ q. omega arith)))
 
     data_kind : (p : Place) → Rattle.pm_view.specs.Places.is_data p ≡ true → is_single p ≡ false
@@ -148,7 +142,7 @@ module _ (o : Opening) (mem : Memory) (views : Views) (g : Past) (x : World o me
       where
         by : (r : Recorded) → length r.old ≤ 4 → (views k).fixed.shape ≡ o.shape → (views k).log.generation < 2 ^ 62 → IsRecordAt (views k).log j r ⊎ ((length (views k).log.records ≡ j) × IsNextRecord (views k) r) → good_record o.shape.lanes o.shape.zones (undo_from o.shape (views k).log.generation r) ≡ true
         by r most same low (inl at) = let f = (log_fits o mem views g x k ink).records j r at in record_good r (data_kind r.place f.4) f.1 most f.5 low
-        by r most same low (inr z) = let can = z.1 in let one = can.some in record_good r (before_kind r.place 0 (can.each 0 (omega arith)).plain) can.some most (λ i l. sym (ap (λ s. is_place s (place_after r.place i)) same) ∙ (can.each i l).place) low
+        by r most same low (inr z) = let can = z.1 in let one = can.some in record_good r (before_kind r.place 0 (can.each 0 (omega arith)).plain) can.some most (subst (λ s. AreInRow s r) same can.row) low
 
     pub slot_good : (j : ℕ) → j < 64 → bad_slot image o.shape.lanes o.shape.zones k j ≡ false
     unfolding bad_slot

@@ -95,3 +95,5 @@ pub mod Missed
 pub mod CausesKept
 pub mod OccupancyShown
 pub mod SoloStands
+pub mod InWorlds
+pub mod FirstLooks

@@ -1,7 +1,7 @@
 -- ONE MORE RECORD of an open call, over bits: what the lane's sight owes.
 use Rattle.std.specs.Prelude.{List, [], ◌∷◌, ◌++◌, length, slice_index, slice_get}
 use Rattle.std.specs.List.{list_any}
-use Rattle.std.proofs.Common.{◌≡◌, ℕ, zero, suc, ◌+◌, ◌-◌, ◌/◌, ◌<◌, ◌⊎◌, inl, inr, ⊎_elim, nat_le, nat_lt, Bool, true, false, cond, ◌==◌, ◌&&◌, ◌||◌, refl, sym, ap, ◌∙◌, subst, arith, eq-eqb, ne_eqb, Option, None, Some}
+use Rattle.std.proofs.Common.{◌≤◌, ◌*◌, ◌%◌, ◌≡◌, ℕ, zero, suc, ◌+◌, ◌-◌, ◌/◌, ◌<◌, ◌⊎◌, inl, inr, ⊎_elim, nat_le, nat_lt, Bool, true, false, cond, ◌==◌, ◌&&◌, ◌||◌, refl, sym, ap, ◌∙◌, subst, arith, eq-eqb, ne_eqb, Option, None, Some}
 use Rattle.std.proofs.lemmas.Bool.{eqb-true, leb-true, ltb-true, both_ways, and_parts, and_from, or_cases, or_left, or_right, cond-true}
 use Rattle.pm_layout.specs.declared.shape.Shape.{Shape}
 use Rattle.pm_layout.specs.Areas.{line_of_slot}
@@ -102,7 +102,9 @@ place_is (InRun c w) (InHuge d v) e = absurd (both_ways false refl e)
 place_is (InRun c w) (Descr d) e = absurd (both_ways false refl e)
 place_is (InRun c w) RootWord e = absurd (both_ways false refl e)
 place_is (InHuge c w) (InRun d v) e = absurd (both_ways false refl e)
-place_is (InHuge c w) (InHuge d v) e = let t = and_parts (c == d) (nat_le w v) e in let l = leb-true w v t.1 in ap (λ y. InHuge y (w + (v - w))) (eqb-true c d t.0) ∙ ap (λ y. InHuge d y) (let q : w + (v - w) ≡ v = omega arith in q)
+place_is (InHuge c w) (InHuge d v) e = let t = and_parts (nat_lt v 512) (nat_le (512 * c + w) (512 * d + v)) e in let s = ltb-true v 512 t.0 in let l = leb-true (512 * c + w) (512 * d + v) t.1 in
+    let sum : w + ((512 * d + v) - (512 * c + w)) ≡ 512 * (d - c) + v = omega arith in let low : c ≤ d = omega arith in
+    ap (λ n. InHuge (c + n / 512) (n % 512)) sum ∙ (ap (λ y. InHuge y ((512 * (d - c) + v) % 512)) (let q : c + (512 * (d - c) + v) / 512 ≡ d = omega arith in q) ∙ ap (λ y. InHuge d y) (let q : (512 * (d - c) + v) % 512 ≡ v = omega arith in q))
 place_is (InHuge c w) (Descr d) e = absurd (both_ways false refl e)
 place_is (InHuge c w) RootWord e = absurd (both_ways false refl e)
 place_is (Descr c) (InRun d v) e = absurd (both_ways false refl e)

@@ -1,6 +1,6 @@
 -- The valid records of a lane whose call is not decided: each is of words that the lane owns, and has what is settled where that is alive; and each drained
 -- record of the log is valid.
-use Rattle.std.proofs.Common.{◌≡◌, ℕ, zero, suc, ◌+◌, ◌-◌, ◌*◌, ◌/◌, ◌<◌, ◌≤◌, ◌⊎◌, inl, inr, ⊎_elim, nat_le, nat_lt, Bool, true, false, cond, not, ◌&&◌, ◌||◌, ◌==◌, List, [], ◌∷◌, length, slice_get, slice_index, refl, sym, ap, ◌∙◌, subst, arith, eq-eqb, ne_eqb, Option, None, Some}
+use Rattle.std.proofs.Common.{◌%◌, ◌≡◌, ℕ, zero, suc, ◌+◌, ◌-◌, ◌*◌, ◌/◌, ◌<◌, ◌≤◌, ◌⊎◌, inl, inr, ⊎_elim, nat_le, nat_lt, Bool, true, false, cond, not, ◌&&◌, ◌||◌, ◌==◌, List, [], ◌∷◌, length, slice_get, slice_index, refl, sym, ap, ◌∙◌, subst, arith, eq-eqb, ne_eqb, Option, None, Some}
 use Rattle.std.specs.Int.{bit_at}
 use Rattle.std.specs.List.{find}
 use Rattle.std.specs.Option.{option_map}
@@ -20,7 +20,8 @@ use Rattle.pm_view.specs.View.{View, runs_one}
 use Rattle.pm_world.specs.States.{Diff, given, live}
 use Rattle.pm_world.specs.Sights.{is_pictured, is_recorded, is_logged, is_logged_from, is_slot_drained, sight_of}
 use Rattle.pm_world.specs.Lanes.{is_decided, is_in_making, left, own, owns, SightFits, Flies}
-use Rattle.pm_world.specs.Logs.{IsRecordAt}
+use Rattle.pm_world.specs.Logs.{IsRecordAt, AreInRow}
+use Rattle.pm_world.proofs.Recording.{old_in_at, place_is}
 use Rattle.pm_world.specs.Lawful.{MayChangeAt}
 use Rattle.pm_world.specs.Memory.{Memory, bit, cells_of}
 use Rattle.pm_world.specs.World.{Opening, Views, Past, RecordedFits, World, settled_words, ghost_of}
@@ -55,18 +56,13 @@ after_data (InHuge c w) n e = refl
 after_data (Descr c) n e = absurd (both_ways false refl e)
 after_data RootWord n e = absurd (both_ways false refl e)
 
-after_word : (sh : Shape) (p : Place) (w : ℕ) → is_single p ≡ false → word_of sh p ≤ w → word_of sh (place_after p (w - word_of sh p)) ≡ w
-after_word sh (InRun c u) w e l = omega arith
-after_word sh (InHuge c u) w e l = omega arith
-after_word sh (Descr c) w e l = absurd (both_ways true e refl)
-after_word sh RootWord w e l = absurd (both_ways true e refl)
-
 after_old : (p : Place) (old : List ℕ) (n : ℕ) → is_single p ≡ false → n < length old → old_in (record { place = p; old = old }) (place_after p n) ≡ Some (slice_index old n)
 after_old (InRun c w) old n e l = let d : w + n - w ≡ n = omega arith in
     cond-true (((c == c) && nat_le w (w + n)) && nat_lt (w + n - w) (length old)) _ _ (and_from ((c == c) && nat_le w (w + n)) (nat_lt (w + n - w) (length old)) (and_from (c == c) (nat_le w (w + n)) (eq-eqb c c refl) (le-leb w (w + n) (omega arith))) (lt-ltb (w + n - w) (length old) (omega arith)))
     ∙ ap (λ z. Some (slice_index old z)) d
-after_old (InHuge c w) old n e l = let d : w + n - w ≡ n = omega arith in
-    cond-true (((c == c) && nat_le w (w + n)) && nat_lt (w + n - w) (length old)) _ _ (and_from ((c == c) && nat_le w (w + n)) (nat_lt (w + n - w) (length old)) (and_from (c == c) (nat_le w (w + n)) (eq-eqb c c refl) (le-leb w (w + n) (omega arith))) (lt-ltb (w + n - w) (length old) (omega arith)))
+after_old (InHuge c w) old n e l = let s : ℕ = 512 * (c + (w + n) / 512) + (w + n) % 512 in let d : s - (512 * c + w) ≡ n = omega arith in
+    cond-true ((nat_lt ((w + n) % 512) 512 && nat_le (512 * c + w) s) && nat_lt (s - (512 * c + w)) (length old)) _ _
+    (and_from (nat_lt ((w + n) % 512) 512 && nat_le (512 * c + w) s) (nat_lt (s - (512 * c + w)) (length old)) (and_from (nat_lt ((w + n) % 512) 512) (nat_le (512 * c + w) s) (lt-ltb ((w + n) % 512) 512 (omega arith)) (le-leb (512 * c + w) s (omega arith))) (lt-ltb (s - (512 * c + w)) (length old) (omega arith)))
     ∙ ap (λ z. Some (slice_index old z)) d
 after_old (Descr c) old n e l = absurd (both_ways true e refl)
 after_old RootWord old n e l = absurd (both_ways true e refl)
@@ -76,26 +72,8 @@ of_cond true x e = refl
 of_cond false x e = absurd (both_ways false refl e)
 
 -- what has an old value lies among the record's words
-old_range : (sh : Shape) (r : Recorded) (p : Place) → given (old_in r p) ≡ true → (word_of sh r.place ≤ word_of sh p) × (word_of sh p < word_of sh r.place + length r.old)
-old_range sh r p e = let t = and_parts (is_after r.place p) (nat_lt (distance r.place p) (length r.old)) (of_cond (is_after r.place p && nat_lt (distance r.place p) (length r.old)) (slice_index r.old (distance r.place p)) e) in go r.place p t.0 (ltb-true (distance r.place p) (length r.old) t.1)
-  where
-    go : (q p : Place) → is_after q p ≡ true → distance q p < length r.old → (word_of sh q ≤ word_of sh p) × (word_of sh p < word_of sh q + length r.old)
-    go (InRun c w) (InRun d v) a l = let z = and_parts (c == d) (nat_le w v) a in let s = eqb-true c d z.0 in let m = leb-true w v z.1 in let same : Rattle.pm_layout.specs.Chunks.word_of_chunk sh c ≡ Rattle.pm_layout.specs.Chunks.word_of_chunk sh d = ap (Rattle.pm_layout.specs.Chunks.word_of_chunk sh) s in (omega arith, omega arith)
-    go (InRun c w) (InHuge d v) a l = absurd (both_ways false refl a)
-    go (InRun c w) (Descr d) a l = absurd (both_ways false refl a)
-    go (InRun c w) RootWord a l = absurd (both_ways false refl a)
-    go (InHuge c w) (InRun d v) a l = absurd (both_ways false refl a)
-    go (InHuge c w) (InHuge d v) a l = let z = and_parts (c == d) (nat_le w v) a in let s = eqb-true c d z.0 in let m = leb-true w v z.1 in let same : Rattle.pm_layout.specs.Chunks.word_of_chunk sh c ≡ Rattle.pm_layout.specs.Chunks.word_of_chunk sh d = ap (Rattle.pm_layout.specs.Chunks.word_of_chunk sh) s in (omega arith, omega arith)
-    go (InHuge c w) (Descr d) a l = absurd (both_ways false refl a)
-    go (InHuge c w) RootWord a l = absurd (both_ways false refl a)
-    go (Descr c) (InRun d v) a l = absurd (both_ways false refl a)
-    go (Descr c) (InHuge d v) a l = absurd (both_ways false refl a)
-    go (Descr c) (Descr d) a l = absurd (both_ways false refl a)
-    go (Descr c) RootWord a l = absurd (both_ways false refl a)
-    go RootWord (InRun d v) a l = absurd (both_ways false refl a)
-    go RootWord (InHuge d v) a l = absurd (both_ways false refl a)
-    go RootWord (Descr d) a l = absurd (both_ways false refl a)
-    go RootWord RootWord a l = (omega arith, omega arith)
+old_range : (sh : Shape) (r : Recorded) (p : Place) → AreInRow sh r → given (old_in r p) ≡ true → (word_of sh r.place ≤ word_of sh p) × (word_of sh p < word_of sh r.place + length r.old)
+old_range sh r p row e = let t = old_in_at r p e in let is : word_of sh p ≡ word_of sh r.place + distance r.place p = sym (ap (word_of sh) (place_is r.place p t.0)) ∙ (row (distance r.place p) t.1).1 in let l = t.1 in (omega arith, omega arith)
 
 -- ---- among the log's records
 
@@ -241,7 +219,7 @@ module _ (o : Opening) (mem : Memory) (views : Views) (g : Past) (x : World o me
           let rec = fits.records j q at in let ch = data_chunk q.place rec.4 in let p = place_after q.place n in
           let has_ : old_of (views k).log.records p ≡ Some (slice_index q.old n) = old_found p (views k).log.records (λ i m s t y z e d. fits.once i m s t p y z e d) j q (slice_index q.old n) at (after_old q.place q.old n ch inside) in
           let olds = fits.olds p (slice_index q.old n) has_ in
-          (record { place = p; is_there = rec.5 n inside; chunk = data_chunk p (after_data q.place n rec.4); of_word = after_word o.shape q.place w ch low; unmade = changes_found p ((x.each_lane k c.runs).recorded und p (ap given has_)); own_ = λ b l. (olds b).0; old = λ b l _. ap (λ z. bit z b) old_is ∙ sym ((olds b).1 und) }, inl (q, slice_index q.old n, at, after_old q.place q.old n ch inside))
+          (record { place = p; is_there = (rec.5 n inside).0; chunk = data_chunk p (after_data q.place n rec.4); of_word = (rec.5 n inside).1 ∙ (let e : word_of o.shape q.place + n ≡ w = omega arith in e); unmade = changes_found p ((x.each_lane k c.runs).recorded und p (ap given has_)); own_ = λ b l. (olds b).0; old = λ b l _. ap (λ z. bit z b) old_is ∙ sym ((olds b).1 und) }, inl (q, slice_index q.old n, at, after_old q.place q.old n ch inside))
 
       making : (q : Recorded) → length (views k).log.records ≡ j → IsNextRecord (views k) q → (word_of o.shape q.place ≤ w) × (w < word_of o.shape q.place + length q.old) → old_word u (8 * w) ≡ slice_index q.old (w - word_of o.shape q.place) → (s : Speaks w u) × Kind j s.place
       making q last can r old_is = let n : ℕ = w - word_of o.shape q.place in let low = r.0 in let high = r.1 in let inside : n < length q.old = omega arith in let each = can.each n inside in let p = place_after q.place n in
@@ -254,7 +232,7 @@ module _ (o : Opening) (mem : Memory) (views : Views) (g : Past) (x : World o me
               place = p;
               is_there = sym (ap (λ s. is_place s p) shape_is) ∙ each.place;
               chunk = data_chunk p each.plain;
-              of_word = after_word o.shape q.place w ch low;
+              of_word = sym (ap (λ s. word_of s p) shape_is) ∙ ((can.row n inside).1 ∙ (ap (λ s. word_of s q.place + n) shape_is ∙ (let e : word_of o.shape q.place + n ≡ w = omega arith in e)));
               unmade = changes_unmade p each.plain each.own;
               own_ = λ b l. own_ b;
               old = λ b l lv. let bf = f.bits p b (own_ b) in ap (λ z. bit z b) old_is ∙ (sym (bf.3 (bit (slice_index q.old n) b) (seen b))
@@ -276,7 +254,7 @@ module _ (o : Opening) (mem : Memory) (views : Views) (g : Past) (x : World o me
   restores spoken is = record {
     all = λ p b i lg. let z = logged_record (views k).fixed.shape (views k).fixed.lane (views k).changes (views k).log.records p 0 lg in
         let y = valid_now o mem views g x image sv torn k ink c z.slot z.held z.at (let n : 0 + z.slot ≡ z.slot = omega arith in ap (is_slot_drained (views k).fixed.shape (views k).fixed.lane (views k).changes) (sym n) ∙ z.drained) in
-        let r = old_range o.shape z.held p z.has_ in let most = ((log_fits o mem views g x k ink).records z.slot z.held z.at).2 in
+        let has_ = (log_fits o mem views g x k ink).records z.slot z.held z.at in let r = old_range o.shape z.held p has_.5 z.has_ in let most = has_.2 in
         ap given (is p b ∙ log_is (word_of o.shape p) b) ∙ ⊎_elim (λ (n : find (λ u. covers u (8 * word_of o.shape p)) (records image k) ≡ None). absurd (both_ways (covers (undo_from o.shape (views k).log.generation z.held) (8 * word_of o.shape p))
         (no_slot image k (8 * word_of o.shape p) n z.slot (undo_from o.shape (views k).log.generation z.held) y.0 y.1) (covers_from o.shape (views k).log.generation z.held (word_of o.shape p) most r.0 r.1)))
         (λ (t : (u : Undo) × (find (λ u. covers u (8 * word_of o.shape p)) (records image k) ≡ Some u)). ap (λ d. given (option_map (λ u. bit (old_word u (8 * word_of o.shape p)) b) d)) t.1) (some_or (find (λ u. covers u (8 * word_of o.shape p)) (records image k)));

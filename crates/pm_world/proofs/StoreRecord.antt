@@ -20,7 +20,7 @@ use Rattle.pm_world.specs.States.{given, read, put1}
 use Rattle.pm_world.specs.Sights.{is_pictured, is_recorded, is_logged, call_of, sight_of}
 use Rattle.pm_world.specs.Lanes.{owns, SightFits, Flies}
 use Rattle.pm_world.specs.Lawful.{CanRecordAt, AppendsToSlot, MayStore}
-use Rattle.pm_world.specs.Logs.{IsRecordAt, spelled, slot_list, used_slots, AreaChange, LogFits}
+use Rattle.pm_world.specs.Logs.{IsRecordAt, AreInRow, spelled, slot_list, used_slots, AreaChange, LogFits}
 use Rattle.pm_world.specs.Laws.{Turn}
 use Rattle.pm_world.specs.Memory.{Memory, PoolWord, Becomes, bit, cells_of}
 use Rattle.pm_world.specs.World.{Opening, Views, Past, origin, ghost_of, settled_words, World}
@@ -59,17 +59,11 @@ spells sh class generation p old e some most = go old some most
     go (a ∷ b ∷ c ∷ d ∷ []) some most = ((λ i. record { place = place_same i; old = a ∷ b ∷ c ∷ d ∷ [] }), refl)
     go (a ∷ b ∷ c ∷ d ∷ y ∷ old) some most = absurd (omega arith)
 
-use_after : (class : ℕ → ℕ) (p : Place) (n : ℕ) → HasUse class p → HasUse class (place_after p n)
-use_after class (InRun c u) n e = e
-use_after class (InHuge c u) n e = e
-use_after class (Descr c) n e = tt
-use_after class RootWord n e = tt
-
-place_zero : (p : Place) → place_after p 0 ≡ p
-place_zero (InRun c u) = ap (λ y. InRun c y) (let q : u + 0 ≡ u = omega arith in q)
-place_zero (InHuge c u) = ap (λ y. InHuge c y) (let q : u + 0 ≡ u = omega arith in q)
-place_zero (Descr c) = ap (λ y. Descr y) (let q : c + 0 ≡ c = omega arith in q)
-place_zero RootWord = refl
+data_zero : (p : Place) → is_data (place_after p 0) ≡ true → is_data p ≡ true
+data_zero (InRun c u) e = ap (nat_le 8) (let q : u ≡ u + 0 = omega arith in q) ∙ e
+data_zero (InHuge c u) e = refl
+data_zero (Descr c) e = absurd (both_ways false refl e)
+data_zero RootWord e = absurd (both_ways false refl e)
 
 used_most : (r s : ℕ) → r + cond (s == 0) 0 1 ≤ r + 1
 used_most r s = go (s == 0)
@@ -128,7 +122,7 @@ module _ (w n : ℕ) (o : Opening) (mem new : Memory) (views views' : Views) (g 
   -- the log over the new words
   log_with : (rs' : List Recorded) (slot' : List ℕ) → used_slots (record (views k).log { records = rs'; slot = slot' }) ≡ length (views k).log.records + 1 → length slot' < 8
       → ((j : ℕ) (r : Recorded) → slice_get rs' j ≡ Some r → ((y : ℕ) → y < 8 → put1 (λ u. mem (PoolWord u)) w n (8 * line_of_slot o.shape k j + y) ≡ slice_index (spelled o.shape (views k).log.generation r) y) × (1 ≤ length r.old) × (length r.old ≤ 4)
-      × (is_place o.shape r.place ≡ true) × (is_data r.place ≡ true) × ((i : ℕ) → i < length r.old → is_place o.shape (place_after r.place i) ≡ true))
+      × (is_place o.shape r.place ≡ true) × (is_data r.place ≡ true) × AreInRow o.shape r)
       → ((j i : ℕ) (r q : Recorded) (p : Place) (y z : ℕ) → slice_get rs' j ≡ Some r → slice_get rs' i ≡ Some q → old_in r p ≡ Some y → old_in q p ≡ Some z → j ≡ i)
       → ((p : Place) (y : ℕ) → old_of rs' p ≡ Some y → (c : ℕ) → (owns g.geo (settled_words o g) (sight_of (views k)).hold p c ≡ true) × (settled_words o g p c ≡ bit y c))
       → ((y : ℕ) → y < length slot' → put1 (λ u. mem (PoolWord u)) w n (8 * line_of_slot o.shape k (length rs') + y) ≡ slice_index slot' y)
@@ -157,7 +151,7 @@ module _ (w n : ℕ) (o : Opening) (mem new : Memory) (views views' : Views) (g 
   }
 
   old_records : (j : ℕ) (r : Recorded) → slice_get (views k).log.records j ≡ Some r → ((y : ℕ) → y < 8 → put1 (λ u. mem (PoolWord u)) w n (8 * line_of_slot o.shape k j + y) ≡ slice_index (spelled o.shape (views k).log.generation r) y) × (1 ≤ length r.old) × (length r.old ≤ 4)
-      × (is_place o.shape r.place ≡ true) × (is_data r.place ≡ true) × ((i : ℕ) → i < length r.old → is_place o.shape (place_after r.place i) ≡ true)
+      × (is_place o.shape r.place ≡ true) × (is_data r.place ≡ true) × AreInRow o.shape r
   old_records j r q = let t = l.records j r q in let z = slice_get_within (views k).log.records j r q in (λ y s. slot_else j y (λ e. omega arith) s ∙ t.0 y s, t.1, t.2, t.3, t.4, t.5)
 
   -- THE WORLD with this log
@@ -200,7 +194,7 @@ module _ (w n : ℕ) (o : Opening) (mem new : Memory) (views views' : Views) (g 
   of_word p t = let y = old_in_at a.next p t in subst (λ q. CanRecordAt (views k) q (slice_index a.next.old (distance a.next.place p))) (place_is a.next.place p y.0) (a.can.each (distance a.next.place p) y.1)
 
   word_use : (p : Place) → given (old_in a.next p) ≡ true → HasUse (class (views k).claims) p
-  word_use p t = subst (HasUse (class (views k).claims)) (place_is a.next.place p (old_in_at a.next p t).0) (use_after (class (views k).claims) a.next.place (distance a.next.place p) use_at.use_)
+  word_use p t = (is_at (views k).fixed.shape (class (views k).claims) (word_of (views k).fixed.shape p) p (of_word p t).word.use_).use_
 
   asked : Records (settled_words o g) (ghost_of g) (views k) a.next
   asked = record {
@@ -256,15 +250,15 @@ module _ (w n : ℕ) (o : Opening) (mem new : Memory) (views views' : Views) (g 
     inside p e = subst (λ s. is_place s p ≡ true) (x.each_lane k ink).shape e
 
     next_record : (j : ℕ) (r : Recorded) → j ≡ length (views k).log.records → a.next ≡ r → ((y : ℕ) → y < 8 → put1 (λ u. mem (PoolWord u)) w n (8 * line_of_slot o.shape k j + y) ≡ slice_index (spelled o.shape (views k).log.generation r) y) × (1 ≤ length r.old) × (length r.old ≤ 4)
-        × (is_place o.shape r.place ≡ true) × (is_data r.place ≡ true) × ((i : ℕ) → i < length r.old → is_place o.shape (place_after r.place i) ≡ true)
+        × (is_place o.shape r.place ≡ true) × (is_data r.place ≡ true) × AreInRow o.shape r
     next_record j r z q = subst (λ r. ((y : ℕ) → y < 8 → put1 (λ u. mem (PoolWord u)) w n (8 * line_of_slot o.shape k j + y) ≡ slice_index (spelled o.shape (views k).log.generation r) y) × (1 ≤ length r.old) × (length r.old ≤ 4)
-        × (is_place o.shape r.place ≡ true) × (is_data r.place ≡ true) × ((i : ℕ) → i < length r.old → is_place o.shape (place_after r.place i) ≡ true)) q (
+        × (is_place o.shape r.place ≡ true) × (is_data r.place ≡ true) × AreInRow o.shape r) q (
           λ y s. ap (λ i. put1 (λ u. mem (PoolWord u)) w n (8 * line_of_slot o.shape k i + y)) z ∙ (stored_part y (let e = seven in omega arith) ∙ (ap (λ t. slice_index t y) (eight ∙ spelled_.1) ∙ ap (λ h. slice_index (spelled h (views k).log.generation a.next) y) (x.each_lane k ink).shape)),
           a.can.some,
           a.can.most,
           inside a.next.place use_at.inside,
-          subst (λ p. is_data p ≡ true) (place_zero a.next.place) (a.can.each 0 (let e = a.can.some in omega arith)).word.plain,
-          λ i s. inside (place_after a.next.place i) (a.can.each i s).word.place,
+          data_zero a.next.place (a.can.each 0 (let e = a.can.some in omega arith)).word.plain,
+          subst (λ h. AreInRow h a.next) (x.each_lane k ink).shape a.can.row,
         )
 
     next_once : (j i : ℕ) (r q : Recorded) (p : Place) (y z : ℕ) → slice_get ((views k).log.records ++ a.next ∷ []) j ≡ Some r → slice_get ((views k).log.records ++ a.next ∷ []) i ≡ Some q → old_in r p ≡ Some y → old_in q p ≡ Some z → j ≡ i

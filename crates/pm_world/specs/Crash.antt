@@ -13,7 +13,7 @@ use Rattle.pm_view.specs.View.{View}
 use Rattle.pm_memory.specs.Survivors.{all_taken_back}
 use Rattle.pm_world.specs.States.{State, live, replay}
 use Rattle.pm_world.specs.Sights.{is_slot_drained}
-use Rattle.pm_world.specs.Logs.{IsRecordAt, spelled, used_slots}
+use Rattle.pm_world.specs.Logs.{IsRecordAt, AreInRow, spelled, used_slots}
 use Rattle.pm_world.specs.Lawful.{IsRecordable}
 use Rattle.pm_world.specs.Memory.{Memory, PoolWord, bit, bits_of, descriptor_told}
 use Rattle.pm_world.specs.World.{Opening, Views, Past, origin, ghost_of, is_header}
@@ -48,6 +48,7 @@ pub record IsNextRecord (v : View) (r : Recorded) : Type 0 where
   pub some : 1 ≤ length r.old
   pub most : length r.old ≤ old_words v.fixed.shape
   pub each : (i : ℕ) → i < length r.old → IsRecordable v (place_after r.place i) (slice_index r.old i)
+  pub row : AreInRow v.fixed.shape r
 
 -- the slot holds, whole, the log's record of this slot, or, where the log has none there yet, one that the lane may be storing
 pub record IsWhole (v : View) (image : List ℕ) (j : ℕ) : Type 0 where

@@ -1,6 +1,7 @@
 -- A lane as plain data, and what its fields say.
-use Rattle.std.specs.Prelude.{◌≡◌, ℕ, Bool, false, List, [], ◌∷◌, ◌++◌, length, map, Option, None, Some}
+use Rattle.std.specs.Prelude.{◌≡◌, ℕ, Bool, false, List, [], ◌∷◌, ◌++◌, ◌-◌, ◌<◌, length, map, replicate, Option, None, Some}
 use Rattle.pm_layout.specs.declared.shape.Shape.{Shape}
+use Rattle.pm_layout.specs.Areas.{word_of_generation, word_of_seal}
 use Rattle.pm_objects.specs.declared.calls.Operation.{Operation}
 use Rattle.pm_objects.specs.declared.calls.Operation.TheVariants as operation
 use Rattle.pm_objects.specs.declared.history.TxErr.{TxErr}
@@ -12,20 +13,23 @@ use Rattle.pm_model.specs.declared.stage.Stage.TheVariants as stage
 use Rattle.pm_record.specs.declared.redo.Redo.{Redo}
 use Rattle.pm_view.specs.Log.{Recorded}
 use Rattle.pm_view.specs.Places.{word_of}
-use Rattle.pm_view.specs.View.{View, Told, Numbered}
+use Rattle.pm_view.specs.Steps.Step.{Load}
+use Rattle.pm_view.specs.View.{View, Constants, Told, Numbered, idle}
+use Rattle.pm_view.specs.Views.{after}
 use Rattle.pm_world.specs.OwnedBits.{Owned}
 use Rattle.pm_world.specs.declared.lane.HeldLock.{HeldLock}
 use Rattle.pm_world.specs.declared.lane.Lane.{Lane}
 use Rattle.pm_world.specs.declared.lane.PendingAction.{PendingAction}
 use Rattle.pm_world.specs.declared.lane.PendingAction.TheVariants.{Reserved, Freed, Set}
-use Rattle.pm_world.specs.declared.lane.Span.{Span}
+use Rattle.pm_world.specs.declared.lane.KeptRecord.{KeptRecord}
 
 -- what a lane's fields say, but for its memory
 pub record Fields : Type 0 where
   pub pool : ℕ
   pub shape : Shape
   pub locks : List HeldLock
-  pub records : List Span
+  pub generation : ℕ
+  pub records : List KeptRecord
   pub entries : List Redo
   pub pending : List PendingAction
   pub reserved : Owned
@@ -42,7 +46,8 @@ fields_of lane = record {
   pool = lane.pool;
   shape = lane.shape;
   locks = lane.locks.items;
-  records = lane.records.items;
+  generation = lane.log.generation;
+  records = lane.log.records.items;
   entries = lane.entries.items;
   pending = lane.pending.items;
   reserved = lane.reserved;
@@ -72,9 +77,13 @@ moved s v = record s { view = v }
 
 -- ---- WHAT THE VIEW SAYS OF THE LISTS
 
--- the words of a record
-abbrev pub span_of : Shape → Recorded → Span
-span_of sh r = record { word = word_of sh r.place; count = length r.old }
+-- old words with zeros after them, as a slot has them
+abbrev pub padded : List ℕ → List ℕ
+padded old = old ++ replicate (4 - length old) 0
+
+-- a record as the lane keeps it
+abbrev pub kept_of : Shape → Recorded → KeptRecord
+kept_of sh r = record { word = word_of sh r.place; count = length r.old; old = padded r.old }
 
 -- a pending action as the lane lists it
 abbrev pub listed_as : Operation → Option Value → List PendingAction
@@ -98,7 +107,8 @@ fields_at stage s = record {
   pool = s.view.fixed.pool;
   shape = s.view.fixed.shape;
   locks = s.locks;
-  records = map (span_of s.view.fixed.shape) s.view.log.records;
+  generation = s.view.log.generation;
+  records = map (kept_of s.view.fixed.shape) s.view.log.records;
   entries = s.entries;
   pending = listed s.view.actions;
   reserved = s.reserved;
@@ -128,6 +138,20 @@ Works at lane s = IsSeenAs at lane s.view (at_work s)
 
 abbrev pub Rests : {M : Type 0} → (M → View → Type 0) → Lane M → Standing → Type 0
 Rests at lane s = IsSeenAs at lane s.view (at_rest s)
+
+-- the view of a lane that has looked at its generation and its seal, and of which nothing else was
+-- asked
+abbrev pub opened : Constants → ℕ → View
+opened fixed generation =
+    after (after (idle fixed generation) (Load (word_of_generation fixed.shape fixed.lane) generation))
+    (Load (word_of_seal fixed.shape fixed.lane) 0)
+
+-- the memory is that of a lane of a pool of this shape, of which nothing was asked
+pub record IsUnused {M : Type 0} (at : M → View → Type 0) (memory : M) (sh : Shape)
+    (fixed : Constants) (generation : ℕ) : Type 0 where
+  pub shape : fixed.shape ≡ sh
+  pub lane : fixed.lane < sh.lanes
+  pub seen : at memory (idle fixed generation)
 
 -- a lane of which nothing was asked, of a pool with so many pages
 abbrev pub unused : View → Owned → Standing

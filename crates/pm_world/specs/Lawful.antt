@@ -29,7 +29,7 @@ use Rattle.pm_view.specs.Views.{part_in, value_in}
 use Rattle.pm_world.specs.States.{given, root_line}
 use Rattle.pm_world.specs.Sights.{is_recorded, is_logged, picture}
 use Rattle.pm_world.specs.Lanes.{all_held}
-use Rattle.pm_world.specs.Logs.{spelled, EntryOf, AreWhole, AreRestored}
+use Rattle.pm_world.specs.Logs.{spelled, EntryOf, AreInRow, AreWhole, AreRestored}
 
 -- ---- words of the view
 
@@ -80,6 +80,7 @@ pub record IsRecordable (v : View) (p : Place) (x : ℕ) : Type 0 where
   pub own : MayChangeAt v p
   pub plain : is_data p ≡ true
   pub place : is_place v.fixed.shape p ≡ true
+  pub use_ : place_in v (word_of v.fixed.shape p) ≡ Some p
   pub present : knows v (word_of v.fixed.shape p) ≡ Some x
   pub new : is_recorded v.log.records p ≡ false
 
@@ -96,6 +97,7 @@ pub record CanRecord (v : View) (r : Recorded) : Type 0 where
   pub most : length r.old ≤ old_words v.fixed.shape
   pub each : (i : ℕ) → i < length r.old → CanRecordAt v (place_after r.place i) (slice_index r.old i)
   pub use_ : place_in v (word_of v.fixed.shape r.place) ≡ Some r.place
+  pub row : AreInRow v.fixed.shape r
 
 pub record AppendsToSlot (v : View) (w x : ℕ) : Type 0 where
   pub next : Recorded

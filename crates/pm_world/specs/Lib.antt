@@ -23,3 +23,4 @@ pub mod LaneFields
 pub mod Causes
 pub mod CauseLaws
 pub mod SoloLanes
+pub mod InWorld

@@ -121,6 +121,10 @@ abbrev pub EntryOf : Place → Op → ℕ → Type 0
 EntryOf (Descr c) how value = (how ≡ Set) × (is_run value ≡ false)
 EntryOf p how value = (b : ℕ) × (b < 64) × (given (given_bit how value b) ≡ true)
 
+-- the record's words are the pool's, one after another
+abbrev pub AreInRow : Shape → Recorded → Type 0
+AreInRow sh r = (i : ℕ) → i < length r.old → (is_place sh (place_after r.place i) ≡ true) × (word_of sh (place_after r.place i) ≡ word_of sh r.place + i)
+
 -- THE LOG: `generation`, `seal`, `entry` and `slot` have the words of the lane's area
 pub record LogFits (sh : Shape) (lane generation seal : ℕ) (entry slot : ℕ → ℕ → ℕ) (S : State) (owned : Place → ℕ → Bool) (picture : Diff) (l : Log) (changes : List Undrained) : Type 0 where
   pub first : 1 ≤ l.generation
@@ -137,7 +141,7 @@ pub record LogFits (sh : Shape) (lane generation seal : ℕ) (entry slot : ℕ �
   pub pair_part : (i : ℕ) → i < length l.pair → entry (length l.entries) i ≡ slice_index l.pair i
   -- records stand in their slots, and no word has two; the other slots are of earlier generations
   pub records : (j : ℕ) (r : Recorded) → IsRecordAt l j r → ((i : ℕ) → i < slot_words sh → slot j i ≡ slice_index (spelled sh l.generation r) i) × (1 ≤ length r.old) × (length r.old ≤ old_words sh)
-      × (is_place sh r.place ≡ true) × (is_data r.place ≡ true) × ((i : ℕ) → i < length r.old → is_place sh (place_after r.place i) ≡ true)
+      × (is_place sh r.place ≡ true) × (is_data r.place ≡ true) × AreInRow sh r
   pub once : (j m : ℕ) (r q : Recorded) (p : Place) (x y : ℕ) → IsRecordAt l j r → IsRecordAt l m q → old_in r p ≡ Some x → old_in q p ≡ Some y → j ≡ m
   pub olds : (p : Place) (x : ℕ) → old_of l.records p ≡ Some x → OldFits (is_decided l.phase) S owned p x
   pub slot_part : (i : ℕ) → i < length l.slot → slot (length l.records) i ≡ slice_index l.slot i

@@ -1,8 +1,8 @@
 ghost use Rattle.std.specs.Prelude.{◌≡◌, ℕ, ◌%◌, ◌/◌, ◌^◌, ◌↔◌, IsTrue, IfOk, []};
 ghost use Rattle.pm_layout.specs.Chunks.{words_of};
-ghost use Rattle.pm_view.specs.View.{View, Constants, idle};
+ghost use Rattle.pm_view.specs.View.{View, Constants};
 ghost use Rattle.pm_world.specs.OwnedBits.{none_owned};
-ghost use Rattle.pm_world.specs.LaneFields.{IsIdle, Rests, fields_of, unused};
+ghost use Rattle.pm_world.specs.LaneFields.{IsIdle, IsUnused, Rests, fields_of, opened, unused};
 
 use crate::{LawfulMem, OwnedBits};
 use arrayvec::ArrayVec;
@@ -21,13 +21,24 @@ pub struct HeldLock {
     pub write: bool,
 }
 
-/// The words of an undo record.
+/// An undo record as its lane keeps it: consecutive words, as they were.
 #[derive(Clone, Copy, Debug, PartialEq, Eq, Default, Drop)]
-pub struct Span {
+pub struct KeptRecord {
     /// The first word's number.
     pub word: u64,
     /// How many words, 1 to 4.
     pub count: u64,
+    /// What they were; 0 past the count.
+    pub old: [u64; 4],
+}
+
+/// What a lane keeps of its undo log, so that no call reads its slots.
+#[derive(Drop)]
+pub struct UndoLog {
+    /// The generation of the records.
+    pub generation: u64,
+    /// The records of the generation, in the order of their slots.
+    pub records: ArrayVec<KeptRecord, 64>,
 }
 
 /// An action that waits for a publish.
@@ -53,8 +64,8 @@ pub struct Lane<M> {
     pub shape: Shape,
     /// The locks that it holds, in the order in which it took them; marks of new objects are none.
     pub locks: ArrayVec<HeldLock, 64>,
-    /// The undo records of its generation, in the order of their slots.
-    pub records: ArrayVec<Span, 64>,
+    /// Its undo log.
+    pub log: UndoLog,
     /// The redo entries that its call is to log, in their order.
     pub entries: ArrayVec<Redo, 64>,
     /// Its pending actions, in order.
@@ -75,21 +86,39 @@ pub struct Lane<M> {
     pub stopped: bool,
 }
 
+/// Looks at the lane's generation and its seal, and tells the generation.
+fn look_at_log<M: LawfulMem>(memory: &mut M, shape: Shape) -> u64
+    requires { (fixed : Constants) × (generation : ℕ) × IsUnused M.at memory.old shape fixed generation }
+    ensures { (fixed : Constants) (generation : ℕ) → IsUnused M.at memory.old shape fixed generation
+        → (result ≡ generation) × M.at memory.new (opened fixed generation) }
+{
+    let lane = memory.lane();
+    let generation = memory.see(shape.word_of_generation(lane));
+    memory.see(shape.word_of_seal(lane));
+    generation
+}
+
 impl<M: LawfulMem + Drop> Lane<M> {
-    /// A lane over its memory of the pool with this id and shape, before its first call.
+    /// A lane over its memory of the pool with this id and shape, before its first call: it looks
+    /// at its generation and its seal, so that it knows both.
     pub fn new(alloc: Global, memory: M, pool: u64, shape: Shape) -> Result<Lane<M>, AllocError>
-        ensures memory { IfOk result (λ lane. lane.memory ≡ memory) }
+        requires { (fixed : Constants) × (generation : ℕ) × IsUnused M.at memory shape fixed generation }
         ensures unused { IfOk result (λ lane. (fixed : Constants) (generation : ℕ)
-            → fixed.pool ≡ pool → fixed.shape ≡ shape → M.at memory (idle fixed generation)
-            → Rests M.at lane (unused (idle fixed generation) (none_owned (words_of shape / 512)))) }
+            → fixed.pool ≡ pool → IsUnused M.at memory shape fixed generation
+            → Rests M.at lane (unused (opened fixed generation) (none_owned (words_of shape / 512)))) }
     {
         let pages = (shape.size() / PAGE_BYTES) as usize;
+        let mut memory = memory;
+        let generation = look_at_log(&mut memory, shape);
         Ok(Lane {
             memory,
             pool,
             shape,
             locks: ArrayVec::new(),
-            records: ArrayVec::new(),
+            log: UndoLog {
+                generation,
+                records: ArrayVec::new(),
+            },
             entries: ArrayVec::new(),
             pending: ArrayVec::new(),
             reserved: OwnedBits::new(alloc, pages)?,
