@@ -11,7 +11,7 @@ use Rattle.pm_objects.specs.declared.pool.PoolView.{PoolView}
 use Rattle.pm_view.specs.Claims.{holds}
 use Rattle.pm_view.specs.Log.{Phase, Idle, Open, Drawn, Sealing, Applying, Clearing, Retiring, Voiding, is_early}
 use Rattle.pm_view.specs.Places.{Place, RootWord}
-use Rattle.pm_view.specs.View.{View, Numbered}
+use Rattle.pm_view.specs.View.{View, Numbered, entry_drawn}
 use Rattle.pm_view.specs.Views.{value_in}
 use Rattle.pm_world.specs.States.{State, diff, given, over}
 use Rattle.pm_world.specs.Sights.{call_in, sight_of}
@@ -36,7 +36,7 @@ unfolding Falls
 falls lane drew zero = (tt, All-nil (λ (e : Numbered). e.number ≤ 0))
 falls lane drew (suc n) =
     let rest : List Numbered = numbered_by lane drew n in
-    let e : Numbered = record { number = suc n; call = (drew n).call } in
+    let e : Numbered = entry_drawn n (drew n) in
     let t = falls lane drew n in
     let wider : All (λ (f : Numbered). f.number ≤ suc n) rest = λ k d l. let z = t.1 k d l in omega arith in
     let below : All (λ (f : Numbered). f.number < suc n) rest = λ k d l. let z = t.1 k d l in omega arith in

@@ -13,7 +13,7 @@ use Rattle.pm_view.specs.Log.{Phase, Idle, Open, Drawn, Sealing, Applying, Clear
 use Rattle.pm_view.specs.Places.{Place, InRun, Descr, Block, Small, Big, Root, header, is_place}
 use Rattle.pm_view.specs.Steps.{Step}
 use Rattle.pm_view.specs.Steps.Step.{Load, Store, Or, And, Flush, Drain, TakeWrite, TakeRead, Raise, Give, ZoneTry, ZoneGive, Occupied, Occupy, Vacate, Draw, NumberSeen, StopSeen, SetStop, Tell}
-use Rattle.pm_view.specs.View.{View, Constants}
+use Rattle.pm_view.specs.View.{View, Constants, entry_drawn}
 use Rattle.pm_view.specs.Views.{after, part_in}
 use Rattle.pm_world.specs.States.{State, diff, over, replay, there}
 use Rattle.pm_world.specs.Sights.{call_in, sight_of}
@@ -223,7 +223,7 @@ module _ (o : Opening) (mem : Memory) (views new : Views) (g : Past) (id k : ℕ
   same_numbers : (lane n : ℕ) → n ≤ g.length → numbered_by lane g'.drew n ≡ numbered_by lane g.drew n
   same_numbers lane zero l = refl
   same_numbers lane (suc n) l = let t = same_numbers lane n (omega arith) in let q = old_call n (omega arith) in
-      λ i. cond ((q i).fixed.lane == lane) (record { number = suc n; call = (q i).call } ∷ t i) (t i)
+      λ i. cond ((q i).fixed.lane == lane) (entry_drawn n (q i) ∷ t i) (t i)
 
   still_decided : (m : ℕ) → m < g.length → g.decided m ≡ true → g'.decided m ≡ true
   still_decided m l e =

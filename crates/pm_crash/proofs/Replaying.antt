@@ -8,7 +8,7 @@ use Rattle.pm_objects.specs.declared.pool.PoolView.{PoolView}
 use Rattle.pm_model.specs.CallStep.{CallRun, CallStep, State}
 use Rattle.pm_model.specs.History.{opened}
 use Rattle.pm_model.specs.Names.{Replays}
-use Rattle.pm_view.specs.View.{View, Numbered}
+use Rattle.pm_view.specs.View.{View, Numbered, entry_drawn}
 use Rattle.pm_world.specs.States.{after_diff, diff, over}
 use Rattle.pm_world.specs.Sights.{call_in}
 use Rattle.pm_world.specs.World.{Opening, Views, Past, numbered_by}
@@ -44,7 +44,7 @@ own_pending keep drew k zero h = refl
 own_pending keep drew k (suc n) h =
     let v = drew n in let p = kept_pending keep drew n k in
     let rest : List Numbered = numbered_by k drew n in
-    let e : Numbered = record { number = suc n; call = v.call } in
+    let e : Numbered = entry_drawn n v in
     let before = own_pending keep drew k n (λ m l. h m (omega arith)) in
     let ours : (v.fixed.lane == k) ≡ true
     → kept_pending keep drew (suc n) k ≡ pending_of (numbered_by k drew (suc n)) = λ t.

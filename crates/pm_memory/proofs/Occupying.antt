@@ -14,7 +14,7 @@ use Rattle.pm_view.specs.Claims.{Claim, Reserved, Released, pictured}
 use Rattle.pm_view.specs.Founds.{Found}
 use Rattle.pm_view.specs.Log.{Phase, Idle, Open, Drawn, Sealing, Applying, Clearing, Retiring, Voiding}
 use Rattle.pm_view.specs.Steps.Step.{Occupied, Occupy, Vacate, Draw, NumberSeen, StopSeen, Tell}
-use Rattle.pm_view.specs.View.{View, Seen, Numbered}
+use Rattle.pm_view.specs.View.{View, Seen, Numbered, entry_drawn}
 use Rattle.pm_view.specs.Views.{after, begun, occupancy_of, occupancy_with, is_same_occ}
 use Rattle.pm_memory.specs.Solo.{Solo, Sees, AreSeen, AreNumbered, IsCounter, HasWord, occ_word, with_occ}
 use Rattle.pm_memory.proofs.Growing.{Grows, forgets, known_grown}
@@ -182,7 +182,7 @@ draw_made m n before was is v sees = (
     occupancy = sees.occupancy;
     changes = sees.changes;
     calls = sees.calls;
-    counter = counter_drawn m v before (record { number = suc before; call = v.call }) refl was sees;
+    counter = counter_drawn m v before (entry_drawn before v) refl was sees;
     locks = sees.locks;
     zone_locks = sees.zone_locks;
     sizes = sees.sizes;

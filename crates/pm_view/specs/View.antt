@@ -1,5 +1,5 @@
 -- What one lane knows of the memory and of itself: plain data, in parts.
-use Rattle.std.specs.Prelude.{ℕ, zero, Bool, ◌==◌, List, [], Option, None}
+use Rattle.std.specs.Prelude.{ℕ, zero, suc, Bool, ◌==◌, List, [], Option, None}
 use Rattle.pm_layout.specs.declared.shape.Shape.{Shape}
 use Rattle.pm_objects.specs.declared.calls.Operation.{Operation}
 use Rattle.pm_objects.specs.declared.history.Value.{Value}
@@ -27,10 +27,13 @@ pub record Told : Type 0 where
   pub operation : Operation
   pub reply : Option Value
 
--- a call that took a number: an entry of the history
+-- a call that took a number: an entry of the history, with what its lane had taken, found and
+-- logged as it took it
 pub record Numbered : Type 0 where
   pub number : ℕ
   pub call : List Told
+  pub claims : List Claim
+  pub log : Log
 
 pub record View : Type 0 where
   pub fixed : Constants
@@ -51,6 +54,10 @@ pub record View : Type 0 where
   pub entries : List Numbered
   pub actions : List Told
   pub published : List Told
+
+-- the entry of a lane of this view that takes a number: so many were drawn before it
+abbrev pub entry_drawn : ℕ → View → Numbered
+entry_drawn n v = record { number = suc n; call = v.call; claims = v.claims; log = v.log }
 
 -- one lane runs
 abbrev pub runs_one : View → Bool

@@ -18,7 +18,7 @@ use Rattle.pm_view.specs.Log.{Phase, Idle, Open, Drawn, Sealing, Applying, Clear
 use Rattle.pm_view.specs.Claims.{Claim, Took, Raised, Gave, SawDescriptor, SawBitmap, Reserved, Released, Marked, Drained, Decided, Knows, class, pictured}
 use Rattle.pm_view.specs.Steps.{Step}
 use Rattle.pm_view.specs.Steps.Step.{Load, Store, Or, And, Flush, Drain, TakeWrite, TakeRead, Raise, Give, ZoneTry, ZoneGive, Occupied, Occupy, Vacate, Draw, NumberSeen, StopSeen, SetStop, Tell}
-use Rattle.pm_view.specs.View.{View, Seen, Told, Numbered}
+use Rattle.pm_view.specs.View.{View, Seen, Told, entry_drawn}
 
 abbrev pub shape_of : View → Shape
 shape_of v = v.fixed.shape
@@ -156,7 +156,7 @@ abbrev pub numbered : View → ℕ → View
 numbered v n = record v {
   log = record v.log { phase = phase_drawn n v.log.records v.log.entries };
   number = Some (suc n);
-  entries = record { number = suc n; call = v.call } ∷ v.entries;
+  entries = entry_drawn n v ∷ v.entries;
 }
 
 -- the pending actions after an operation that was answered so: one more, or none where they were published or given up

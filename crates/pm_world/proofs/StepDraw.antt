@@ -12,7 +12,7 @@ use Rattle.pm_view.specs.Entries.{Entry, given_bit, latest, redos, with_redo, tu
 use Rattle.pm_view.specs.Log.{Phase, Idle, Open, Drawn, Recorded, Log, phase_drawn}
 use Rattle.pm_view.specs.Claims.{class, locked, header_in}
 use Rattle.pm_view.specs.Steps.Step.{Draw, NumberSeen}
-use Rattle.pm_view.specs.View.{View, Numbered}
+use Rattle.pm_view.specs.View.{View, Numbered, entry_drawn}
 use Rattle.pm_view.specs.Views.{after}
 use Rattle.pm_view.specs.Counts.{IsAtStop}
 use Rattle.pm_world.specs.States.{diff, given, over, after_diff, val, root_line, put1}
@@ -76,20 +76,20 @@ all_cons P y xs p q (suc i) d l = q i d (omega arith)
 -- ---- entries of the history
 pub numbered_alike : (k : ℕ) (drew drew' : ℕ → View) (n : ℕ) → ((m : ℕ) → m < n → drew' m ≡ drew m) → numbered_by k drew' n ≡ numbered_by k drew n
 numbered_alike k drew drew' zero h = refl
-numbered_alike k drew drew' (suc n) h = ap (λ v. cond (v.fixed.lane == k) (record { number = suc n; call = v.call } ∷ numbered_by k drew' n) (numbered_by k drew' n)) (h n (omega arith))
-    ∙ ap (λ t. cond ((drew n).fixed.lane == k) (record { number = suc n; call = (drew n).call } ∷ t) t) (numbered_alike k drew drew' n (λ m l. h m (omega arith)))
+numbered_alike k drew drew' (suc n) h = ap (λ v. cond (v.fixed.lane == k) (entry_drawn n v ∷ numbered_by k drew' n) (numbered_by k drew' n)) (h n (omega arith))
+    ∙ ap (λ t. cond ((drew n).fixed.lane == k) (entry_drawn n (drew n) ∷ t) t) (numbered_alike k drew drew' n (λ m l. h m (omega arith)))
 
 pub numbers_below : (k : ℕ) (drew : ℕ → View) (n m : ℕ) → n ≤ m → All (λ (e : Numbered). e.number ≤ m) (numbered_by k drew n)
 numbers_below k drew zero m l = λ i d q. absurd (omega arith)
 numbers_below k drew (suc n) m l = go ((drew n).fixed.lane == k) (numbers_below k drew n m (omega arith))
   where
-    go : (t : Bool) → All (λ (e : Numbered). e.number ≤ m) (numbered_by k drew n) → All (λ (e : Numbered). e.number ≤ m) (cond t (record { number = suc n; call = (drew n).call } ∷ numbered_by k drew n) (numbered_by k drew n))
-    go true r = all_cons (λ (e : Numbered). e.number ≤ m) (record { number = suc n; call = (drew n).call }) (numbered_by k drew n) l r
+    go : (t : Bool) → All (λ (e : Numbered). e.number ≤ m) (numbered_by k drew n) → All (λ (e : Numbered). e.number ≤ m) (cond t (entry_drawn n (drew n) ∷ numbered_by k drew n) (numbered_by k drew n))
+    go true r = all_cons (λ (e : Numbered). e.number ≤ m) (entry_drawn n (drew n)) (numbered_by k drew n) l r
     go false r = r
 
 pub all_numbered : (k : ℕ) (drew : ℕ → View) (n : ℕ) → ((m : ℕ) → m < n → (drew m).fixed.lane ≡ k) → length (numbered_by k drew n) ≡ n
 all_numbered k drew zero h = refl
-all_numbered k drew (suc n) h = ap (λ t. length (cond t (record { number = suc n; call = (drew n).call } ∷ numbered_by k drew n) (numbered_by k drew n))) (eq-eqb (drew n).fixed.lane k (h n (omega arith))) ∙ ap suc (all_numbered k drew n (λ m l. h m (omega arith)))
+all_numbered k drew (suc n) h = ap (λ t. length (cond t (entry_drawn n (drew n) ∷ numbered_by k drew n) (numbered_by k drew n))) (eq-eqb (drew n).fixed.lane k (h n (omega arith))) ∙ ap suc (all_numbered k drew n (λ m l. h m (omega arith)))
 
 undecided : (n : ℕ) (rs : List Recorded) (es : List Entry) → Rattle.pm_world.specs.Lanes.is_decided (phase_drawn n rs es) ≡ false
 undecided n [] [] = refl
@@ -154,15 +154,15 @@ module _ (o : Opening) (mem new : Memory) (views views' : Views) (g : Past) (x :
     slot = λ j m i ne. ap (λ c. c.slot j m i) cells_new;
     zone = λ z j ne. ap (λ c. c.zone z == suc j) cells_new;
     entries = λ j ne. let lane : (put1 g.drew g.length (views k) g.length).fixed.lane ≡ k = ap (λ y. y.fixed.lane) (put1_here g.drew g.length (views k)) ∙ f.lane in
-        cond-false ((put1 g.drew g.length (views k) g.length).fixed.lane == j) (record { number = suc g.length; call = (put1 g.drew g.length (views k) g.length).call } ∷ numbered_by j (put1 g.drew g.length (views k)) g.length) (numbered_by j (put1 g.drew g.length (views k)) g.length) (ne_eqb (put1 g.drew g.length (views k) g.length).fixed.lane j (λ q. ne (sym (sym lane ∙ q))))
+        cond-false ((put1 g.drew g.length (views k) g.length).fixed.lane == j) (entry_drawn g.length (put1 g.drew g.length (views k) g.length) ∷ numbered_by j (put1 g.drew g.length (views k)) g.length) (numbered_by j (put1 g.drew g.length (views k)) g.length) (ne_eqb (put1 g.drew g.length (views k) g.length).fixed.lane j (λ q. ne (sym (sym lane ∙ q))))
         ∙ numbered_alike j g.drew (put1 g.drew g.length (views k)) g.length (λ m l. put1_else g.drew g.length (views k) m (λ q. omega arith));
   }
 
-  own_entries : (record { number = suc g.length; call = (views k).call } ∷ (views k).entries) ≡ numbered_by k (put1 g.drew g.length (views k)) (suc g.length)
+  own_entries : (entry_drawn g.length (views k) ∷ (views k).entries) ≡ numbered_by k (put1 g.drew g.length (views k)) (suc g.length)
   own_entries = let e = put1_here g.drew g.length (views k) in let lane : (put1 g.drew g.length (views k) g.length).fixed.lane ≡ k = ap (λ y. y.fixed.lane) e ∙ f.lane in
-      ap (λ l. record { number = suc g.length; call = (views k).call } ∷ l) (f.entries ∙ sym (numbered_alike k g.drew (put1 g.drew g.length (views k)) g.length (λ m l. put1_else g.drew g.length (views k) m (λ q. omega arith))))
-      ∙ (ap (λ y. record { number = suc g.length; call = y.call } ∷ numbered_by k (put1 g.drew g.length (views k)) g.length) (sym e)
-      ∙ sym (cond-true ((put1 g.drew g.length (views k) g.length).fixed.lane == k) (record { number = suc g.length; call = (put1 g.drew g.length (views k) g.length).call } ∷ numbered_by k (put1 g.drew g.length (views k)) g.length) (numbered_by k (put1 g.drew g.length (views k)) g.length) (eq-eqb (put1 g.drew g.length (views k) g.length).fixed.lane k lane)))
+      ap (λ l. entry_drawn g.length (views k) ∷ l) (f.entries ∙ sym (numbered_alike k g.drew (put1 g.drew g.length (views k)) g.length (λ m l. put1_else g.drew g.length (views k) m (λ q. omega arith))))
+      ∙ (ap (λ y. entry_drawn g.length y ∷ numbered_by k (put1 g.drew g.length (views k)) g.length) (sym e)
+      ∙ sym (cond-true ((put1 g.drew g.length (views k) g.length).fixed.lane == k) (entry_drawn g.length (put1 g.drew g.length (views k) g.length) ∷ numbered_by k (put1 g.drew g.length (views k)) g.length) (numbered_by k (put1 g.drew g.length (views k)) g.length) (eq-eqb (put1 g.drew g.length (views k) g.length).fixed.lane k lane)))
 
   -- ---- the log
   abbrev Logged : Log → Type 0

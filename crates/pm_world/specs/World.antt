@@ -14,7 +14,7 @@ use Rattle.pm_view.specs.Counts.{max_changes, IsAtStop}
 use Rattle.pm_view.specs.Log.{Phase, Idle, Open, Drawn, Sealing, Retiring, Voiding}
 use Rattle.pm_view.specs.Steps.{Step}
 use Rattle.pm_view.specs.Steps.Step.{NumberSeen}
-use Rattle.pm_view.specs.View.{View, Numbered}
+use Rattle.pm_view.specs.View.{View, Numbered, entry_drawn}
 use Rattle.pm_view.specs.Views.{occupancy_of}
 use Rattle.pm_world.specs.States.{State, given}
 use Rattle.pm_world.specs.Sights.{Sight, is_recorded, call_in, sight_of}
@@ -61,7 +61,7 @@ settled_words o g = settled (origin o) (ghost_of g)
 -- the entries of a lane, the latest first
 abbrev pub numbered_by : ℕ → (ℕ → View) → ℕ → List Numbered
 numbered_by lane drew zero = []
-numbered_by lane drew (suc n) = cond ((drew n).fixed.lane == lane) (record { number = suc n; call = (drew n).call } ∷ numbered_by lane drew n) (numbered_by lane drew n)
+numbered_by lane drew (suc n) = cond ((drew n).fixed.lane == lane) (entry_drawn n (drew n) ∷ numbered_by lane drew n) (numbered_by lane drew n)
 
 -- the number that an open call took
 abbrev pub NumberFits : Phase → Option ℕ → Type 0
