@@ -1,18 +1,23 @@
 -- FROM A CALL'S EFFECT TO ITS FACT: what a crate of calls has to show of one call, block by block.
-use Rattle.std.specs.Prelude.{◌≡◌, ℕ, true, false, Some}
+use Rattle.std.specs.Prelude.{◌≡◌, ℕ, ◌<◌, true, false, List, [], ◌∷◌, Some}
 use Rattle.pm_header.specs.declared.header.Header.{Header}
 use Rattle.pm_objects.specs.declared.pool.PoolView.{PoolView}
 use Rattle.pm_model.specs.CallStep.{CallRun, CallStep, State}
 use Rattle.pm_model.specs.Items.{Item, Items, plain_pool}
 use Rattle.pm_model.specs.Pending.{Pending}
 use Rattle.pm_view.specs.Places.{Block, Place, RootWord}
-use Rattle.pm_view.specs.View.{View}
+use Rattle.pm_view.specs.Steps.Step.{Draw}
+use Rattle.pm_view.specs.View.{View, Constants, Numbered, idle}
+use Rattle.pm_view.specs.Views.{after}
+use Rattle.pm_world.specs.Memory.{Memory}
+use Rattle.pm_world.specs.World.{Opening, Views, Past, World}
 use Rattle.pm_world.specs.States.{State as Bits, Diff, after_diff, diff, given}
 use Rattle.pm_world.specs.Sights.{call_in}
 use Rattle.pm_crash.specs.Calls.{Fact, IsRunOf, StepsFrom, pending_of, pending_then, state_of}
-use Rattle.pm_crash.specs.Footprints.{MayPrecede}
+use Rattle.pm_crash.specs.Footprints.{MayPrecede, Footprints}
 use Rattle.pm_crash.specs.Freshness.{root_told}
 use Rattle.pm_crash.specs.HeapChanges.{ChangesHeap}
+use Rattle.pm_crash.specs.Replayed.{HasFacts}
 use Rattle.pm_crash.specs.Objects.{StandsIn, is_allocated, item_of, offset_of}
 use Rattle.pm_crash.specs.Spelled.{Holds, number}
 
@@ -68,3 +73,31 @@ QuietCallsAreSteps = (v : View) (class : ℕ → ℕ) (s : Bits) (header : Heade
     → CallStep (state_of pool pending) run
     (record { pool = plain_pool pool; pending = pending_then v pending })
     → StepsFrom v class s header pool pending
+
+-- ---- THE ENTRIES OF A LANE HAVE THEIR FACTS
+
+-- an entry with those before it, as a view: what its call rested on, changed and told
+abbrev pub view_drawn : Constants → Numbered → List Numbered → View
+view_drawn fixed e earlier = record (idle fixed e.log.generation) {
+  claims = e.claims;
+  log = e.log;
+  call = e.call;
+  entries = earlier;
+}
+
+unfoldable pub EntriesHaveFacts : Constants → List Numbered → Type 0
+EntriesHaveFacts fixed [] = Unit {0}
+EntriesHaveFacts fixed (e ∷ earlier) = Fact (view_drawn fixed e earlier) × EntriesHaveFacts fixed earlier
+
+abbrev pub HaveFacts : View → Type 0
+HaveFacts v = EntriesHaveFacts v.fixed v.entries
+
+-- A CALL THAT HAS ITS FACT as it takes its number leaves a lane whose entries have theirs
+abbrev pub DrawsKeepFacts : Type 0
+DrawsKeepFacts = (v : View) (n : ℕ) → Fact v → HaveFacts v → HaveFacts (after v (Draw n))
+
+-- SO THE CALLS OF A HISTORY HAVE THEIR FACTS where the entries of each lane's view do
+abbrev pub HistoriesHaveFacts : Type 0
+HistoriesHaveFacts = (o : Opening) (id : ℕ) (mem : Memory) (views : Views) (g : Past)
+    → World o mem views g → Footprints o id views g
+    → ((k : ℕ) → k < o.lanes → HaveFacts (views k)) → HasFacts g

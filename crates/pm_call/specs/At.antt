@@ -1,0 +1,85 @@
+-- A LANE AT WORK IN A TRANSACTION, between two of its operations: by plain data alone. Its log may grow; each object whose lock it has is found; its lists are
+-- those of the model's transaction that its operations led to; and from whatever bits it agrees with, what it told leads the model there.
+use Rattle.std.specs.Prelude.{◌≡◌, ℕ, ◌+◌, ◌*◌, ◌%◌, ◌^◌, ◌<◌, ◌≤◌, Bool, true, Contains, List, [], length, map, Option, Some, None}
+use Rattle.std.specs.List.{AllByRecursion}
+use Rattle.pm_layout.specs.Areas.{greatest_generation, word_of_seal}
+use Rattle.pm_objects.specs.declared.history.TxErr.TheVariants as error
+use Rattle.pm_model.specs.Pending.{SetWord}
+use Rattle.pm_model.specs.Transaction.{Transaction, is_locked, is_working}
+use Rattle.pm_record.specs.declared.redo.Op.TheVariants as op
+use Rattle.pm_record.specs.declared.redo.Redo.{Redo}
+use Rattle.pm_view.specs.Entries.{Entry}
+use Rattle.pm_view.specs.Places.{Block, Place}
+use Rattle.pm_view.specs.Steps.Step.{NumberSeen}
+use Rattle.pm_view.specs.View.{View}
+use Rattle.pm_view.specs.Views.{value_in}
+use Rattle.pm_world.specs.InWorld.{IsSound}
+use Rattle.pm_world.specs.LaneFields.{Standing}
+use Rattle.pm_world.specs.Lanes.{is_occupancy}
+use Rattle.pm_world.specs.Sights.{is_recorded}
+use Rattle.pm_crash.specs.Facts.{HaveFacts}
+use Rattle.pm_crash.specs.Footprints.{has_found}
+use Rattle.pm_crash.specs.Looked.{size_seen, word_place, words_in}
+use Rattle.pm_crash.specs.Sim.{Sim, lists_of}
+use Rattle.pm_undo.specs.Records.{spans_of}
+use Rattle.pm_undo.specs.Spans.{words_in as words_of_spans}
+use Rattle.pm_undo.specs.Working.{IsWorking}
+use Rattle.pm_call.specs.Held.{AreHeld, is_in_locks}
+
+-- the entries of the blocks that the call made and freed so far: none, as long as no call of a transaction makes or frees a block
+abbrev pub entries_so_far : Standing → List Entry
+entries_so_far s = []
+
+-- a word of an object to be set, as an entry of the lane's list; its object is held for writing, and has the word
+abbrev pub set_entry : SetWord → Redo
+set_entry a = record { place = a.id.off + a.off; op = op.Set; value = a.value }
+
+pub record MaySet (s : Standing) (a : SetWord) : Type 0 where
+  pub locked : is_in_locks s.locks a.id.off true ≡ true
+  pub aligned : a.off % 8 ≡ 0
+  pub size : ℕ
+  pub sized : size_seen s.view a.id.off ≡ Some size
+  pub inside : a.off + 8 ≤ size
+  pub small : a.value < 2 ^ 64
+
+-- THE LANE'S LISTS ARE THOSE OF THE MODEL'S TRANSACTION at this level
+pub record AreLists (s : Standing) (level : ℕ) (tx : Transaction) : Type 0 where
+  pub level_is : tx.level ≡ level
+  pub works : is_working tx.stage ≡ true
+  pub locks : (off : ℕ) (write : Bool) → is_locked tx.locks off write ≡ is_in_locks s.locks off write
+  pub recorded : tx.recorded ≡ words_of_spans (spans_of s.view)
+  pub records : tx.records ≡ length s.view.log.records
+  pub blocks : (tx.made ≡ []) × (tx.dropped ≡ []) × (tx.freed ≡ [])
+  -- the words that it published are entries to be logged
+  pub sets : s.entries ≡ map set_entry tx.sets
+  pub may_set : AllByRecursion (MaySet s) tx.sets
+  pub error_is : tx.error ≡ error.None
+
+-- a recorded word is of the data of a block that the lane found
+abbrev pub IsDataOf : View → Place → Type 0
+IsDataOf v p = (B : Block) × (k : ℕ) × (p ≡ word_place v B k) × (8 ≤ k) × (k < words_in v B) × (has_found v B ≡ true) × (is_occupancy v.fixed.shape B ≡ true)
+
+-- the call saw that it may take a number, and took none
+pub record MayTakeNumber (v : View) : Type 0 where
+  pub seen : ℕ
+  pub told : Contains v.seen (NumberSeen seen)
+  pub below : seen < greatest_generation v.fixed.shape
+  pub none : v.number ≡ None
+
+-- AT WORK at this level of the model's transaction
+pub record IsAt (s : Standing) (level : ℕ) : Type 0 where
+  pub working : IsWorking s.view
+  pub some : 1 ≤ level
+  pub most : level ≤ 64
+  pub sound : IsSound s.view
+  pub sealed : value_in s.view (word_of_seal s.view.fixed.shape s.view.fixed.lane) ≡ Some 0
+  pub number : MayTakeNumber s.view
+  pub held : AreHeld s.view s.locks
+  pub few : length s.locks ≤ 64
+  pub recorded : (p : Place) → is_recorded s.view.log.records p ≡ true → IsDataOf s.view p
+  pub lists : AreLists s level (lists_of s.view)
+  pub sim : Sim s.view (entries_so_far s)
+  pub facts : HaveFacts s.view
+
+abbrev pub At : Standing → Type 0
+At s = IsAt s s.level

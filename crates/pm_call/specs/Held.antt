@@ -1,0 +1,69 @@
+-- WHICH OBJECTS A LANE HOLDS, by its list of locks and by its claims; and what it looks at under these locks.
+use Rattle.std.specs.Prelude.{◌≡◌, ◌⊎◌, ℕ, zero, suc, ◌+◌, ◌-◌, ◌*◌, ◌/◌, ◌%◌, ◌^◌, ◌<◌, ◌≤◌, nat_le, Bool, true, ◌==◌, ◌&&◌, ◌||◌, not, List}
+use Rattle.std.specs.List.{AllByRecursion, list_any}
+use Rattle.pm_view.specs.Claims.{header_in}
+use Rattle.pm_view.specs.Founds.{FindsKnown}
+use Rattle.pm_view.specs.Places.{Block, Place, word_of}
+use Rattle.pm_view.specs.Steps.Step.{Load}
+use Rattle.pm_view.specs.View.{View}
+use Rattle.pm_view.specs.Views.{after}
+use Rattle.pm_world.specs.Lanes.{is_occupancy}
+use Rattle.pm_world.specs.declared.lane.HeldLock.{HeldLock}
+use Rattle.pm_crash.specs.Footprints.{has_found}
+use Rattle.pm_crash.specs.Looked.{word_place, words_in}
+use Rattle.pm_lock.specs.Holding.{IsHeldAs}
+
+-- ---- the list of locks
+
+-- the line of the lock of an object at an offset: that of its block's header; line 0 has no object
+abbrev pub line_of : ℕ → ℕ
+line_of off = off / 64 - 1
+
+abbrev pub has_line : ℕ → Bool
+has_line off = off % 64 == 0 && nat_le 128 off
+
+-- the lock of the object at an offset is in the list, for writing if so asked
+abbrev pub is_in_locks : List HeldLock → ℕ → Bool → Bool
+is_in_locks locks off write =
+    has_line off && list_any (λ (l : HeldLock). l.line == line_of off && (l.write || not write)) locks
+
+-- ---- the claims
+
+-- the lane found an allocated block whose header is at this line
+pub record HasObject (v : View) (line : ℕ) : Type 0 where
+  pub block : Block
+  pub found : has_found v block ≡ true
+  pub at : header_in v.fixed.shape v.claims block ≡ line
+  pub inside : is_occupancy v.fixed.shape block ≡ true
+
+-- EACH LOCK IS HELD, and under it an object was found; under that of line 0, which is the root word's, none
+pub record IsHeld (v : View) (l : HeldLock) : Type 0 where
+  pub held : IsHeldAs v.claims l
+  pub object : (l.line ≡ 0) ⊎ HasObject v l.line
+
+abbrev pub AreHeld : View → List HeldLock → Type 0
+AreHeld v locks = AllByRecursion (IsHeld v) locks
+
+-- ---- the words of an object
+
+-- word k of a block that the lane found: its size, or a word of its data
+pub record IsObjectWord (v : View) (B : Block) (k : ℕ) : Type 0 where
+  pub found : has_found v B ≡ true
+  pub inside : is_occupancy v.fixed.shape B ≡ true
+  pub within : k < words_in v B
+  pub kind : (k ≡ 1) ⊎ (8 ≤ k)
+
+-- A LOOK at such a word: what is found is what the lane knows of it, where it knows it
+pub record LooksAt (v next : View) : Type 0 where
+  pub block : Block
+  pub index : ℕ
+  pub word : IsObjectWord v block index
+  pub value : ℕ
+  pub small : value < 2 ^ 64
+  pub agrees : FindsKnown v (word_of v.fixed.shape (word_place v block index)) value
+  pub then : next ≡ after v (Load (word_of v.fixed.shape (word_place v block index)) value)
+
+-- so many looks
+unfoldable pub Looks : ℕ → View → View → Type 0
+Looks zero v next = next ≡ v
+Looks (suc n) v next = (u : View) × LooksAt v u × Looks n u next

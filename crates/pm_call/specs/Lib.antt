@@ -1,0 +1,4 @@
+pub mod Held
+pub mod At
+pub mod Plans
+pub mod Did
