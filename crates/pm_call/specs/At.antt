@@ -21,8 +21,8 @@ use Rattle.pm_crash.specs.Facts.{HaveFacts}
 use Rattle.pm_crash.specs.Footprints.{has_found}
 use Rattle.pm_crash.specs.Looked.{size_seen, word_place, words_in}
 use Rattle.pm_crash.specs.Sim.{Sim, lists_of}
-use Rattle.pm_undo.specs.Records.{spans_of}
-use Rattle.pm_undo.specs.Spans.{words_in as words_of_spans}
+use Rattle.pm_undo.specs.Records.{kept_by}
+use Rattle.pm_undo.specs.Spans as spans
 use Rattle.pm_undo.specs.Working.{IsWorking}
 use Rattle.pm_call.specs.Held.{AreHeld, is_in_locks}
 
@@ -47,7 +47,7 @@ pub record AreLists (s : Standing) (level : ℕ) (tx : Transaction) : Type 0 whe
   pub level_is : tx.level ≡ level
   pub works : is_working tx.stage ≡ true
   pub locks : (off : ℕ) (write : Bool) → is_locked tx.locks off write ≡ is_in_locks s.locks off write
-  pub recorded : tx.recorded ≡ words_of_spans (spans_of s.view)
+  pub recorded : tx.recorded ≡ spans.words_in (kept_by s.view)
   pub records : tx.records ≡ length s.view.log.records
   pub blocks : (tx.made ≡ []) × (tx.dropped ≡ []) × (tx.freed ≡ [])
   -- the words that it published are entries to be logged

@@ -6,7 +6,7 @@ use Rattle.pm_layout.specs.declared.shape.Shape.{Shape}
 use Rattle.pm_layout.specs.Chunks.{word_of_descriptor, word_of_root}
 use Rattle.pm_layout.specs.Sizes.{blocks_of}
 use Rattle.pm_view.specs.Changes.{Undrained, is_dirty}
-use Rattle.pm_view.specs.Claims.{Claim, Knows, Drained, SawBitmap, locked, holds, class, making, becomes, header_in, found, here, mine, first, geometry, shown_by_bitmap, pictured, is_new, is_held, is_held_at, block_at, known}
+use Rattle.pm_view.specs.Claims.{Claim, Knows, Drained, SawBitmap, locked, reads, holds, span, class, making, becomes, header_in, found, here, mine, first, geometry, shown_by_bitmap, pictured, is_new, is_held, is_held_at, block_at, known}
 use Rattle.pm_view.specs.Places.{Place, Block, Small, Big, Root, block_of, is_data}
 use Rattle.pm_view.specs.Log.{place_at}
 use Rattle.pm_undo.specs.Working.{Note, Valued, DrainedTo, Looked, claim_of, noted, IsNote, AreNotes}
@@ -118,3 +118,38 @@ here_same sh (n ∷ notes) t are B = here_noted sh (noted notes t) n are.0 B ∙
 pub making_same : (sh : Shape) (notes : List Note) (t : List Claim) → AreNotes sh t notes → ((c : ℕ) → making sh t c ≡ false) → (c : ℕ) → making sh (noted notes t) c ≡ false
 making_same sh [] t are none c = none c
 making_same sh (n ∷ notes) t are none c = making_noted sh (noted notes t) n are.0 (making_same sh notes t are.1 none) c
+
+pub found_same : (sh : Shape) (notes : List Note) (t : List Claim) → AreNotes sh t notes → (B : Block) → found sh (noted notes t) B ≡ found sh t B
+found_same sh [] t are B = refl
+found_same sh (n ∷ notes) t are B = found_noted sh (noted notes t) n are.0 B ∙ found_same sh notes t are.1 B
+
+pub mine_same : (sh : Shape) (notes : List Note) (t : List Claim) → AreNotes sh t notes → (B : Block) → mine sh (noted notes t) B ≡ mine sh t B
+mine_same sh [] t are B = refl
+mine_same sh (n ∷ notes) t are B = mine_noted sh (noted notes t) n are.0 B ∙ mine_same sh notes t are.1 B
+
+span_one : (sh : Shape) (n : Note) (t : List Claim) → span sh (claim_of n ∷ t) ≡ span sh t
+span_one sh (Valued w x) t = refl
+span_one sh (DrainedTo left) t = refl
+span_one sh (Looked c x) t = refl
+
+pub span_same : (sh : Shape) (notes : List Note) (t : List Claim) → span sh (noted notes t) ≡ span sh t
+span_same sh [] t = refl
+span_same sh (n ∷ notes) t = span_one sh n (noted notes t) ∙ span_same sh notes t
+
+locked_one : (n : Note) (t : List Claim) → locked (claim_of n ∷ t) ≡ locked t
+locked_one (Valued w x) t = refl
+locked_one (DrainedTo left) t = refl
+locked_one (Looked c x) t = refl
+
+pub locked_same : (notes : List Note) (t : List Claim) → locked (noted notes t) ≡ locked t
+locked_same [] t = refl
+locked_same (n ∷ notes) t = locked_one n (noted notes t) ∙ locked_same notes t
+
+reads_one : (n : Note) (t : List Claim) → reads (claim_of n ∷ t) ≡ reads t
+reads_one (Valued w x) t = refl
+reads_one (DrainedTo left) t = refl
+reads_one (Looked c x) t = refl
+
+pub reads_same : (notes : List Note) (t : List Claim) → reads (noted notes t) ≡ reads t
+reads_same [] t = refl
+reads_same (n ∷ notes) t = reads_one n (noted notes t) ∙ reads_same notes t
