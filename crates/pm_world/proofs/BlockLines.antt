@@ -60,7 +60,7 @@ all_fit = (
   ),
 )
 
-run_fits : (lines i : ℕ) → i < blocks_of lines → 1 + (lines * i + lines) ≤ 64
+pub run_fits : (lines i : ℕ) → i < blocks_of lines → 1 + (lines * i + lines) ≤ 64
 run_fits lines i q = fit_in blocks_by_class all_fit lines i q
 
 next_times : (m i : ℕ) → m * suc i ≡ m * i + m
