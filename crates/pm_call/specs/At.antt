@@ -9,22 +9,20 @@ use Rattle.pm_model.specs.Transaction.{Transaction, is_locked, is_working}
 use Rattle.pm_record.specs.declared.redo.Op.TheVariants as op
 use Rattle.pm_record.specs.declared.redo.Redo.{Redo}
 use Rattle.pm_view.specs.Entries.{Entry}
-use Rattle.pm_view.specs.Places.{Block, Place}
+use Rattle.pm_view.specs.Places.{Block, Place, word_of}
 use Rattle.pm_view.specs.Steps.Step.{NumberSeen}
 use Rattle.pm_view.specs.View.{View}
 use Rattle.pm_view.specs.Views.{value_in}
 use Rattle.pm_world.specs.InWorld.{IsSound}
 use Rattle.pm_world.specs.LaneFields.{Standing}
-use Rattle.pm_world.specs.Lanes.{is_occupancy}
 use Rattle.pm_world.specs.Sights.{is_recorded}
 use Rattle.pm_crash.specs.Facts.{HaveFacts}
-use Rattle.pm_crash.specs.Footprints.{has_found}
-use Rattle.pm_crash.specs.Looked.{size_seen, word_place, words_in}
+use Rattle.pm_crash.specs.Looked.{size_seen, word_place}
 use Rattle.pm_crash.specs.Sim.{Sim, lists_of}
 use Rattle.pm_undo.specs.Records.{kept_by}
 use Rattle.pm_undo.specs.Spans as spans
 use Rattle.pm_undo.specs.Working.{IsWorking}
-use Rattle.pm_call.specs.Held.{AreHeld, is_in_locks}
+use Rattle.pm_call.specs.Held.{AreHeld, IsObjectWord, is_in_locks}
 
 -- the entries of the blocks that the call made and freed so far: none, as long as no call of a transaction makes or frees a block
 abbrev pub entries_so_far : Standing → List Entry
@@ -55,9 +53,15 @@ pub record AreLists (s : Standing) (level : ℕ) (tx : Transaction) : Type 0 whe
   pub may_set : AllByRecursion (MaySet s) tx.sets
   pub error_is : tx.error ≡ error.None
 
--- a recorded word is of the data of a block that the lane found
-abbrev pub IsDataOf : View → Place → Type 0
-IsDataOf v p = (B : Block) × (k : ℕ) × (p ≡ word_place v B k) × (8 ≤ k) × (k < words_in v B) × (has_found v B ≡ true) × (is_occupancy v.fixed.shape B ≡ true)
+-- a recorded word is of the data of a block that the lane found, and known
+pub record IsDataOf (v : View) (p : Place) : Type 0 where
+  pub block : Block
+  pub index : ℕ
+  pub is : p ≡ word_place v block index
+  pub word : IsObjectWord v block index
+  pub data_ : 8 ≤ index
+  pub value : ℕ
+  pub known : value_in v (word_of v.fixed.shape p) ≡ Some value
 
 -- the call saw that it may take a number, and took none
 pub record MayTakeNumber (v : View) : Type 0 where
