@@ -1,3 +1,4 @@
 pub mod Frames
 pub mod ObjectWords
 pub mod Noting
+pub mod Looking
