@@ -1,10 +1,11 @@
 -- What the words are to a lane that undo logging steps on: its slots, its generation, and data of chunks.
-use Rattle.std.proofs.Common.{◌≡◌, ℕ, zero, suc, ◌+◌, ◌*◌, ◌<◌, ◌≤◌, nat_le, nat_lt, true, false, cond, ◌==◌, refl, sym, ap, ◌∙◌, subst, arith, eq-eqb, ne_eqb, Some}
-use Rattle.std.proofs.lemmas.Bool.{and_from, and_right, both_ways, cond-true, cond-false, false_from_ne_true, le-leb, lt-ltb, leb-true, ltb-true}
+use Rattle.std.proofs.Common.{◌≡◌, ℕ, zero, suc, ◌+◌, ◌*◌, ◌^◌, ◌<◌, ◌≤◌, nat_le, nat_lt, true, false, cond, ◌==◌, refl, sym, ap, ◌∙◌, subst, arith, eq-eqb, ne_eqb, Some}
+use Rattle.std.proofs.lemmas.Bool.{and_from, and_parts, and_right, both_ways, cond-true, cond-false, false_from_ne_true, le-leb, lt-ltb, leb-true, ltb-true}
 use Rattle.std.proofs.lemmas.Option.{none-some, same_Some}
 use Rattle.pm_layout.specs.declared.shape.Shape.{Shape}
 use Rattle.pm_layout.specs.Areas.{redo_entries, undo_slots, word_of_generation, word_of_seal, word_of_entry, line_of_slot}
-use Rattle.pm_view.specs.Places.{Place, InRun, InHuge, Descr, RootWord, is_data, word_of}
+use Rattle.pm_layout.specs.Chunks.{chunks_of, words_of}
+use Rattle.pm_view.specs.Places.{Place, InRun, InHuge, Descr, RootWord, is_data, is_place, word_of}
 use Rattle.pm_view.specs.Parts.{Part, GenerationPart, SealPart, EntryPart, SlotPart, RootPart, DescriptorPart, ChunkPart, OtherPart, is_entry_word, is_slot_word, part_of, place_in, chunk_place, pool_part}
 use Rattle.pm_world.proofs.PlacesAt.{is_at}
 use Rattle.pm_undo.specs.Working.{IsBeyond}
@@ -42,6 +43,16 @@ module _ (sh : Shape) (lane w : ℕ) where
 
 pub part_generation : (sh : Shape) (lane : ℕ) → part_of sh lane (word_of_generation sh lane) ≡ GenerationPart
 part_generation sh lane = let w : ℕ = word_of_generation sh lane in cond-true (w == word_of_generation sh lane) GenerationPart (seal_or sh lane w) (eq-eqb w w refl)
+
+-- a chunk's data are in the pool, and their words' numbers are small
+pub in_pool : (sh : Shape) (p : Place) → is_data p ≡ true → is_place sh p ≡ true → word_of sh p < words_of sh
+in_pool sh (InRun c u) plain there = let t = and_parts (nat_lt c (chunks_of sh)) (nat_lt u 512) there in let a = ltb-true c (chunks_of sh) t.0 in let b = ltb-true u 512 t.1 in omega (arith, a, b)
+in_pool sh (InHuge c u) plain there = let t = and_parts (nat_lt c (chunks_of sh)) (nat_lt u 512) there in let a = ltb-true c (chunks_of sh) t.0 in let b = ltb-true u 512 t.1 in omega (arith, a, b)
+in_pool sh (Descr c) plain there = absurd (both_ways false refl plain)
+in_pool sh RootWord plain there = absurd (both_ways false refl plain)
+
+pub small_word : (sh : Shape) (w : ℕ) → sh.lanes ≤ 32 → sh.zones ≤ 32 → w < words_of sh → w < 2 ^ 60
+small_word sh w lanes zones low = omega (arith, lanes, zones, low)
 
 -- a chunk's data are past the lanes' areas
 pub data_beyond : (sh : Shape) (p : Place) → is_data p ≡ true → IsBeyond sh (word_of sh p)

@@ -6,7 +6,8 @@ use Rattle.std.proofs.lemmas.List.Sums.{sum_by-cons}
 use Rattle.std.proofs.lemmas.List.Elements.{All-filter, All-map, All-from_recursion, recursion_from_All}
 use Rattle.pm_model.specs.Transaction.{covered_words, records_from, records_of, new_words}
 use Rattle.pm_model.specs.Items.{is_among}
-use Rattle.pm_world.specs.declared.lane.Span.{Span}
+use Rattle.pm_world.specs.declared.lane.KeptRecord.{KeptRecord}
+use Rattle.pm_undo.specs.declared.spans.Span.{Span}
 use Rattle.pm_undo.specs.Spans.{span_in, spans_for, plan_of, words_in, IsSpan}
 
 abbrev IsLow : ℕ → Type 0
@@ -41,10 +42,10 @@ low_covered place len below = at (eqb len 0) where
   at true = tt
   at false = low_range (place / 8) ((place + len - 1) / 8 + 1 - place / 8) (omega (arith, below))
 
-pub plan_fits : (spans : List Span) (place len : ℕ) → place + len < 2 ^ 60 → All IsSpan (plan_of spans place len)
+pub plan_fits : (records : List KeptRecord) (place len : ℕ) → place + len < 2 ^ 60 → All IsSpan (plan_of records place len)
 unfolding plan_of spans_for new_words
-plan_fits spans place len below =
-    let p : ℕ → Bool = λ w. not (is_among (words_in spans) w) in
+plan_fits records place len below =
+    let p : ℕ → Bool = λ w. not (is_among (words_in records) w) in
     let ws : List ℕ = filter p (covered_words place len) in
     let low : AllByRecursion IsLow ws = recursion_from_All IsLow ws (All-filter p IsLow (covered_words place len) (All-from_recursion IsLow (covered_words place len) (low_covered place len below))) in
     All-map IsSpan span_in (records_of ws) (All-from_recursion IsGood (records_of ws) (good_records ws low))
@@ -59,9 +60,9 @@ counts_from o (w ∷ ws) = at (eqb w (o.0 + o.1) && ltb o.1 4) (counts_from (o.0
   at true joined apart = omega (arith, joined)
   at false joined apart = let e : o.1 + sum_by (λ (s : Span). s.count) (map span_in (records_from (w, 1) ws)) ≡ o.1 + suc (length ws) = omega (arith, apart) in sum_by-cons (λ (s : Span). s.count) (span_in o) (map span_in (records_from (w, 1) ws)) ∙ e
 
-pub counts_words : (spans : List Span) (place len : ℕ) → sum_by (λ (s : Span). s.count) (plan_of spans place len) ≡ length (new_words (words_in spans) (covered_words place len))
+pub counts_words : (records : List KeptRecord) (place len : ℕ) → sum_by (λ (s : Span). s.count) (plan_of records place len) ≡ length (new_words (words_in records) (covered_words place len))
 unfolding plan_of spans_for records_of
-counts_words spans place len = at (new_words (words_in spans) (covered_words place len)) where
+counts_words records place len = at (new_words (words_in records) (covered_words place len)) where
   at : (ws : List ℕ) → sum_by (λ (s : Span). s.count) (map span_in (records_of ws)) ≡ length ws
   at [] = refl
   at (w ∷ ws) = let e = counts_from (w, 1) ws in omega (arith, e)

@@ -7,29 +7,18 @@ use Rattle.std.proofs.lemmas.List.FromFn.{map-range_with_len_more}
 use Rattle.pm_view.specs.View.{View}
 use Rattle.pm_view.specs.Views.{after_all}
 use Rattle.pm_world.specs.Lawful.{CanRecord}
-use Rattle.pm_world.specs.LaneFields.{span_of}
-use Rattle.pm_world.specs.declared.lane.Span.{Span}
+use Rattle.pm_world.specs.LaneFields.{padded}
+use Rattle.pm_undo.specs.declared.spans.Span.{Span}
 use Rattle.pm_world.proofs.PlacesAt.{is_at}
 use Rattle.pm_plan.specs.Plans.{known_word}
 use Rattle.pm_undo.specs.Plans.{looked_first, looked_span, looked_words, looks_first, looks_from}
-use Rattle.pm_undo.specs.Records.{kept_in, padded, recorded_in}
+use Rattle.pm_undo.specs.Records.{kept_in, recorded_in}
 use Rattle.pm_undo.specs.Spans.{no_span, span_at}
 use Rattle.pm_undo.specs.Working.{IsBeyond, IsWorking}
-use Rattle.pm_undo.specs.declared.undo_log.KeptRecord.{KeptRecord}
+use Rattle.pm_world.specs.declared.lane.KeptRecord.{KeptRecord}
 use Rattle.pm_undo.proofs.AreaParts.{data_beyond}
-use Rattle.pm_undo.proofs.Snapshotted.{at_index, count_so, looks_so, word_so}
+use Rattle.pm_undo.proofs.Snapshotted.{at_index, looks_so}
 use Rattle.pm_undo.proofs.Snapshotting.{HasClean, looks_firsts, looks_some, starts}
-
--- what a record of a span says of it
-pub span_again : (v : View) (s : Span) → CanRecord v (recorded_in v s) → span_of v.fixed.shape (recorded_in v s) ≡ s
-span_again v s can = ap (λ w. spanned w (length (recorded_in v s).old)) (word_so v s can) ∙ ap (spanned s.word) (count_so v s can)
-  where
-    spanned : ℕ → ℕ → Span
-    spanned word count = record { word = word; count = count }
-
-pub spans_again : (v : View) (spans : List Span) → AllByRecursion (λ (s : Span). CanRecord v (recorded_in v s)) spans → map (span_of v.fixed.shape) (map (recorded_in v) spans) ≡ spans
-spans_again v [] can = refl
-spans_again v (s ∷ spans) can = ap (λ t. t ∷ map (span_of v.fixed.shape) (map (recorded_in v) spans)) (span_again v s can.0) ∙ ap (λ l. s ∷ l) (spans_again v spans can.1)
 
 module _ (v : View) (working : IsWorking v) where
   module _ (s : Span) (can : CanRecord v (recorded_in v s)) (u : View) (clean : HasClean v working v.log.records u) where

@@ -3,7 +3,7 @@ use Rattle.std.proofs.Common.{◌≡◌, ℕ, zero, suc, ◌+◌, ◌-◌, ◌<�
 use Rattle.std.proofs.lemmas.List.{append_assoc, set-append_right}
 use Rattle.pm_view.specs.View.{View}
 use Rattle.pm_view.specs.Views.{after_all}
-use Rattle.pm_world.specs.declared.lane.Span.{Span}
+use Rattle.pm_undo.specs.declared.spans.Span.{Span}
 use Rattle.pm_plan.specs.Plans.{IsMade, Ready, Runs, known_word, looks, repeated}
 use Rattle.pm_plan.proofs.Plans.{repeated_ready}
 use Rattle.pm_undo.specs.Plans.{looked_first, looked_span, looked_words, looks_at, looks_first, looks_from}
@@ -45,7 +45,7 @@ unfolding looked_first
 none_found spans v = refl
 
 -- and the same of spans
-pub span_found : (old mid : View → Type 0) (spans : List Span) (k : ℕ) (x : Rattle.pm_undo.specs.declared.undo_log.KeptRecord.KeptRecord) → k < length spans → IsMade old mid (repeated (λ i. looks_from (span_at spans i).word (span_at spans i).count) k)
+pub span_found : (old mid : View → Type 0) (spans : List Span) (k : ℕ) (x : Rattle.pm_world.specs.declared.lane.KeptRecord.KeptRecord) → k < length spans → IsMade old mid (repeated (λ i. looks_from (span_at spans i).word (span_at spans i).count) k)
     → ((u : View) → mid u → Ready u (looks_from (span_at spans k).word (span_at spans k).count u) → x ≡ looked_span (span_at spans k) u)
     → (v : View) → old v → Ready v (looks_at spans v) → looked_first spans k v ++ x ∷ [] ≡ looked_first spans (k + 1) v
 unfolding Runs looks_at looks_first looked_first
@@ -54,5 +54,5 @@ span_found old mid spans k x below made found v seen r =
     let next : suc k ≡ k + 1 = omega arith in
     ap (λ y. looked_first spans k v ++ y ∷ []) (found (after_all v (repeated (λ i. looks_from (span_at spans i).word (span_at spans i).count) k v)) (made v seen t.0) t.1) ∙ ap (λ n. looked_first spans n v) next
 
-abbrev pub kept_as : Span → List ℕ → Rattle.pm_undo.specs.declared.undo_log.KeptRecord.KeptRecord
+abbrev pub kept_as : Span → List ℕ → Rattle.pm_world.specs.declared.lane.KeptRecord.KeptRecord
 kept_as s old = record { word = s.word; count = s.count; old = old }

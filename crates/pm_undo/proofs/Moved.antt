@@ -43,7 +43,7 @@ module _ (u : View) (t : List Claim) (changes : List Undrained) (calls : ℕ) (l
       } in
       let now : InRunBy c w can.size (class t) = subst (InRunBy c w can.size) (sym classes) before in
       record {
-        word = record { own = (now.here_, can.word.own.1, now.guarded); plain = can.word.plain; place = can.word.place; present = knowns (word_of_chunk sh c + w) (omega arith) ∙ can.word.present; new = new };
+        word = record { own = (now.here_, can.word.own.1, now.guarded); plain = can.word.plain; place = can.word.place; use_ = ap (λ cl. place_at sh cl (word_of sh (InRun c w))) classes ∙ can.word.use_; present = knowns (word_of_chunk sh c + w) (omega arith) ∙ can.word.present; new = new };
         small = can.small;
         size = can.size;
         sized = now.sized;
@@ -58,7 +58,7 @@ module _ (u : View) (t : List Claim) (changes : List Undrained) (calls : ℕ) (l
       } in
       let now : InHugeBy c w can.size (first sh t) = subst (InHugeBy c w can.size) (sym firsts) before in
       record {
-        word = record { own = (now.here_, now.guarded); plain = can.word.plain; place = can.word.place; present = knowns (word_of_chunk sh c + w) (omega arith) ∙ can.word.present; new = new };
+        word = record { own = (now.here_, now.guarded); plain = can.word.plain; place = can.word.place; use_ = ap (λ cl. place_at sh cl (word_of sh (InHuge c w))) classes ∙ can.word.use_; present = knowns (word_of_chunk sh c + w) (omega arith) ∙ can.word.present; new = new };
         small = can.small;
         size = can.size;
         sized = now.sized;
@@ -73,4 +73,5 @@ module _ (u : View) (t : List Claim) (changes : List Undrained) (calls : ℕ) (l
     most = can.most;
     each = λ i low. moved_at (place_after r.place i) (Rattle.std.specs.Prelude.slice_index r.old i) (new i low) (can.each i low);
     use_ = ap (λ cl. place_at sh cl (word_of sh r.place)) classes ∙ can.use_;
+    row = can.row;
   }

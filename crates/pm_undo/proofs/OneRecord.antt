@@ -11,20 +11,20 @@ use Rattle.pm_view.specs.Claims.{class, making}
 use Rattle.pm_view.specs.Counts.{DropsSome, FlushesSome, HasRoom}
 use Rattle.pm_view.specs.Log.{Log, Open, Recorded, with_slot}
 use Rattle.pm_view.specs.Parts.{SlotPart}
-use Rattle.pm_view.specs.Places.{Place, InRun, InHuge, Descr, RootWord, place_after, is_data, is_place, word_of}
+use Rattle.pm_view.specs.Places.{place_after, is_data, word_of}
 use Rattle.pm_view.specs.Steps.Step.{Store, Flush}
 use Rattle.pm_view.specs.View.{View, Constants}
 use Rattle.pm_view.specs.Views.{after, part_in}
 use Rattle.pm_world.specs.Lawful.{CanRecord, MayStore}
-use Rattle.pm_world.specs.Logs.{spelled}
+use Rattle.pm_world.specs.Logs.{AreInRow, spelled}
 use Rattle.pm_world.specs.Sights.{is_recorded}
 use Rattle.pm_plan.specs.Plans.{IsPersisted, in_turn, one, repeated, stores}
 use Rattle.pm_plan.proofs.Dropping.{flush_drops}
 use Rattle.pm_plan.proofs.Going.{Goes, goes_one, goes_repeated, goes_stores, goes_then, goes_weaker}
 use Rattle.pm_undo.specs.Plans.{stores_from, writes_record, writes_slot}
-use Rattle.pm_undo.specs.Records.{kept_of}
+use Rattle.pm_world.specs.LaneFields.{kept_of}
 use Rattle.pm_undo.specs.Working.{IsBeyond}
-use Rattle.pm_undo.proofs.AreaParts.{part_slot}
+use Rattle.pm_undo.proofs.AreaParts.{in_pool, part_slot, small_word}
 use Rattle.pm_undo.proofs.Logging.{Logging, can_still, fixed_so, log_so, may_store_slot, slot_logging, slot_stored, still_logging}
 use Rattle.pm_undo.proofs.Slots.{length_spelled, small_spelled, slot_short, slot_whole, spelled_back}
 
@@ -48,18 +48,9 @@ aside_weaker : (sh : Shape) (line : ℕ) (changes : List Undrained) → AllByRec
 aside_weaker sh line [] all = tt
 aside_weaker sh line (c ∷ changes) all = (inl all.0, aside_weaker sh line changes all.1)
 
--- a word of a place of the pool is small
-pub small_place : (sh : Shape) (p : Place) → sh.lanes ≤ 32 → sh.zones ≤ 32 → is_data p ≡ true → is_place sh p ≡ true → word_of sh p < 2 ^ 60
-small_place sh (InRun c u) lanes zones plain there = let t = and_parts (nat_lt c (Rattle.pm_layout.specs.Chunks.chunks_of sh)) (nat_lt u 512) there in let a = ltb-true c (Rattle.pm_layout.specs.Chunks.chunks_of sh) t.0 in let b = ltb-true u 512 t.1 in omega (arith, a, b, lanes, zones)
-small_place sh (InHuge c u) lanes zones plain there = let t = and_parts (nat_lt c (Rattle.pm_layout.specs.Chunks.chunks_of sh)) (nat_lt u 512) there in let a = ltb-true c (Rattle.pm_layout.specs.Chunks.chunks_of sh) t.0 in let b = ltb-true u 512 t.1 in omega (arith, a, b, lanes, zones)
-small_place sh (Descr c) lanes zones plain there = absurd (Rattle.std.proofs.lemmas.Bool.both_ways false refl plain)
-small_place sh RootWord lanes zones plain there = absurd (Rattle.std.proofs.lemmas.Bool.both_ways false refl plain)
-
-pub same_after : (p : Place) → is_data (place_after p 0) ≡ true → place_after p 0 ≡ p
-same_after (InRun c u) e = ap (InRun c) (let q : u + 0 ≡ u = omega arith in q)
-same_after (InHuge c u) e = ap (InHuge c) (let q : u + 0 ≡ u = omega arith in q)
-same_after (Descr c) e = absurd (Rattle.std.proofs.lemmas.Bool.both_ways false refl e)
-same_after RootWord e = absurd (Rattle.std.proofs.lemmas.Bool.both_ways false refl e)
+-- the first word of a record of the pool's data is small
+pub first_small_at : (sh : Shape) (r : Recorded) → sh.lanes ≤ 32 → sh.zones ≤ 32 → is_data (place_after r.place 0) ≡ true → 0 < length r.old → AreInRow sh r → word_of sh r.place < 2 ^ 60
+first_small_at sh r lanes zones plain some row = let t = row 0 some in let l = in_pool sh (place_after r.place 0) plain t.0 in let w = t.1 in small_word sh (word_of sh r.place) lanes zones (omega (arith, l, w))
 
 module _ (v : View) (unmaking : (c : ℕ) → making v.fixed.shape v.claims c ≡ false) (is_open : v.log.phase ≡ Open) (unentered : v.log.entries ≡ []) (below : v.log.generation < greatest_generation v.fixed.shape)
     (low : v.fixed.lane < v.fixed.shape.lanes) (lanes : v.fixed.shape.lanes ≤ 32) (zones : v.fixed.shape.zones ≤ 32)
@@ -91,7 +82,7 @@ module _ (v : View) (unmaking : (c : ℕ) → making v.fixed.shape v.claims c �
   eight = length_spelled sh (class v.claims) v.log.generation r can.most
 
   first_small : word_of sh r.place < 2 ^ 60
-  first_small = let zero_ = can.each 0 (let some = can.some in omega (arith, some)) in subst (λ p. word_of sh p < 2 ^ 60) (same_after r.place zero_.word.plain) (small_place sh (place_after r.place 0) lanes zones zero_.word.plain zero_.word.place)
+  first_small = let some : 0 < length r.old = (let a = can.some in omega (arith, a)) in first_small_at sh r lanes zones (can.each 0 some).word.plain some can.row
 
   -- the next word may be stored
   may : (i : ℕ) → i < 8 → (u : View) → Stored i u → HasRoom u.changes → MayStore u (8 * line + i) (slice_index words i)

@@ -10,7 +10,8 @@ use Rattle.std.proofs.lemmas.List.Folds.{list_any-append}
 use Rattle.std.proofs.lemmas.List.FromFn.{map-range_with_len_more}
 use Rattle.pm_model.specs.Transaction.{covered_words, records_from, records_of, new_words}
 use Rattle.pm_model.specs.Items.{is_among}
-use Rattle.pm_world.specs.declared.lane.Span.{Span}
+use Rattle.pm_world.specs.declared.lane.KeptRecord.{KeptRecord}
+use Rattle.pm_undo.specs.declared.spans.Span.{Span}
 use Rattle.pm_undo.specs.Spans.{span_in, spans_for, plan_of, words_in, AreSpansOf}
 
 -- the last record with a word more, or a record of its own after it
@@ -115,7 +116,7 @@ pub first_of_all : (ws : List ℕ) (w : ℕ) → AreSpansOf [] ws → length (re
 first_of_all ws w are =
     let more = ap length (is_first ws w are) in let pairs = length-map (records_of (ws ++ w ∷ [])) span_in in omega (arith, more, pairs)
 
--- which words a span has
+-- which words a record has
 not_in_range : (w a n : ℕ) → (w < a) ⊎ (a + n ≤ w) → is_among (range_with_len a n) w ≡ false
 not_in_range w a zero out = refl
 not_in_range w a (suc n) out =
@@ -134,27 +135,27 @@ pub none_recorded : (w : ℕ) → is_among (words_in []) w ≡ false
 unfolding words_in
 none_recorded w = refl
 
--- one span more
-pub one_span_more : (spans : List Span) (s : Span) (w : ℕ) → is_among (words_in spans) w ≡ false → (s.word ≤ w → s.count ≤ w - s.word) → is_among (words_in (spans ++ s ∷ [])) w ≡ false
+-- one record more
+pub one_record_more : (records : List KeptRecord) (r : KeptRecord) (w : ℕ) → is_among (words_in records) w ≡ false → (r.word ≤ w → r.count ≤ w - r.word) → is_among (words_in (records ++ r ∷ [])) w ≡ false
 unfolding words_in
-one_span_more spans s w none out =
+one_record_more records r w none out =
     let p : ℕ → Bool = λ other. eqb other w in
-    let far : (w < s.word) ⊎ (s.word + s.count ≤ w) = ⊎_elim (λ (below : w < s.word). inl below) (λ (from : s.word ≤ w). let left = out from in inr (omega (arith, left, from))) (cases_lt w s.word) in
-    ap (list_any p) (flat_map-append (λ (t : Span). range_with_len t.word t.count) spans (s ∷ []))
-    ∙ (list_any-append p (words_in spans) (range_with_len s.word s.count ++ [])
-    ∙ (ap (λ b. b || list_any p (range_with_len s.word s.count ++ [])) none
-    ∙ (list_any-append p (range_with_len s.word s.count) [] ∙ ap (λ b. b || false) (not_in_range w s.word s.count far))))
+    let far : (w < r.word) ⊎ (r.word + r.count ≤ w) = ⊎_elim (λ (below : w < r.word). inl below) (λ (from : r.word ≤ w). let left = out from in inr (omega (arith, left, from))) (cases_lt w r.word) in
+    ap (list_any p) (flat_map-append (λ (t : KeptRecord). range_with_len t.word t.count) records (r ∷ []))
+    ∙ (list_any-append p (words_in records) (range_with_len r.word r.count ++ [])
+    ∙ (ap (λ b. b || list_any p (range_with_len r.word r.count ++ [])) none
+    ∙ (list_any-append p (range_with_len r.word r.count) [] ∙ ap (λ b. b || false) (not_in_range w r.word r.count far))))
 
-pub in_a_span : (spans : List Span) (i w : ℕ) (d : Span) → i < length spans → (get_or spans i d).word ≤ w → w - (get_or spans i d).word < (get_or spans i d).count → is_among (words_in spans) w ≡ true
+pub in_a_record : (records : List KeptRecord) (i w : ℕ) (d : KeptRecord) → i < length records → (get_or records i d).word ≤ w → w - (get_or records i d).word < (get_or records i d).count → is_among (words_in records) w ≡ true
 unfolding words_in
-in_a_span [] i w d within from to = absurd (omega (arith, within))
-in_a_span (s ∷ spans) zero w d within from to =
+in_a_record [] i w d within from to = absurd (omega (arith, within))
+in_a_record (r ∷ records) zero w d within from to =
     let p : ℕ → Bool = λ other. eqb other w in
-    list_any-append p (range_with_len s.word s.count) (words_in spans) ∙ ap (λ b. b || list_any p (words_in spans)) (in_range w s.word s.count from (omega (arith, from, to)))
-in_a_span (s ∷ spans) (suc i) w d within from to =
+    list_any-append p (range_with_len r.word r.count) (words_in records) ∙ ap (λ b. b || list_any p (words_in records)) (in_range w r.word r.count from (omega (arith, from, to)))
+in_a_record (r ∷ records) (suc i) w d within from to =
     let p : ℕ → Bool = λ other. eqb other w in
-    list_any-append p (range_with_len s.word s.count) (words_in spans)
-    ∙ (ap (λ b. list_any p (range_with_len s.word s.count) || b) (in_a_span spans i w d (omega (arith, within)) from to) ∙ or_true (list_any p (range_with_len s.word s.count))) where
+    list_any-append p (range_with_len r.word r.count) (words_in records)
+    ∙ (ap (λ b. list_any p (range_with_len r.word r.count) || b) (in_a_record records i w d (omega (arith, within)) from to) ∙ or_true (list_any p (range_with_len r.word r.count))) where
       or_true : (b : Bool) → (b || true) ≡ true
       or_true true = refl
       or_true false = refl
@@ -198,10 +199,10 @@ no_fewer [] more = omega arith
 no_fewer (x ∷ ws) more = more_from (x, 1) ws more
 
 -- what the words up to one need, all need
-pub needed_for_all : (spans : List Span) (a b end : ℕ) → a ≤ b → b < end → length (records_of (new_words (words_in spans) (range_with_len a (b + 1 - a)))) ≤ length (spans_for spans (range_with_len a (end - a)))
+pub needed_for_all : (records : List KeptRecord) (a b end : ℕ) → a ≤ b → b < end → length (records_of (new_words (words_in records) (range_with_len a (b + 1 - a)))) ≤ length (spans_for records (range_with_len a (end - a)))
 unfolding spans_for new_words
-needed_for_all spans a b end from to =
-    let p : ℕ → Bool = λ w. not (is_among (words_in spans) w) in
+needed_for_all records a b end from to =
+    let p : ℕ → Bool = λ w. not (is_among (words_in records) w) in
     let ws : List ℕ = filter p (range_with_len a (b + 1 - a)) in
     let rest : List ℕ = filter p (range_with_len (b + 1) (end - (b + 1))) in
     let all : filter p (range_with_len a (end - a)) ≡ ws ++ rest =
@@ -219,14 +220,14 @@ pub nothing_planned : (spans : List Span) (recorded : List ℕ) (a : ℕ) → sp
 unfolding new_words records_of
 nothing_planned spans recorded a none = none ∙ ap (λ n. map span_in (records_of (new_words recorded (range_with_len a n)))) (let e : 0 ≡ a - a = omega arith in e)
 
-pub all_planned : (planned spans : List Span) (a b end : ℕ) → b ≡ end → AreSpansOf planned (new_words (words_in spans) (range_with_len a (b - a))) → planned ≡ spans_for spans (range_with_len a (end - a))
+pub all_planned : (planned : List Span) (records : List KeptRecord) (a b end : ℕ) → b ≡ end → AreSpansOf planned (new_words (words_in records) (range_with_len a (b - a))) → planned ≡ spans_for records (range_with_len a (end - a))
 unfolding spans_for
-all_planned planned spans a b end up are = are ∙ ap (λ n. map span_in (records_of (new_words (words_in spans) (range_with_len a (n - a))))) up
+all_planned planned records a b end up are = are ∙ ap (λ n. map span_in (records_of (new_words (words_in records) (range_with_len a (n - a))))) up
 
-pub plans_nothing : (spans : List Span) (place len : ℕ) → len ≡ 0 → plan_of spans place len ≡ []
+pub plans_nothing : (records : List KeptRecord) (place len : ℕ) → len ≡ 0 → plan_of records place len ≡ []
 unfolding plan_of covered_words spans_for new_words records_of
-plans_nothing spans place len none = ap (spans_for spans) (cond-true (eqb len 0) [] _ (let e : eqb len 0 ≡ true = grind (arith, nat_tests) in e))
+plans_nothing records place len none = ap (spans_for records) (cond-true (eqb len 0) [] _ (let e : eqb len 0 ≡ true = grind (arith, nat_tests) in e))
 
-pub plans_words : (spans : List Span) (place len : ℕ) → len ≢ 0 → plan_of spans place len ≡ spans_for spans (range_with_len (place / 8) ((place + len - 1) / 8 + 1 - place / 8))
+pub plans_words : (records : List KeptRecord) (place len : ℕ) → len ≢ 0 → plan_of records place len ≡ spans_for records (range_with_len (place / 8) ((place + len - 1) / 8 + 1 - place / 8))
 unfolding plan_of covered_words
-plans_words spans place len some = ap (spans_for spans) (cond-false (eqb len 0) [] _ (let e : eqb len 0 ≡ false = grind (arith, nat_tests) in e))
+plans_words records place len some = ap (spans_for records) (cond-false (eqb len 0) [] _ (let e : eqb len 0 ≡ false = grind (arith, nat_tests) in e))

@@ -1,5 +1,5 @@
 -- Recorded words are put back, one after another.
-use Rattle.std.proofs.Common.{◌≡◌, ◌≢◌, ℕ, zero, suc, ◌+◌, ◌-◌, ◌*◌, ◌/◌, ◌^◌, ◌<◌, ◌≤◌, ◌⊎◌, inl, inr, ⊎_elim, Bool, true, false, cond, not, ◌==◌, ◌&&◌, ◌||◌, nat_lt, nat_le, List, [], ◌∷◌, ◌++◌, length, map, take, get_or, refl, sym, ap, ◌∙◌, subst, arith, eq-eqb, ne_eqb, Option, None, Some, IsTrue}
+use Rattle.std.proofs.Common.{◌≡◌, ◌≢◌, ℕ, zero, suc, ◌+◌, ◌-◌, ◌*◌, ◌/◌, ◌%◌, ◌^◌, ◌<◌, ◌≤◌, ◌⊎◌, inl, inr, ⊎_elim, Bool, true, false, cond, not, ◌==◌, ◌&&◌, ◌||◌, nat_lt, nat_le, List, [], ◌∷◌, ◌++◌, length, map, take, get_or, refl, sym, ap, ◌∙◌, subst, arith, eq-eqb, ne_eqb, Option, None, Some, IsTrue}
 use Rattle.std.specs.Prelude.{slice_index}
 use Rattle.std.specs.Int.{bit_at}
 use Rattle.std.specs.List.{AllByRecursion, list_any}
@@ -9,7 +9,7 @@ use Rattle.std.proofs.lemmas.Option.{same_Some}
 use Rattle.std.proofs.Math.Nat.{eq-or-lt_of_le}
 use Rattle.pm_layout.specs.declared.shape.Shape.{Shape}
 use Rattle.pm_layout.specs.Areas.{line_of_slot, word_of_generation}
-use Rattle.pm_layout.specs.Chunks.{words_of, chunks_of}
+use Rattle.pm_layout.specs.Chunks.{words_of}
 use Rattle.pm_view.specs.Bits.{all_bits}
 use Rattle.pm_view.specs.Changes.{Undrained, is_in_line}
 use Rattle.pm_view.specs.Claims.{Knows, Drained, class, known, making, pictured}
@@ -17,7 +17,7 @@ use Rattle.pm_view.specs.Counts.{HasRoom}
 use Rattle.pm_view.specs.Founds.{knows}
 use Rattle.pm_view.specs.Log.{Log, Open, Recorded, log_drained, log_stored, old_in, old_of, place_at}
 use Rattle.pm_view.specs.Parts.{ChunkPart, part_of}
-use Rattle.pm_view.specs.Places.{Place, InRun, InHuge, Descr, RootWord, place_after, is_data, is_place, word_of, is_after, distance}
+use Rattle.pm_view.specs.Places.{Place, InRun, InHuge, Descr, RootWord, place_after, is_data, word_of, is_after, distance}
 use Rattle.pm_view.specs.Steps.Step.{Store}
 use Rattle.pm_view.specs.View.{View, Constants, runs_one}
 use Rattle.pm_view.specs.Views.{after, part_in, changed_from, decided_by, marked_by, value_in, was_of}
@@ -27,8 +27,8 @@ use Rattle.pm_world.specs.Sights.{is_logged_from, is_recorded, is_slot_drained}
 use Rattle.pm_world.proofs.Basics.{first_given, second_given}
 use Rattle.pm_plan.specs.Plans.{IsPersisted, claims_persisted, log_persisted}
 use Rattle.pm_undo.specs.Working.{AreOnce, IsBeyond, IsStanding, IsWorking, Note, Valued, DrainedTo, noted, AreNotes}
-use Rattle.pm_undo.proofs.AreaParts.{OfChunk, data_beyond, data_part}
-use Rattle.pm_undo.proofs.Apart.{no_recorded, word_after}
+use Rattle.pm_undo.proofs.AreaParts.{OfChunk, data_beyond, data_part, in_pool}
+use Rattle.pm_undo.proofs.Apart.{no_recorded}
 use Rattle.pm_undo.proofs.Notes.{class_same, known_noted, making_same, pictured_noted}
 use Rattle.pm_undo.proofs.Snapshotted.{at_index}
 
@@ -41,7 +41,7 @@ old_at r i plain low = go r.place plain where
 
   go : (p : Place) → is_data (place_after p i) ≡ true → given (old_in (record { place = p; old = r.old }) (place_after p i)) ≡ true
   go (InRun c u) e = by (InRun c u) (and_from (c == c) (nat_le u (u + i)) (eq-eqb c c refl) (le-leb u (u + i) (omega arith))) (omega arith)
-  go (InHuge c u) e = by (InHuge c u) (and_from (c == c) (nat_le u (u + i)) (eq-eqb c c refl) (le-leb u (u + i) (omega arith))) (omega arith)
+  go (InHuge c u) e = by (InHuge c u) (and_from (nat_lt ((u + i) % 512) 512) (nat_le (512 * c + u) (512 * (c + (u + i) / 512) + (u + i) % 512)) (lt-ltb ((u + i) % 512) 512 (omega arith)) (le-leb (512 * c + u) (512 * (c + (u + i) / 512) + (u + i) % 512) (omega arith))) (omega arith)
   go (Descr c) e = absurd (both_ways false refl e)
   go RootWord e = absurd (both_ways false refl e)
 
@@ -176,15 +176,9 @@ module _ (v : View) (working : IsWorking v) where
       has_ : given (old_in r q) ≡ true
       has_ = old_at r j (stands.data_ j small) small
 
-      in_pool : (p : Place) → is_data p ≡ true → is_place sh p ≡ true → word_of sh p < words_of sh
-      in_pool (InRun c y) plain there = let t = and_parts (nat_lt c (chunks_of sh)) (nat_lt y 512) there in let a = ltb-true c (chunks_of sh) t.0 in let b = ltb-true y 512 t.1 in omega (arith, a, b)
-      in_pool (InHuge c y) plain there = let t = and_parts (nat_lt c (chunks_of sh)) (nat_lt y 512) there in let a = ltb-true c (chunks_of sh) t.0 in let b = ltb-true y 512 t.1 in omega (arith, a, b)
-      in_pool (Descr c) plain there = absurd (both_ways false refl plain)
-      in_pool RootWord plain there = absurd (both_ways false refl plain)
-
       pub may_put : HasRoom u.changes → MayStore u w x
       may_put room = record {
-        inside = subst (λ (g : Constants). w < words_of g.shape) (sym fixed_) (in_pool q (stands.data_ j small) (stands.inside j small));
+        inside = subst (λ (g : Constants). w < words_of g.shape) (sym fixed_) (in_pool sh q (stands.data_ j small) (stands.row j small).0);
         room = room;
         small = stands.small j small;
         fits = subst (λ ph. StoreFits u w x ph (part_in u w)) (sym phase_) (subst (λ y. StoreFits u w x Open y) (sym part_) (inl (record {
@@ -215,7 +209,7 @@ module _ (v : View) (working : IsWorking v) where
       earlier : (m i : ℕ) → IsDone k j m i → m < length records → i < length (get_or records m no_recorded).old → w ≢ word_at m i
       earlier m i d lower smaller = let s = at_index (IsStanding v) records no_recorded m working.standing lower in
           ⊎_elim (λ (less : m < k). other_word (place_after (get_or records m no_recorded).place i) (s.use_ i smaller) (λ e. once_at records m k q working.once less low (subst (λ y. given (old_in (get_or records m no_recorded) y) ≡ true) e (old_at (get_or records m no_recorded) i (s.data_ i smaller) smaller)) has_))
-          (λ (here : (m ≡ k) × (i < j)). λ e. let a = word_after sh (get_or records m no_recorded).place i (s.data_ i smaller) in let b = word_after sh r.place j (stands.data_ j small) in
+          (λ (here : (m ≡ k) × (i < j)). λ e. let a = (s.row i smaller).1 in let b = (stands.row j small).1 in
           let c : word_of sh (get_or records m no_recorded).place ≡ word_of sh r.place = ap (λ n. word_of sh (get_or records n no_recorded).place) here.0 in let l = here.1 in omega (arith, a, b, c, l, e)) d
 
       pub put_on : Putting k (j + 1) (after u (Store w x))

@@ -24,10 +24,11 @@ use Rattle.pm_plan.specs.Plans.{Ready, in_turn, persists_all, repeated, stores}
 use Rattle.pm_plan.proofs.Going.{Goes, goes_repeated, goes_stores, goes_weaker, persists_all_lawful}
 use Rattle.pm_plan.proofs.Plans.{after_all-append, ready_both}
 use Rattle.pm_undo.specs.Plans.{puts_back, restores, restores_record, stores_from}
-use Rattle.pm_undo.specs.Records.{kept_of, no_record, record_at}
+use Rattle.pm_world.specs.LaneFields.{kept_of}
+use Rattle.pm_undo.specs.Records.{no_record, record_at}
 use Rattle.pm_undo.specs.Working.{AreOnce, IsBeyond, IsRestored, IsStanding, IsWorking}
-use Rattle.pm_undo.specs.declared.undo_log.KeptRecord.{KeptRecord}
-use Rattle.pm_undo.proofs.Apart.{no_recorded, word_after}
+use Rattle.pm_world.specs.declared.lane.KeptRecord.{KeptRecord}
+use Rattle.pm_undo.proofs.Apart.{no_recorded}
 use Rattle.pm_undo.proofs.Notes.{class_same, making_same}
 use Rattle.pm_undo.proofs.Putting.{Putting, may_put, put_on, putting_starts, still_putting}
 use Rattle.pm_undo.proofs.Snapshotted.{at_index}
@@ -65,7 +66,7 @@ module _ (v : View) (working : IsWorking v) where
       (goes_weaker (Putting v working k 0) (Putting v working k 0) (Putting v working k (length (get_or records k no_recorded).old)) (Putting v working (k + 1) 0)
       (repeated (λ i. stores (word_of sh (get_or records k no_recorded).place + i) (slice_index (get_or records k no_recorded).old i)) (length (get_or records k no_recorded).old)) (λ u p. p) next
       (goes_repeated (Putting v working k) (λ i. stores (word_of sh (get_or records k no_recorded).place + i) (slice_index (get_or records k no_recorded).old i)) (length (get_or records k no_recorded).old)
-      (λ j small. subst (λ w. Goes (Putting v working k j) (stores w (slice_index (get_or records k no_recorded).old j)) (Putting v working k (j + 1))) (word_after sh (get_or records k no_recorded).place j ((at_index (IsStanding v) records no_recorded k working.standing low).data_ j small))
+      (λ j small. subst (λ w. Goes (Putting v working k j) (stores w (slice_index (get_or records k no_recorded).old j)) (Putting v working k (j + 1))) ((at_index (IsStanding v) records no_recorded k working.standing low).row j small).1
       (goes_stores (Putting v working k j) (Putting v working k (j + 1)) (word_of sh (place_after (get_or records k no_recorded).place j)) (slice_index (get_or records k no_recorded).old j)
       (λ u w p is. (still_putting v working k j u p w is).0) (λ u p room. (may_put v working k j u p low small room, put_on v working k j u p low small)))))))
     where
@@ -112,7 +113,7 @@ module _ (v : View) (working : IsWorking v) where
         let at : place_after r.place i ≡ q = place_is r.place q t.0 in
         let s = at_index (IsStanding v) records no_recorded f.k working.standing f.low in
         let plain : is_data q ≡ true = subst (λ y. is_data y ≡ true) at (s.data_ i t.1) in
-        let there : is_place sh q ≡ true = subst (λ y. is_place sh y ≡ true) at (s.inside i t.1) in
+        let there : is_place sh q ≡ true = subst (λ y. is_place sh y ≡ true) at (s.row i t.1).0 in
         let value : pictured sh u.claims (word_of sh q) ≡ Some x = ap (λ y. pictured sh u.claims (word_of sh y)) (sym at) ∙ (p.done f.k i (inl f.low) f.low t.1 ∙ ap (λ y. Some y) (old_in_is r q x f.is)) in
         cond-true (is_pictured q) (option_map (λ y. bit_at y b == 1) (pictured sh u.claims (word_of sh q))) None (in_picture q plain there) ∙ ap (option_map (λ y. bit_at y b == 1)) value
 

@@ -4,7 +4,8 @@ use Rattle.std.specs.List.{filter, range_with_len}
 use Rattle.std.proofs.lemmas.Bool.{eqb-true}
 use Rattle.pm_model.specs.Transaction.{covered_words, records_from, records_of, new_words}
 use Rattle.pm_model.specs.Items.{is_among}
-use Rattle.pm_world.specs.declared.lane.Span.{Span}
+use Rattle.pm_world.specs.declared.lane.KeptRecord.{KeptRecord}
+use Rattle.pm_undo.specs.declared.spans.Span.{Span}
 use Rattle.pm_undo.specs.Spans.{ArePast, plan_of, span_in, spans_for, words_in}
 
 -- each word is above those before it, and none is below this one
@@ -54,6 +55,6 @@ unfolding records_of
 of_past [] r = tt
 of_past (w ∷ ws) r = past_lower w 0 (map span_in (records_from (w, 1) ws)) (omega arith) (from_past (w, 1) ws r.1)
 
-pub plan_past : (spans : List Span) (place len : ℕ) → ArePast 0 (plan_of spans place len)
+pub plan_past : (records : List KeptRecord) (place len : ℕ) → ArePast 0 (plan_of records place len)
 unfolding plan_of spans_for new_words
-plan_past spans place len = of_past (filter (λ w. not (is_among (words_in spans) w)) (covered_words place len)) (filter_rises (λ w. not (is_among (words_in spans) w)) 0 (covered_words place len) (covered_rise place len))
+plan_past records place len = of_past (filter (λ w. not (is_among (words_in records) w)) (covered_words place len)) (filter_rises (λ w. not (is_among (words_in records) w)) 0 (covered_words place len) (covered_rise place len))

@@ -2,43 +2,30 @@
 use Rattle.std.proofs.Common.{◌≡◌, ◌≢◌, ℕ, zero, suc, ◌+◌, ◌<◌, inl, ⊎_elim, Bool, true, false, cond, not, nat_lt, List, [], ◌∷◌, length, map, get_or, refl, sym, ap, ◌∙◌, subst, arith, Option, None, Some}
 use Rattle.std.specs.Prelude.{slice_index, unwrap_or}
 use Rattle.std.specs.List.{AllByRecursion}
-use Rattle.std.proofs.lemmas.Bool.{both_ways, and_parts, ltb-true}
+use Rattle.std.proofs.lemmas.Bool.{both_ways}
 use Rattle.std.proofs.lemmas.List.FromFn.{length-map-range_with_len}
 use Rattle.pm_layout.specs.declared.shape.Shape.{Shape}
-use Rattle.pm_layout.specs.Chunks.{chunks_of, words_of}
+use Rattle.pm_layout.specs.Chunks.{words_of}
 use Rattle.pm_view.specs.Changes.{Undrained, drained}
 use Rattle.pm_view.specs.Claims.{Drained, class}
 use Rattle.pm_view.specs.Founds.{knows}
-use Rattle.pm_view.specs.Log.{Open, Recorded, place_at, log_drained}
-use Rattle.pm_view.specs.Parts.{chunk_place, place_in as place_by}
-use Rattle.pm_view.specs.Places.{Place, InRun, InHuge, Descr, RootWord, place_after, is_data, is_place, word_of}
+use Rattle.pm_view.specs.Log.{Open, Recorded, log_drained}
+use Rattle.pm_view.specs.Places.{Place, RootWord, place_after, is_data, word_of}
 use Rattle.pm_view.specs.View.{View}
 use Rattle.pm_view.specs.Views.{drained_to, decided_by}
 use Rattle.pm_world.specs.Lawful.{CanRecord, place_in}
-use Rattle.pm_world.specs.LaneFields.{span_of}
-use Rattle.pm_world.specs.declared.lane.Span.{Span}
+use Rattle.pm_world.specs.LaneFields.{kept_of, padded}
+use Rattle.pm_world.specs.Logs.{AreInRow}
+use Rattle.pm_undo.specs.declared.spans.Span.{Span}
 use Rattle.pm_world.proofs.PlacesAt.{is_at}
-use Rattle.pm_world.proofs.WordPlaces.{chunk_part}
 use Rattle.pm_plan.specs.Plans.{known_word}
-use Rattle.pm_undo.specs.Records.{kept_in, kept_of, record_at, recorded_in, words_of_span, no_record}
+use Rattle.pm_undo.specs.Records.{kept_in, recorded_in, words_of_span}
 use Rattle.pm_undo.specs.Spans.{ArePast}
 use Rattle.pm_undo.specs.Working.{IsBeyond}
-use Rattle.pm_undo.specs.declared.undo_log.KeptRecord.{KeptRecord}
-use Rattle.pm_undo.proofs.Apart.{IsPlain, word_after}
-use Rattle.pm_undo.proofs.OneRecord.{IsAside, same_after}
-
--- the words after a place of a chunk are of the same use
-pub use_after : (sh : Shape) (class : ℕ → ℕ) (p : Place) (i : ℕ) → is_data (place_after p i) ≡ true → place_at sh class (word_of sh p) ≡ Some p → is_place sh (place_after p i) ≡ true → place_at sh class (word_of sh (place_after p i)) ≡ Some (place_after p i)
-use_after sh class (InRun c u) i plain at there = let t = and_parts (nat_lt c (chunks_of sh)) (nat_lt (u + i) 512) there in
-    ap (place_by class) (chunk_part sh c (u + i) (ltb-true (u + i) 512 t.1) (ltb-true c (chunks_of sh) t.0)) ∙ ap (λ q. Some q) (go (class c) (is_at sh class (word_of sh (InRun c u)) (InRun c u) at).use_)
-  where
-    go : (n : ℕ) → n ≢ 0 → chunk_place n c (u + i) ≡ InRun c (u + i)
-    go zero some = absurd (some refl)
-    go (suc n) some = refl
-use_after sh class (InHuge c u) i plain at there = let t = and_parts (nat_lt c (chunks_of sh)) (nat_lt (u + i) 512) there in
-    ap (place_by class) (chunk_part sh c (u + i) (ltb-true (u + i) 512 t.1) (ltb-true c (chunks_of sh) t.0)) ∙ ap (λ n. Some (chunk_place n c (u + i))) (is_at sh class (word_of sh (InHuge c u)) (InHuge c u) at).use_
-use_after sh class (Descr c) i plain at there = absurd (both_ways false refl plain)
-use_after sh class RootWord i plain at there = absurd (both_ways false refl plain)
+use Rattle.pm_world.specs.declared.lane.KeptRecord.{KeptRecord}
+use Rattle.pm_undo.proofs.Apart.{span_of}
+use Rattle.pm_undo.proofs.AreaParts.{in_pool}
+use Rattle.pm_undo.proofs.OneRecord.{IsAside}
 
 module _ (v : View) (s : Span) (can : CanRecord v (recorded_in v s)) where
   abbrev r : Recorded
@@ -52,10 +39,10 @@ module _ (v : View) (s : Span) (can : CanRecord v (recorded_in v s)) where
   first_low = let some = can.some in omega (arith, some)
 
   pub word_so : word_of v.fixed.shape r.place ≡ s.word
-  word_so = go (place_in v s.word) refl (subst (λ q. is_data q ≡ true) (same_after r.place (can.each 0 first_low).word.plain) (can.each 0 first_low).word.plain)
+  word_so = go (place_in v s.word) refl (can.each 0 first_low).word.plain
     where
-      go : (q : Option Place) → place_in v s.word ≡ q → is_data (unwrap_or (place_in v s.word) RootWord) ≡ true → word_of v.fixed.shape (unwrap_or (place_in v s.word) RootWord) ≡ s.word
-      go None e plain = absurd (both_ways false refl (sym (ap (λ o. is_data (unwrap_or o RootWord)) e) ∙ plain))
+      go : (q : Option Place) → place_in v s.word ≡ q → is_data (place_after (unwrap_or (place_in v s.word) RootWord) 0) ≡ true → word_of v.fixed.shape (unwrap_or (place_in v s.word) RootWord) ≡ s.word
+      go None e plain = absurd (both_ways false refl (sym (ap (λ o. is_data (place_after (unwrap_or o RootWord) 0)) e) ∙ plain))
       go (Some p) e plain = ap (λ o. word_of v.fixed.shape (unwrap_or o RootWord)) e ∙ (is_at v.fixed.shape (class v.claims) s.word p e).word
 
   -- each word is data of a chunk that the lane knows
@@ -74,27 +61,21 @@ module _ (v : View) (s : Span) (can : CanRecord v (recorded_in v s)) where
   looks_so i low =
       let small : i < length r.old = (let n = count_so in omega (arith, low, n)) in
       let c = can.each i small in
-      let word : word_of v.fixed.shape (place_after r.place i) ≡ s.word + i = word_after v.fixed.shape r.place i c.word.plain ∙ ap (λ n. n + i) word_so in
+      let word : word_of v.fixed.shape (place_after r.place i) ≡ s.word + i = (can.row i small).1 ∙ ap (λ n. n + i) word_so in
       record {
         place = place_after r.place i;
         plain = c.word.plain;
-        at = ap (place_in v) (sym word) ∙ use_after v.fixed.shape (class v.claims) r.place i c.word.plain can.use_ c.word.place;
+        at = ap (place_in v) (sym word) ∙ c.word.use_;
         inside = subst (λ w. w < words_of v.fixed.shape) word (in_pool v.fixed.shape (place_after r.place i) c.word.plain c.word.place);
         known_ = some_known (knows v (s.word + i)) (slice_index r.old i) (ap (knows v) (sym word) ∙ c.word.present);
       }
-    where
-      in_pool : (sh : Shape) (p : Place) → is_data p ≡ true → is_place sh p ≡ true → word_of sh p < words_of sh
-      in_pool sh (InRun c u) plain there = let t = and_parts (nat_lt c (chunks_of sh)) (nat_lt u 512) there in let a = ltb-true c (chunks_of sh) t.0 in let b = ltb-true u 512 t.1 in omega (arith, a, b)
-      in_pool sh (InHuge c u) plain there = let t = and_parts (nat_lt c (chunks_of sh)) (nat_lt u 512) there in let a = ltb-true c (chunks_of sh) t.0 in let b = ltb-true u 512 t.1 in omega (arith, a, b)
-      in_pool sh (Descr c) plain there = absurd (both_ways false refl plain)
-      in_pool sh RootWord plain there = absurd (both_ways false refl plain)
 
 -- the lane keeps of each span what its view records
 pub kept_so : (v : View) (s : Span) → CanRecord v (recorded_in v s) → kept_in v s ≡ kept_of v.fixed.shape (recorded_in v s)
 kept_so v s can = ap (λ w. kept w s.count) (sym (word_so v s can)) ∙ ap (kept (word_of v.fixed.shape (recorded_in v s).place)) (sym (count_so v s can))
   where
     kept : ℕ → ℕ → KeptRecord
-    kept word count = record { word = word; count = count; old = Rattle.pm_undo.specs.Records.padded (words_of_span v s) }
+    kept word count = record { word = word; count = count; old = padded (words_of_span v s) }
 
 pub all_kept : (v : View) (spans : List Span) → AllByRecursion (λ (s : Span). CanRecord v (recorded_in v s)) spans → map (kept_in v) spans ≡ map (kept_of v.fixed.shape) (map (recorded_in v) spans)
 all_kept v [] can = refl
@@ -105,9 +86,9 @@ all_past v b [] can past = tt
 all_past v b (s ∷ spans) can past = let w = word_so v s can.0 in let n = count_so v s can.0 in let q = past.0 in
     (omega (arith, w, q), subst (λ e. ArePast e (map (span_of v.fixed.shape) (map (recorded_in v) spans))) (let e : s.word + s.count ≡ word_of v.fixed.shape (recorded_in v s).place + length (recorded_in v s).old = omega (arith, w, n) in e) (all_past v (s.word + s.count) spans can.1 past.1))
 
-pub all_plain : (v : View) (spans : List Span) → AllByRecursion (λ (s : Span). CanRecord v (recorded_in v s)) spans → AllByRecursion IsPlain (map (recorded_in v) spans)
-all_plain v [] can = tt
-all_plain v (s ∷ spans) can = ((λ i low. (can.0.each i low).word.plain), all_plain v spans can.1)
+pub all_rows : (v : View) (spans : List Span) → AllByRecursion (λ (s : Span). CanRecord v (recorded_in v s)) spans → AllByRecursion (AreInRow v.fixed.shape) (map (recorded_in v) spans)
+all_rows v [] can = tt
+all_rows v (s ∷ spans) can = (can.0.row, all_rows v spans can.1)
 
 pub at_index : {A : Type 0} (P : A → Type 0) (xs : List A) (d : A) (k : ℕ) → AllByRecursion P xs → k < length xs → P (get_or xs k d)
 at_index P [] d k all low = absurd (omega (arith, low))

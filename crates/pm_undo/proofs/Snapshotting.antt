@@ -18,20 +18,21 @@ use Rattle.pm_view.specs.View.{View, Constants, runs_one}
 use Rattle.pm_view.specs.Views.{after, part_in, learned, seen_by}
 use Rattle.pm_world.specs.Lawful.{CanRecord}
 use Rattle.pm_world.specs.Sights.{is_recorded}
-use Rattle.pm_world.specs.declared.lane.Span.{Span}
+use Rattle.pm_undo.specs.declared.spans.Span.{Span}
 use Rattle.pm_world.proofs.PlacesAt.{is_at}
 use Rattle.pm_plan.specs.Plans.{known_word, looks, one, repeated}
 use Rattle.pm_plan.proofs.Going.{Goes, goes_look, goes_one, goes_repeated, goes_weaker}
 use Rattle.pm_undo.specs.Plans.{looks_at, looks_first, looks_from, writes_record, writes_records}
-use Rattle.pm_undo.specs.Records.{kept_of, no_record, record_at, recorded_in}
+use Rattle.pm_world.specs.LaneFields.{kept_of}
+use Rattle.pm_undo.specs.Records.{no_record, record_at, recorded_in}
 use Rattle.pm_undo.specs.Spans.{ArePast, no_span, span_at}
 use Rattle.pm_undo.specs.Working.{IsBeyond, IsWorking, Valued, DrainedTo, Looked}
 use Rattle.pm_undo.proofs.AreaParts.{data_beyond, data_part}
-use Rattle.pm_undo.proofs.Apart.{early_none, no_recorded, not_in_both, word_after}
+use Rattle.pm_undo.proofs.Apart.{early_none, no_recorded, not_in_both}
 use Rattle.pm_undo.proofs.Logging.{Logging, class_so, fixed_so, no_making, phase_so}
 use Rattle.pm_undo.proofs.Notes.{class_same, known_again, known_noted, pictured_noted}
 use Rattle.pm_undo.proofs.OneRecord.{IsAside, Written, record_written}
-use Rattle.pm_undo.proofs.Snapshotted.{all_kept, all_past, all_plain, aside_beyond, at_index, drained_open, left_beyond, looks_so, use_after}
+use Rattle.pm_undo.proofs.Snapshotted.{all_past, all_rows, at_index, drained_open, left_beyond, looks_so}
 
 module _ (v : View) (working : IsWorking v) where
   abbrev sh : Shape
@@ -142,7 +143,7 @@ module _ (v : View) (working : IsWorking v) where
 
           new : (i : ℕ) → i < length (get_or records k no_recorded).old → is_recorded (before ++ take k records) (place_after (get_or records k no_recorded).place i) ≡ false
           new i small = not_in_both before (take k records) (place_after (get_or records k no_recorded).place i) (is.each i small).word.new
-              (early_none sh 0 records k (all_past v 0 spans can past) (all_plain v spans can) low (place_after (get_or records k no_recorded).place i) (let w = word_after sh (get_or records k no_recorded).place i (is.each i small).word.plain in omega (arith, w)))
+              (early_none sh 0 records k (all_past v 0 spans can past) (all_rows v spans can) low (place_after (get_or records k no_recorded).place i) (let w = (is.row i small).1 in omega (arith, w)))
 
       pub written : Goes (Stand 0) (writes_records sh v.fixed.lane v.log.generation (length before) (map (kept_of sh) records)) (Stand (length records))
       unfolding writes_records

@@ -12,17 +12,19 @@ use Rattle.pm_view.specs.View.{View, Constants}
 use Rattle.pm_view.specs.Views.{after_all}
 use Rattle.pm_world.specs.Lawful.{CanRecord}
 use Rattle.pm_world.specs.Sights.{is_recorded}
-use Rattle.pm_world.specs.declared.lane.Span.{Span}
+use Rattle.pm_undo.specs.declared.spans.Span.{Span}
 use Rattle.pm_plan.specs.Plans.{Ready, in_turn, one, nothing}
 use Rattle.pm_plan.proofs.Going.{Goes, goes_nothing, goes_then, goes_weaker}
 use Rattle.pm_undo.specs.Plans.{looks_at, logs, logs_here, records_all, snapshots, writes_all, writes_records}
-use Rattle.pm_undo.specs.Records.{kept_in, kept_of, recorded_in, spans_of}
+use Rattle.pm_world.specs.LaneFields.{kept_of}
+use Rattle.pm_world.specs.Logs.{AreInRow}
+use Rattle.pm_undo.specs.Records.{kept_by, kept_in, recorded_in}
 use Rattle.pm_undo.specs.Spans.{ArePast, plan_of}
 use Rattle.pm_undo.specs.Working.{AreOnce, CanSnapshot, HasSlots, IsBeyond, IsSnapshot, IsStanding, IsWorking}
 use Rattle.pm_undo.proofs.Apart.{apart_from, once_both, past_once}
 use Rattle.pm_undo.proofs.Logging.{Logging, class_so, fixed_so, log_so, no_making, phase_so}
 use Rattle.pm_undo.proofs.Rising.{plan_past}
-use Rattle.pm_undo.proofs.Snapshotted.{all_kept, all_past, all_plain, aside_beyond, use_after}
+use Rattle.pm_undo.proofs.Snapshotted.{all_kept, all_past, all_rows, aside_beyond}
 use Rattle.pm_undo.proofs.Snapshotting.{HasClean, Stand, starts, looks_all, written, drained_all}
 
 -- a record stands as well for a lane of as much, with the same classes
@@ -31,7 +33,7 @@ stands_still v u r f cl s = record {
   some = s.some;
   most = s.most;
   data_ = s.data_;
-  inside = λ i low. ap (λ (g : Constants). Rattle.pm_view.specs.Places.is_place g.shape (place_after r.place i)) f ∙ s.inside i low;
+  row = subst (λ (g : Constants). AreInRow g.shape r) (sym f) s.row;
   use_ = λ i low. ap (λ (g : Constants). place_at g.shape (class u.claims) (word_of g.shape (place_after r.place i))) f ∙ (ap (λ c. place_at v.fixed.shape c (word_of v.fixed.shape (place_after r.place i))) cl ∙ s.use_ i low);
   small = s.small;
 }
@@ -41,8 +43,8 @@ stands_new v r can = record {
   some = can.some;
   most = can.most;
   data_ = λ i low. (can.each i low).word.plain;
-  inside = λ i low. (can.each i low).word.place;
-  use_ = λ i low. use_after v.fixed.shape (class v.claims) r.place i (can.each i low).word.plain can.use_ (can.each i low).word.place;
+  row = can.row;
+  use_ = λ i low. (can.each i low).word.use_;
   small = λ i low. (can.each i low).small;
 }
 
@@ -124,10 +126,10 @@ module _ (v : View) (working : IsWorking v) where
           known = p.0.known_;
           working = still_working w all p (let a = length-append v.log.records (map (recorded_in v) spans) in let b = length-map spans (recorded_in v) in omega (arith, a, b, room))
               (both_all (IsStanding w) v.log.records (map (recorded_in v) spans) (all_still v w v.log.records f cl working.standing) (all_new v w spans f cl can.each))
-              (once_both v.log.records (map (recorded_in v) spans) working.once (past_once sh 0 (map (recorded_in v) spans) (all_past v 0 spans can.each past) (all_plain v spans can.each)) (apart_from v.log.records (map (recorded_in v) spans) (new_words_ v spans can.each)));
+              (once_both v.log.records (map (recorded_in v) spans) working.once (past_once sh 0 (map (recorded_in v) spans) (all_past v 0 spans can.each past) (all_rows v spans can.each)) (apart_from v.log.records (map (recorded_in v) spans) (new_words_ v spans can.each)));
         },
       )
 
-pub snapshot_lawful : (v : View) (place len : ℕ) → CanSnapshot v (plan_of (spans_of v) place len) → HasSlots v (plan_of (spans_of v) place len) → Ready v (snapshots place len v) × IsSnapshot v (plan_of (spans_of v) place len) (after_all v (snapshots place len v))
+pub snapshot_lawful : (v : View) (place len : ℕ) → CanSnapshot v (plan_of (kept_by v) place len) → HasSlots v (plan_of (kept_by v) place len) → Ready v (snapshots place len v) × IsSnapshot v (plan_of (kept_by v) place len) (after_all v (snapshots place len v))
 unfolding snapshots
-snapshot_lawful v place len can room = recorded_lawful v can.working (plan_of (spans_of v) place len) (plan_past (spans_of v) place len) can room
+snapshot_lawful v place len can room = recorded_lawful v can.working (plan_of (kept_by v) place len) (plan_past (kept_by v) place len) can room

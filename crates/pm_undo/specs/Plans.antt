@@ -5,11 +5,12 @@ use Rattle.pm_layout.specs.Areas.{word_of_generation, line_of_slot}
 use Rattle.pm_view.specs.Steps.Step.{Flush, Drain}
 use Rattle.pm_view.specs.View.{View}
 use Rattle.pm_view.specs.Views.{after_all}
-use Rattle.pm_world.specs.declared.lane.Span.{Span}
+use Rattle.pm_undo.specs.declared.spans.Span.{Span}
 use Rattle.pm_plan.specs.Plans.{Plan, known_word, nothing, one, in_turn, repeated, looks, stores, persists, persists_all}
-use Rattle.pm_undo.specs.Records.{kept_in, kept_of, padded, record_at, slot_of, spans_of}
+use Rattle.pm_world.specs.LaneFields.{padded}
+use Rattle.pm_undo.specs.Records.{kept_by, kept_in, record_at, slot_of}
 use Rattle.pm_undo.specs.Spans.{plan_of, span_at}
-use Rattle.pm_undo.specs.declared.undo_log.KeptRecord.{KeptRecord}
+use Rattle.pm_world.specs.declared.lane.KeptRecord.{KeptRecord}
 
 -- loads of so many consecutive words, and of the words of some spans
 unfoldable pub looks_from : ℕ → ℕ → Plan
@@ -68,7 +69,7 @@ records_all spans v = in_turn (looks_at spans) (logs_here v.fixed.shape v.log.ge
 
 -- the words of a range that have no record get one
 unfoldable pub snapshots : ℕ → ℕ → Plan
-snapshots place len v = records_all (plan_of (spans_of v) place len) v
+snapshots place len v = records_all (plan_of (kept_by v) place len) v
 
 -- ---- putting back
 
@@ -81,7 +82,7 @@ puts_back records = repeated (λ i. restores_record (record_at records i)) (leng
 
 -- every recorded word becomes what it was, in the order of the records, and all of it is made persistent
 unfoldable pub restores : Plan
-restores v = in_turn (puts_back (map (kept_of v.fixed.shape) v.log.records)) persists_all v
+restores v = in_turn (puts_back (kept_by v)) persists_all v
 
 -- ---- ending the generation
 

@@ -2,22 +2,23 @@
 use Rattle.std.specs.Prelude.{◌≡◌, ℕ, ◌+◌, ◌^◌, ◌<◌, ◌≤◌, List, [], ◌∷◌, map, slice_index_or}
 use Rattle.std.specs.List.{flat_map, range_with_len}
 use Rattle.pm_model.specs.Transaction.{covered_words, new_words, records_of}
-use Rattle.pm_world.specs.declared.lane.Span.{Span}
+use Rattle.pm_world.specs.declared.lane.KeptRecord.{KeptRecord}
+use Rattle.pm_undo.specs.declared.spans.Span.{Span}
 
 -- the words of some records
-unfoldable pub words_in : List Span → List ℕ
-words_in spans = flat_map (λ (s : Span). range_with_len s.word s.count) spans
+unfoldable pub words_in : List KeptRecord → List ℕ
+words_in records = flat_map (λ (r : KeptRecord). range_with_len r.word r.count) records
 
 abbrev pub span_in : ℕ × ℕ → Span
 span_in record_ = record { word = record_.0; count = record_.1 }
 
 -- the records for those words of a range that have none yet: each of one to four consecutive ones
-unfoldable pub spans_for : List Span → List ℕ → List Span
-spans_for spans words = map span_in (records_of (new_words (words_in spans) words))
+unfoldable pub spans_for : List KeptRecord → List ℕ → List Span
+spans_for records words = map span_in (records_of (new_words (words_in records) words))
 
 -- the records that a range of bytes still needs
-unfoldable pub plan_of : List Span → ℕ → ℕ → List Span
-plan_of spans place len = spans_for spans (covered_words place len)
+unfoldable pub plan_of : List KeptRecord → ℕ → ℕ → List Span
+plan_of records place len = spans_for records (covered_words place len)
 
 -- these records are those of some words, in rising order
 abbrev pub AreSpansOf : List Span → List ℕ → Type 0

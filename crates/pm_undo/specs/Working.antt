@@ -8,14 +8,14 @@ use Rattle.pm_view.specs.Changes.{Undrained}
 use Rattle.pm_view.specs.Claims.{Claim, Knows, Drained, SawBitmap, class, making}
 use Rattle.pm_view.specs.Founds.{knows}
 use Rattle.pm_view.specs.Log.{Phase, Idle, Open, Drawn, Recorded, next_log, old_in}
-use Rattle.pm_view.specs.Places.{Place, word_of, place_after, is_data, is_place}
+use Rattle.pm_view.specs.Places.{Place, word_of, place_after, is_data}
 use Rattle.pm_view.specs.View.{View}
 use Rattle.pm_view.specs.Views.{value_in}
 use Rattle.pm_world.specs.Lawful.{CanRecord, place_in}
 use Rattle.pm_world.specs.States.{given}
 use Rattle.pm_world.specs.Sights.{is_recorded, picture}
-use Rattle.pm_world.specs.Logs.{AreRestored}
-use Rattle.pm_world.specs.declared.lane.Span.{Span}
+use Rattle.pm_world.specs.Logs.{AreInRow, AreRestored}
+use Rattle.pm_undo.specs.declared.spans.Span.{Span}
 use Rattle.pm_undo.specs.Records.{recorded_in}
 
 -- a record that may be put back: its words are data of chunks of the pool, used as the lane knows
@@ -23,7 +23,7 @@ pub record IsStanding (v : View) (r : Recorded) : Type 0 where
   pub some : 1 ≤ length r.old
   pub most : length r.old ≤ old_words v.fixed.shape
   pub data_ : (i : ℕ) → i < length r.old → is_data (place_after r.place i) ≡ true
-  pub inside : (i : ℕ) → i < length r.old → is_place v.fixed.shape (place_after r.place i) ≡ true
+  pub row : AreInRow v.fixed.shape r
   pub use_ : (i : ℕ) → i < length r.old → place_in v (word_of v.fixed.shape (place_after r.place i)) ≡ Some (place_after r.place i)
   pub small : (i : ℕ) → i < length r.old → slice_index r.old i < 2 ^ 64
 

@@ -4,8 +4,8 @@
 //! Promises the calls of a lane, over any lawful memory and whatever other lanes do, that each part
 //! makes exactly the memory calls of its plan, or the first of them up to the lane's stop; and laws
 //! of plans: from which views of a lane each may be carried out, and what it leaves. No part takes
-//! memory, and none reads a log: what a lane recorded it keeps in an `UndoLog`. It stands on `pm_plan`
-//! for plans, on `pm_world` for lawful steps; docs/FORMAT.md, "Sequences".
+//! memory, and none reads a log: what a lane recorded it keeps. It stands on `pm_plan` for plans, on
+//! `pm_world` for lawful steps; docs/FORMAT.md, "Sequences".
 #![tactic(auto)]
 
 mod laws;
@@ -15,13 +15,12 @@ mod restoring;
 mod retiring;
 mod snapshots;
 mod spans;
-mod undo_log;
 
 pub use laws::{generations_may_end, recorded_words_may_be_put_back, snapshots_are_lawful};
 pub use restoring::restore;
 pub use retiring::retire;
 pub use snapshots::snapshot;
-pub use undo_log::{KeptRecord, UndoLog};
+pub use spans::Span;
 
 #[cfg(test)]
 mod tests;

@@ -5,10 +5,10 @@ ghost use Rattle.pm_plan.specs.Plans.{IsMade, IsReady, Ready};
 ghost use Rattle.pm_undo.specs.Plans.{looked_first, looked_span, looks_at, looks_from};
 ghost use Rattle.pm_undo.specs.Spans.{IsSpan};
 
-use crate::undo_log::KeptRecord;
+use crate::spans::Span;
 use arrayvec::ArrayVec;
 use pm_plan::look;
-use pm_world::{LawfulMem, Span};
+use pm_world::{KeptRecord, LawfulMem};
 
 /// The words of a span, with zeros after them.
 fn read_span<M: LawfulMem>(mem: &mut M, span: Span) -> KeptRecord

@@ -4,14 +4,13 @@ ghost use Rattle.pm_view.specs.View.{View};
 ghost use Rattle.pm_plan.specs.Plans.{IsReady, Runs};
 ghost use Rattle.pm_undo.specs.Plans.{logs, logs_here, stores_from, writes_all, writes_record, writes_records, writes_slot};
 ghost use Rattle.pm_undo.specs.Records.{slot_of};
-ghost use Rattle.pm_undo.specs.declared.undo_log.KeptRecord.{KeptRecord};
+ghost use Rattle.pm_world.specs.declared.lane.KeptRecord.{KeptRecord};
 
-use crate::undo_log::KeptRecord;
 use pm_layout::{LINE_WORDS, Shape, WORD_BYTES};
 use pm_memory::Stopped;
 use pm_plan::{drain, flush, store};
 use pm_record::Undo;
-use pm_world::LawfulMem;
+use pm_world::{KeptRecord, LawfulMem};
 
 /// The eight words of a record.
 fn spell(generation: u64, kept: KeptRecord) -> [u64; 8]

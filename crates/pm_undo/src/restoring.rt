@@ -4,13 +4,12 @@ ghost use Rattle.pm_plan.specs.Plans.{IsReady, Runs, in_turn, persists_all};
 ghost use Rattle.pm_undo.specs.Plans.{puts_back, restores_record};
 ghost use Rattle.pm_undo.specs.Undoing.{IsKept, Restored, Stands};
 ghost use Rattle.pm_undo.specs.Working.{IsWorking};
-ghost use Rattle.pm_undo.specs.declared.undo_log.KeptRecord.{KeptRecord};
+ghost use Rattle.pm_world.specs.declared.lane.KeptRecord.{KeptRecord};
 
 use crate::recording::store_all;
-use crate::undo_log::{KeptRecord, UndoLog};
 use pm_memory::Stopped;
 use pm_plan::persist_all;
-use pm_world::{Lane, LawfulMem};
+use pm_world::{KeptRecord, Lane, LawfulMem};
 
 /// Makes the words of a record what they were.
 #[tactic(auto, unfolding(crate::specs::Plans::restores_record))]
@@ -51,9 +50,9 @@ fn restore_all<M: LawfulMem>(mem: &mut M, records: &[KeptRecord]) -> Result<(), 
 /// # Errors
 ///
 /// `Stopped`: the lane came to its stop; the first of the calls are made.
-pub fn restore<M: LawfulMem>(lane: &mut Lane<M>, log: &UndoLog) -> Result<(), Stopped>
-    requires { Stands M.at lane.old log.now IsWorking }
-    ensures { Restored M.at lane.old lane.new log.now result }
+pub fn restore<M: LawfulMem>(lane: &mut Lane<M>) -> Result<(), Stopped>
+    requires { Stands M.at lane.old IsWorking }
+    ensures { Restored M.at lane.old lane.new result }
 {
-    restore_all(&mut lane.memory, log.records.as_slice())
+    restore_all(&mut lane.memory, lane.log.records.as_slice())
 }

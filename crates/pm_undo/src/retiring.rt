@@ -4,7 +4,6 @@ ghost use Rattle.pm_undo.specs.Plans.{ends_word};
 ghost use Rattle.pm_undo.specs.Undoing.{Retired, Stands};
 ghost use Rattle.pm_undo.specs.Working.{CanRetire};
 
-use crate::undo_log::UndoLog;
 use pm_layout::LINE_WORDS;
 use pm_memory::Stopped;
 use pm_plan::{persist, store};
@@ -26,16 +25,15 @@ fn end_word<M: LawfulMem>(mem: &mut M, word: u64, generation: u64) -> Result<(),
 ///
 /// # Errors
 ///
-/// `Stopped`: the lane came to its stop; the first of the calls are made, and the lists stay.
-pub fn retire<M: LawfulMem>(lane: &mut Lane<M>, log: &mut UndoLog) -> Result<(), Stopped>
-    requires { Stands M.at lane.old log.old CanRetire }
-    ensures { Retired M.at lane.old lane.new log.old log.new result }
+/// `Stopped`: the lane came to its stop; the first of the calls are made, and the log stays.
+pub fn retire<M: LawfulMem>(lane: &mut Lane<M>) -> Result<(), Stopped>
+    requires { Stands M.at lane.old CanRetire }
+    ensures { Retired M.at lane.old lane.new result }
 {
     let number = lane.memory.lane();
     let word = lane.shape.word_of_generation(number);
-    end_word(&mut lane.memory, word, log.generation)?;
-    log.generation += 1;
-    log.records.clear();
-    lane.records.clear();
+    end_word(&mut lane.memory, word, lane.log.generation)?;
+    lane.log.generation += 1;
+    lane.log.records.clear();
     Ok(())
 }

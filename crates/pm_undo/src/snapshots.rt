@@ -1,18 +1,16 @@
 ghost use Rattle.std.specs.Prelude.{◌≡◌, ◌+◌, ◌^◌, ◌<◌, ◌≤◌, ◌++◌, length, sum_by};
 ghost use Rattle.std.specs.List.{All};
-ghost use Rattle.pm_world.specs.declared.lane.Span.{Span};
 ghost use Rattle.pm_undo.specs.Spans.{IsSpan};
 ghost use Rattle.pm_undo.specs.Undoing.{Snapshotted, Stands, needed};
 ghost use Rattle.pm_undo.specs.Working.{CanSnapshot};
 
 use crate::reading::read_all;
 use crate::recording::write_new;
-use crate::spans::plan;
-use crate::undo_log::{KeptRecord, UndoLog};
+use crate::spans::{Span, plan};
 use arrayvec::ArrayVec;
 use pm_memory::Stopped;
 use pm_objects::Refusal;
-use pm_world::{Lane, LawfulMem, Span};
+use pm_world::{KeptRecord, Lane, LawfulMem};
 
 /// Records the words of a range of bytes that have no record yet, so that they can be put back, and
 /// makes the records persistent: how many words. Makes exactly the memory calls of `snapshots`.
@@ -20,38 +18,33 @@ use pm_world::{Lane, LawfulMem, Span};
 /// # Errors
 ///
 /// - `LogFull`: more records are needed than are free of 64; nothing is done.
-/// - `Stopped`: the lane came to its stop; the first of the calls are made, and the lists stay.
-pub fn snapshot<M: LawfulMem>(
-    lane: &mut Lane<M>,
-    log: &mut UndoLog,
-    place: u64,
-    len: u64,
-) -> Result<u64, Refusal>
+/// - `Stopped`: the lane came to its stop; the first of the calls are made, and the log stays.
+pub fn snapshot<M: LawfulMem>(lane: &mut Lane<M>, place: u64, len: u64) -> Result<u64, Refusal>
     requires range { place + len < 2 ^ 60 }
-    requires stands { Stands M.at lane.old log.old (λ v. CanSnapshot v (needed v place len)) }
-    ensures { Snapshotted M.at place len lane.old lane.new log.old log.new result }
+    requires stands { Stands M.at lane.old (λ v. CanSnapshot v (needed v place len)) }
+    ensures { Snapshotted M.at place len lane.old lane.new result }
 {
-    let Some(spans) = plan(lane.records.as_slice(), place, len) else {
+    let Some(spans) = plan(lane.log.records.as_slice(), place, len) else {
         return Err(Refusal::LogFull);
     };
-    let slot = lane.records.len() as u64;
+    let slot = lane.log.records.len() as u64;
     let kept = read_all(&mut lane.memory, spans.as_slice());
     match write_new(
         &mut lane.memory,
         lane.shape,
-        log.generation,
+        lane.log.generation,
         slot,
         kept.as_slice(),
     ) {
         Ok(()) => {
-            extend(&mut log.records, kept.as_slice());
-            Ok(keep(&mut lane.records, spans.as_slice()))
+            extend(&mut lane.log.records, kept.as_slice());
+            Ok(count(spans.as_slice()))
         }
         Err(Stopped) => Err(Refusal::Stopped),
     }
 }
 
-/// How many words some records have.
+/// How many words some spans have.
 fn count(spans: &[Span]) -> u64
     requires few { length spans.now ≤ 64 }
     requires spans { All IsSpan spans.now }
@@ -62,18 +55,6 @@ fn count(spans: &[Span]) -> u64
         count += span.count;
     }
     count
-}
-
-/// Keeps the words of further records, and tells how many there are.
-fn keep(records: &mut ArrayVec<Span, 64>, new: &[Span]) -> u64
-    requires room { length records.old.items + length new.now ≤ 64 }
-    requires spans { All IsSpan new.now }
-    ensures kept { records.new.items ≡ records.old.items ++ new.now }
-    ensures count { result ≡ sum_by (λ s. s.count) new.now }
-{
-    let kept = records.try_extend_from_slice(new);
-    prove!(kept.is_ok());
-    count(new)
 }
 
 /// Keeps further records.

@@ -6,37 +6,46 @@ ghost use Rattle.pm_undo.specs.Spans.{words_in, spans_for, plan_of, AreSpansOf};
 
 use arrayvec::ArrayVec;
 use pm_layout::{OLD_WORDS, UNDO_SLOTS, WORD_BYTES};
-use pm_world::Span;
+use pm_world::KeptRecord;
+
+/// Words that get a record: consecutive ones.
+#[derive(Clone, Copy, Debug, PartialEq, Eq, Default, Drop)]
+pub struct Span {
+    /// The first word's number.
+    pub word: u64,
+    /// How many words, 1 to 4.
+    pub count: u64,
+}
 
 /// The records that a range of bytes still needs, in rising order: each of one to four consecutive words that no record
 /// has yet. Nothing exactly where they are more than are free.
-pub fn plan(spans: &[Span], place: u64, len: u64) -> Option<ArrayVec<Span, 64>>
+pub fn plan(records: &[KeptRecord], place: u64, len: u64) -> Option<ArrayVec<Span, 64>>
     requires range { place + len < 2 ^ 64 }
-    requires spans { length spans.now ≤ 64 }
-    ensures some { IfSome result (λ new. new.items ≡ plan_of spans.now place len) }
-    ensures room { IfSome result (λ new. length spans.now + length new.items ≤ 64) }
-    ensures none { IsNone result → 64 < length spans.now + length (plan_of spans.now place len) }
+    requires few { length records.now ≤ 64 }
+    ensures some { IfSome result (λ new. new.items ≡ plan_of records.now place len) }
+    ensures room { IfSome result (λ new. length records.now + length new.items ≤ 64) }
+    ensures none { IsNone result → 64 < length records.now + length (plan_of records.now place len) }
 {
     if len == 0 {
         return Some(ArrayVec::new());
     }
     let first = place / WORD_BYTES;
     let last = (place + len - 1) / WORD_BYTES;
-    plan_words(spans, first, last + 1)
+    plan_words(records, first, last + 1)
 }
 
 /// The same for the words from `first` on up to `end`.
-fn plan_words(spans: &[Span], first: u64, end: u64) -> Option<ArrayVec<Span, 64>>
+fn plan_words(records: &[KeptRecord], first: u64, end: u64) -> Option<ArrayVec<Span, 64>>
     requires order { first ≤ end }
-    requires spans { length spans.now ≤ 64 }
-    ensures some { IfSome result (λ new. new.items ≡ spans_for spans.now (range_with_len first (end - first))) }
-    ensures room { IfSome result (λ new. length spans.now + length new.items ≤ 64) }
-    ensures none { IsNone result → 64 < length spans.now + length (spans_for spans.now (range_with_len first (end - first))) }
+    requires few { length records.now ≤ 64 }
+    ensures some { IfSome result (λ new. new.items ≡ spans_for records.now (range_with_len first (end - first))) }
+    ensures room { IfSome result (λ new. length records.now + length new.items ≤ 64) }
+    ensures none { IsNone result → 64 < length records.now + length (spans_for records.now (range_with_len first (end - first))) }
 {
-    let free = UNDO_SLOTS as usize - spans.len();
+    let free = UNDO_SLOTS as usize - records.len();
     let mut planned = ArrayVec::new();
     for word in first..end {
-        if is_recorded(spans, word) {
+        if is_recorded(records, word) {
             continue;
         }
         if !add(&mut planned, word, free) {
@@ -47,19 +56,19 @@ fn plan_words(spans: &[Span], first: u64, end: u64) -> Option<ArrayVec<Span, 64>
 }
 
 /// Whether the record has the word.
-fn has(span: Span, word: u64) -> bool
-    ensures yes { IsTrue result → (span.word ≤ word) × (word - span.word < span.count) }
-    ensures no_ { result ≡ false → span.word ≤ word → span.count ≤ word - span.word }
+fn has(kept: KeptRecord, word: u64) -> bool
+    ensures yes { IsTrue result → (kept.word ≤ word) × (word - kept.word < kept.count) }
+    ensures no_ { result ≡ false → kept.word ≤ word → kept.count ≤ word - kept.word }
 {
-    span.word <= word && word - span.word < span.count
+    kept.word <= word && word - kept.word < kept.count
 }
 
 /// Whether one of the records has the word.
-fn is_recorded(spans: &[Span], word: u64) -> bool
-    ensures { result ≡ is_among (words_in spans.now) word }
+fn is_recorded(records: &[KeptRecord], word: u64) -> bool
+    ensures { result ≡ is_among (words_in records.now) word }
 {
-    for span in spans {
-        if has(*span, word) {
+    for kept in records {
+        if has(*kept, word) {
             return true;
         }
     }

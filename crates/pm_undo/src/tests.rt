@@ -1,6 +1,6 @@
 use super::*;
 use crate::spans::plan;
-use pm_world::Span;
+use pm_world::KeptRecord;
 use std::test::Fail;
 
 /// Five words that follow one another need two records: four in the first.
@@ -17,7 +17,11 @@ fn records_of_a_range(rt: HostRuntime) -> Result<(), Fail> {
 /// A word that has a record needs none, and parts those around it.
 #[test]
 fn recorded_words_are_left_out(rt: HostRuntime) -> Result<(), Fail> {
-    let recorded = [Span { word: 3, count: 2 }];
+    let recorded = [KeptRecord {
+        word: 3,
+        count: 2,
+        old: [7, 8, 0, 0],
+    }];
     let Some(spans) = plan(&recorded, 16, 40) else {
         return Ok(assert!(rt; false));
     };

@@ -1,5 +1,5 @@
 use Rattle.std.proofs.Common.{◌≡◌, ◌++◌, ◌∷◌, [], List, ap, sym, ◌∙◌, subst, rules}
-use Rattle.pm_world.specs.declared.lane.Span.{Span}
+use Rattle.pm_undo.specs.declared.spans.Span.{Span}
 use Rattle.pm_undo.specs.Spans.{AreSpansOf}
 use Rattle.pm_undo.proofs.Planning.{joins_last, stands_apart, is_first, one_too_many, first_of_all}
 use Rattle.pm_undo.proofs.spans.add.Goals as goal

@@ -4,5 +4,5 @@ use Rattle.pm_undo.specs.Spans.{words_in}
 use Rattle.pm_undo.proofs.spans.is_recorded.Given as goal
 
 -- none of the records looked at has the word
-abbrev pub invariant-loop-span : goal.invariant-loop-span
-invariant-loop-span l = is_among (words_in (take l.span-index l.spans)) l.word ≡ false
+abbrev pub invariant-loop-kept : goal.invariant-loop-kept
+invariant-loop-kept l = is_among (words_in (take l.kept-index l.records)) l.word ≡ false

@@ -7,6 +7,6 @@ use Rattle.pm_undo.proofs.spans.plan_words.Given as goal
 -- the records of the words looked at, no more of them than are free
 abbrev pub invariant-loop-word : goal.invariant-loop-word
 invariant-loop-word l = record {
-  are : AreSpansOf l.planned.items (new_words (words_in l.spans) (range_with_len l.first (l.word - l.first)));
+  are : AreSpansOf l.planned.items (new_words (words_in l.records) (range_with_len l.first (l.word - l.first)));
   few : length l.planned.items ≤ l.free;
 }
