@@ -43,7 +43,9 @@ pub mod KnownWords
 pub mod Looked
 pub mod OpenPools
 pub mod SimFacts
+pub mod EntryFacts
 pub mod SimOps
+pub mod Rollbacks
 pub mod SceneMoves
 pub mod SimWrites
 pub mod SceneBlocks

@@ -1,8 +1,10 @@
 ghost use Rattle.pm_crash.specs.Sim.{SimBegins, SimGoesOn, SimIsKept, SimStays, TellsGrow};
-ghost use Rattle.pm_crash.specs.SimOps.{NoRootIsAsked, SimAborts, SimExtends, SimRefuses, SimWrites};
+ghost use Rattle.pm_crash.specs.SimOps.{NoRootIsAsked, SimAborts, SimExtends, SimRefuses};
+ghost use Rattle.pm_crash.specs.SimOps.{SimRollsBack, SimWrites};
 ghost use Rattle.pm_crash.specs.SimAllocs.{SimAllocates, SimFrees, SimPublishes, SimReserves};
 ghost use Rattle.pm_crash.specs.SimCommits.{SimCommits};
-ghost use Rattle.pm_crash.specs.SimFacts.{SimsAreFacts};
+ghost use Rattle.pm_crash.specs.SimFacts.{CallsWithoutEntriesAreOver, CallsWithoutEntriesHaveFacts};
+ghost use Rattle.pm_crash.specs.SimFacts.{CallsWithoutLogAreOver, SimsAreFacts, TransactionsEnd};
 ghost use Rattle.pm_crash.specs.Looked.{ReadIs, RefusalIs};
 ghost use Rattle.pm_crash.specs.Looks.{RefusalsLook};
 
@@ -19,12 +21,13 @@ pub fn a_lane_follows_the_model()
 {}
 
 /// A law: what each operation owes has no bits in it. Operations on the lane's lists, those that are
-/// refused, and abort; writes and increments; objects that are freed, made, reserved and published; and
-/// commits, with the words that they set. No code runs.
+/// refused, and abort, of a transaction that recorded words too; writes and increments; objects that are
+/// freed, made, reserved and published; and commits, with the words that they set. No code runs.
 pub fn operations_follow_the_model()
     ensures extends { SimExtends }
     ensures refuses { SimRefuses }
     ensures aborts { SimAborts }
+    ensures rolls_back { SimRollsBack }
     ensures writes { SimWrites }
     ensures frees { SimFrees }
     ensures allocates { SimAllocates }
@@ -47,4 +50,14 @@ pub fn first_refusals_are_the_models()
 /// log, has the fact that its call owes. No code runs.
 pub fn transactions_have_facts()
     ensures { SimsAreFacts }
+{}
+
+/// A law: a transaction that began with `begin` is over after an operation that aborts it, by the script
+/// or by a refusal, and after the commit of its outermost level. Where its log has no entries, and its
+/// records are of blocks that it found or are retired, it has the fact that its call owes. No code runs.
+pub fn ended_transactions_are_over()
+    ensures ends { TransactionsEnd }
+    ensures entries { CallsWithoutEntriesAreOver }
+    ensures log { CallsWithoutLogAreOver }
+    ensures facts { CallsWithoutEntriesHaveFacts }
 {}

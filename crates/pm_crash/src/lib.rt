@@ -27,11 +27,13 @@ pub use answers::reports_have_causes;
 pub use described::descriptors_have_classes;
 pub use footprints::footprints_stand;
 pub use freshness::histories_are_fresh;
-pub use histories::{a_call_is_a_step, a_history_holds_its_replay, effects_are_facts};
+pub use histories::{
+    a_call_is_a_step, a_history_holds_its_replay, effects_are_facts, entries_have_facts,
+};
 pub use images::images_mean_replays;
 pub use lanes::{
-    a_lane_follows_the_model, first_refusals_are_the_models, operations_follow_the_model,
-    transactions_have_facts,
+    a_lane_follows_the_model, ended_transactions_are_over, first_refusals_are_the_models,
+    operations_follow_the_model, transactions_have_facts,
 };
 pub use objects::{
     a_difference_changes_the_heap, blocks_are_items, good_heaps_hold_pools, own_blocks_are_free,
