@@ -1,5 +1,5 @@
 -- Lane 0 over its memory: what the memory's calls are to it, in whatever world the memory stands.
-use Rattle.std.proofs.Common.{◌≡◌, ◌↔◌, ℕ, ◌<◌, ◌≤◌, Bool, true, false, IsTrue, slice_index, bit_and, bit_or, Option, Result, Ok, Err, IfOk, OnOk, OnErr, refl, sym, ap, ◌∙◌, subst, arith}
+use Rattle.std.proofs.Common.{◌≡◌, ◌↔◌, ℕ, ◌<◌, Bool, true, false, IsTrue, slice_index, bit_and, bit_or, Option, Result, Ok, Err, IfOk, OnOk, OnErr, refl, sym, ap, ◌∙◌, subst, arith}
 use Rattle.std.proofs.lemmas.Bool.{both_ways}
 use Rattle.std.specs.Bool.{OnTrue, OnFalse}
 use Rattle.pm_layout.specs.Chunks.{words_of}

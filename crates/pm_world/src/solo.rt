@@ -1,6 +1,5 @@
-ghost use Rattle.std.specs.Prelude.{◌≡◌, IfOk};
+ghost use Rattle.std.specs.Prelude.{◌≡◌, [], ◌∷◌, IfOk};
 ghost use Rattle.pm_memory.specs.Keep.{IsKeptImage};
-ghost use Rattle.std.specs.Prelude.{[], ◌∷◌};
 ghost use Rattle.pm_world.specs.SoloLanes.{SurvivesInWorlds};
 
 use crate::{LawfulMem, LentOperation, LentValue};
