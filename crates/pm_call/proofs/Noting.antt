@@ -56,6 +56,7 @@ module _ (v : View) (ns : List Note) (changes : List Undrained) (calls : ℕ) (l
   pub sound_so : IsSound v → IsSound next
   sound_so s = record {
     small = λ c i e. subst (λ cl. (cl c ≢ 0) × (i < blocks_of (cl c))) (sym class_so) (s.small c i (sym (found_so (Small c i)) ∙ e));
+    some = λ f e. subst (λ sp. 1 ≤ sp f) (sym (notes.span_same v.fixed.shape ns v.claims)) (s.some f (sym (found_so (Big f)) ∙ e));
     zone = λ f e. subst (λ sp. f % 64 + sp f ≤ 64) (sym (notes.span_same v.fixed.shape ns v.claims)) (s.zone f (sym (found_so (Big f)) ∙ e));
     huge = λ f c e i. let t = s.huge f c (sym (found_so (Big f)) ∙ e) (ap (λ sp. in_span f (sp f) c) (sym (notes.span_same v.fixed.shape ns v.claims)) ∙ i) in
         (ap (λ fi. fi c) (notes.first_same v.fixed.shape ns v.claims) ∙ t.0, ap (λ cl. cl c) class_so ∙ t.1);
@@ -111,7 +112,7 @@ module _ (v : View) (call actions published : List Told) where
   }
 
   sound_told : IsSound v → IsSound told
-  sound_told s = record { small = s.small; zone = s.zone; huge = s.huge }
+  sound_told s = record { small = s.small; some = s.some; zone = s.zone; huge = s.huge }
 
   held_told : (locks : List HeldLock) → AreHeld v locks → AreHeld told locks
   held_told locks all = all_map (IsHeld v) (IsHeld told) locks (λ l h. record {
