@@ -43,6 +43,7 @@ pub mod KnownWords
 pub mod Looked
 pub mod OpenPools
 pub mod SimFacts
+pub mod EntryFacts
 pub mod SimOps
 pub mod SceneMoves
 pub mod SimWrites

@@ -1,4 +1,4 @@
-ghost use Rattle.pm_crash.specs.Facts.{EffectsAreFacts, EffectsAreSteps, QuietCallsAreSteps};
+ghost use Rattle.pm_crash.specs.Facts.{DrawsKeepFacts, EffectsAreFacts, EffectsAreSteps, HistoriesHaveFacts, QuietCallsAreSteps};
 ghost use Rattle.pm_crash.specs.Laws.{CallIsStep, EverySetMayBeKept, HistoryHolds};
 
 /// A law: a call whose fact holds is a step of the plain model, from whatever pool the kept bits
@@ -23,4 +23,12 @@ pub fn effects_are_facts()
     ensures steps { EffectsAreSteps }
     ensures facts { EffectsAreFacts }
     ensures quiet { QuietCallsAreSteps }
+{}
+
+/// A law: a lane whose call has its fact as it takes its number, and whose entries have theirs, has
+/// entries that all have theirs then. Of a world where the entries of each lane have their facts, each
+/// call of the history has its own. No code runs.
+pub fn entries_have_facts()
+    ensures draws { DrawsKeepFacts }
+    ensures histories { HistoriesHaveFacts }
 {}

@@ -27,7 +27,9 @@ pub use answers::reports_have_causes;
 pub use described::descriptors_have_classes;
 pub use footprints::footprints_stand;
 pub use freshness::histories_are_fresh;
-pub use histories::{a_call_is_a_step, a_history_holds_its_replay, effects_are_facts};
+pub use histories::{
+    a_call_is_a_step, a_history_holds_its_replay, effects_are_facts, entries_have_facts,
+};
 pub use images::images_mean_replays;
 pub use lanes::{
     a_lane_follows_the_model, first_refusals_are_the_models, operations_follow_the_model,

@@ -1,0 +1,8 @@
+use Rattle.pm_crash.proofs.EntryFacts as entries
+use Rattle.pm_crash.proofs.histories.entries_have_facts.Goals as goal
+
+pub returns-clause-draws : goal.returns-clause-draws
+returns-clause-draws _ = entries.draws_keep_facts
+
+pub returns-clause-histories : goal.returns-clause-histories
+returns-clause-histories _ = entries.histories_have_facts
