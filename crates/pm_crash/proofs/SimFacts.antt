@@ -1,45 +1,56 @@
 -- A transaction that is over, and came to what the model's transaction has, has its fact.
-use Rattle.std.proofs.Common.{◌≡◌, ◌≢◌, ◌⊎◌, ⊎_elim, inl, inr, ℕ, ◌+◌, ◌/◌, ◌<◌, ◌≤◌, ◌&&◌, ◌==◌, nat_le, Bool, true, false, List, [], ◌∷◌, map, Option, Some, None, IsSome, refl, sym, ◌∙◌, ap, subst, arith}
-use Rattle.std.proofs.lemmas.Bool.{and_from, both_ways, cases_eq, cond-false, eq-eqb, false_from_ne_true, le-leb, ne_eqb, or_cases, or_left, or_right}
+use Rattle.std.proofs.Common.{◌≡◌, ◌≢◌, ◌⊎◌, ⊎_elim, inl, inr, ℕ, zero, suc, ◌+◌, ◌-◌, ◌/◌, ◌<◌, ◌≤◌, ◌&&◌, ◌||◌, ◌==◌, not, nat_le, Bool, true, false, cond, List, [], ◌∷◌, map, Option, Some, None, IsSome, refl, sym, ◌∙◌, ap, subst, arith}
+use Rattle.std.proofs.lemmas.Bool.{and_from, and_parts, both_ways, cases_eq, cond-false, eq-eqb, false_from_ne_true, le-leb, ne_eqb, or_cases, or_left, or_right}
 use Rattle.pm_header.specs.declared.header.Header.{Header}
 use Rattle.pm_layout.specs.Sizes.{class_of}
 use Rattle.pm_layout.specs.declared.shape.Shape.{Shape}
 use Rattle.pm_objects.specs.Pool.{block_lines}
+use Rattle.pm_objects.specs.declared.calls.Operation.{Operation}
+use Rattle.pm_objects.specs.declared.calls.Operation.TheVariants.{Abort, Commit}
+use Rattle.pm_objects.specs.declared.history.TxErr.{TxErr}
+use Rattle.pm_objects.specs.declared.history.TxErr.TheVariants as error
+use Rattle.pm_objects.specs.declared.history.Value.{Value}
+use Rattle.pm_objects.specs.declared.history.Value.TheVariants.{Refused}
 use Rattle.pm_objects.specs.declared.pool.PoolView.{PoolView}
 use Rattle.pm_image.specs.declared.block.Block.{Block as Lines}
 use Rattle.pm_image.specs.Contents.{size_in}
 use Rattle.pm_image.specs.HeapFaults.{good_block}
 use Rattle.pm_image.specs.Narrowings.{takes_links}
 use Rattle.pm_model.specs.CallStep.{CallRun, Runs, TransactionStep, is_transaction}
-use Rattle.pm_model.specs.Inside.{Ran}
-use Rattle.pm_model.specs.Items.{Item, Items, plain_pool}
+use Rattle.pm_model.specs.Inside.{Ran, after, after_reply, is_action}
+use Rattle.pm_model.specs.Items.{Item, Items, all_edited, plain_pool}
 use Rattle.pm_model.specs.Parts.{parts_inside}
-use Rattle.pm_model.specs.Pending.{Pending}
-use Rattle.pm_model.specs.Transaction.{Transaction, idle, is_working, pool_of}
-use Rattle.pm_view.specs.Places.{Block, RootWord}
+use Rattle.pm_model.specs.Pending.{Pending, set_edits}
+use Rattle.pm_model.specs.Refusals.{Seen}
+use Rattle.pm_model.specs.Shown.{aborts, is_abort}
+use Rattle.pm_model.specs.Transaction.{Transaction, aborted, committed, idle, is_none, is_working, pool_of}
+use Rattle.pm_model.specs.declared.stage.Stage.TheVariants as stage
+use Rattle.pm_view.specs.Entries.{latest, turn}
+use Rattle.pm_view.specs.Places.{Place, InRun, InHuge, Descr, RootWord, Block, Small, Big, Root, block_of, is_data}
 use Rattle.pm_view.specs.View.{Told, View}
 use Rattle.pm_world.specs.Lanes.{is_occupancy}
+use Rattle.pm_world.specs.Sights.{is_made, is_recorded, picture}
 use Rattle.pm_world.specs.States.{State as Bits, Diff, given}
 use Rattle.pm_world.proofs.Replays.{over_none}
 use Rattle.pm_crash.specs.Calls.{IsRunOf, pending_after, pending_of, state_of, told_by}
 use Rattle.pm_crash.specs.Facts.{HasEffect, state_with}
-use Rattle.pm_crash.specs.Footprints.{MayPrecede, has_found, has_own}
+use Rattle.pm_crash.specs.Footprints.{MayPrecede, geometry_of, has_found, has_own}
 use Rattle.pm_crash.specs.Freshness.{root_told}
-use Rattle.pm_crash.specs.HeapChanges.{ChangesHeap, Makes}
-use Rattle.pm_crash.specs.Looked.{KnowsWord}
+use Rattle.pm_crash.specs.HeapChanges.{ChangesHeap, Frees, Makes}
+use Rattle.pm_crash.specs.Looked.{ChangesAt, Enters, IsChanged, KnowsWord}
 use Rattle.pm_crash.specs.Objects.{is_allocated, item_of, lines_of, offset_of}
-use Rattle.pm_crash.specs.OpenRuns.{AreReplies, after_told}
+use Rattle.pm_crash.specs.OpenRuns.{AreReplies, after_told, no_pool}
 use Rattle.pm_crash.specs.Sim.{Agrees, Came, Sim, bits_now, change_so_far, copy_of, is_kept_block, tx_with}
-use Rattle.pm_crash.specs.SimFacts.{IsOver, IsSized, SimsAreFacts, is_begun}
+use Rattle.pm_crash.specs.SimFacts.{CallsWithoutEntriesAreOver, CallsWithoutEntriesHaveFacts, CallsWithoutLogAreOver, EndsTransaction, IsOver, IsSized, SimsAreFacts, TransactionsEnd, is_begun, lists_after}
 use Rattle.pm_crash.specs.Spelled.{Holds, number, words_by}
 use Rattle.pm_crash.proofs.Effects.{effects_are_facts}
 use Rattle.pm_crash.proofs.ItemsOfBits.{items_have_blocks, root_is_told}
 use Rattle.pm_crash.proofs.KnownWords.{header_known, header_stays}
 use Rattle.pm_crash.proofs.Looked.{words_so}
 use Rattle.pm_crash.proofs.OpenPools.{pending_so, root_stays}
-use Rattle.pm_crash.proofs.OpenRuns.{are_runs}
+use Rattle.pm_crash.proofs.OpenRuns.{are_runs, told_once_more}
 use Rattle.pm_crash.proofs.OwnEntries.{changes_blocks, descriptors, kept_is_own}
-use Rattle.pm_crash.proofs.Simulation.{now_is}
+use Rattle.pm_crash.proofs.Simulation.{no_turn, now_is}
 
 same_some : {A : Type 0} → (a b : A) → Some a ≡ Some b → a ≡ b
 same_some {A = A} a b e = ap (λ (z : Option A). Rattle.std.specs.Prelude.unwrap_or z a) e
@@ -91,8 +102,8 @@ module _ (v : View) (sim : Sim v v.log.entries) (y : IsOver v) (classes : ℕ �
   word B z k n few kn = header_known v v.log.entries true classes s header pool holds agrees y.enters B k n z.object few
       (let m = (words_so v v.log.entries true classes s header pool holds agrees y.enters copy came.stands B z.object).1 in omega arith) kn
 
-  zero : (B : Block) (z : IsSized v v.log.entries B) (k : ℕ) → 2 ≤ k → k < 8 → (words_by sh classes now ((lines_of sh classes now B).place / 8 + k) == 0) ≡ true
-  zero B z k low few = eq-eqb (words_by sh classes now ((lines_of sh classes now B).place / 8 + k)) 0 (word B z k 0 few (z.plain k low few))
+  is_zero : (B : Block) (z : IsSized v v.log.entries B) (k : ℕ) → 2 ≤ k → k < 8 → (words_by sh classes now ((lines_of sh classes now B).place / 8 + k) == 0) ≡ true
+  is_zero B z k low few = eq-eqb (words_by sh classes now ((lines_of sh classes now B).place / 8 + k)) 0 (word B z k 0 few (z.plain k low few))
 
   sized : (B : Block) → Makes d B → is_occupancy sh B ≡ true → (good_block (words_by sh classes now) (lines_of sh classes now B) ≡ true) × (takes_links (words_by sh classes now) (lines_of sh classes now B) ≡ true)
   unfolding good_block
@@ -109,11 +120,11 @@ module _ (v : View) (sim : Sim v v.log.entries) (y : IsOver v) (classes : ℕ �
             (and_from (nat_le 1 (size_in w b) && nat_le (size_in w b) 262080 && block_lines (class_of (size_in w b)) == b.lines) (w (b.place / 8 + 6) == 0)
             (and_from (nat_le 1 (size_in w b) && nat_le (size_in w b) 262080) (block_lines (class_of (size_in w b)) == b.lines)
             (and_from (nat_le 1 (size_in w b)) (nat_le (size_in w b) 262080) (le-leb 1 (size_in w b) (omega arith)) (le-leb (size_in w b) 262080 (omega arith)))
-            (eq-eqb (block_lines (class_of (size_in w b))) b.lines lines)) (zero B z 6 (omega arith) (omega arith))) (zero B z 7 (omega arith) (omega arith)),
+            (eq-eqb (block_lines (class_of (size_in w b))) b.lines lines)) (is_zero B z 6 (omega arith) (omega arith))) (is_zero B z 7 (omega arith) (omega arith)),
         and_from (w (b.place / 8 + 2) == 0 && w (b.place / 8 + 3) == 0 && w (b.place / 8 + 4) == 0) (w (b.place / 8 + 5) == 0)
             (and_from (w (b.place / 8 + 2) == 0 && w (b.place / 8 + 3) == 0) (w (b.place / 8 + 4) == 0)
-            (and_from (w (b.place / 8 + 2) == 0) (w (b.place / 8 + 3) == 0) (zero B z 2 (omega arith) (omega arith)) (zero B z 3 (omega arith) (omega arith)))
-            (zero B z 4 (omega arith) (omega arith))) (zero B z 5 (omega arith) (omega arith)),
+            (and_from (w (b.place / 8 + 2) == 0) (w (b.place / 8 + 3) == 0) (is_zero B z 2 (omega arith) (omega arith)) (is_zero B z 3 (omega arith) (omega arith)))
+            (is_zero B z 4 (omega arith) (omega arith))) (is_zero B z 5 (omega arith) (omega arith)),
       )
 
   -- ---- THE ROOT IS THERE
@@ -230,3 +241,104 @@ module _ (v : View) (sim : Sim v v.log.entries) (y : IsOver v) (classes : ℕ �
 
 pub sims_are_facts : SimsAreFacts
 sims_are_facts v sim y = effects_are_facts v (λ classes s header pool pending x holds id lane. effect v sim y classes s header pool pending x holds id lane)
+
+-- ---- A TRANSACTION ENDS
+
+refused_stage : (b : Bool) (e : TxErr) (tx : Transaction) → not b ≡ true → is_working (cond b tx (aborted e tx)).stage ≡ false
+refused_stage true e tx t = absurd (both_ways false refl t)
+refused_stage false e tx t = refl
+
+-- an operation that aborts leaves none at work
+abort_stage : (op : Operation) (seen : Seen) (reply : Option Value) (tx : Transaction) → aborts (record { operation = op; seen = seen; reply = reply }) ≡ true
+    → is_working (after_reply op reply tx).stage ≡ false
+abort_stage (Abort n) seen (Some (Refused r)) tx t = refl
+abort_stage (Abort n) seen reply tx t = refl
+abort_stage op seen (Some (Refused r)) tx t = refused_stage (is_action op) (error.Refused r) tx (⊎_elim
+    (λ (a : (not (is_action op) && true) ≡ true). (and_parts (not (is_action op)) true a).0)
+    (λ (n : is_abort op ≡ true). absurd (both_ways false refl n))
+    (or_cases (not (is_action op) && true) (is_abort op) t))
+abort_stage op seen reply tx t = absurd (both_ways false refl t)
+
+level_stage : (n : ℕ) (outermost inner : Transaction) → n ≡ 1 → is_working outermost.stage ≡ false → is_working (cond (nat_le n 1) outermost inner).stage ≡ false
+level_stage n outermost inner e none = ap (λ k. is_working (cond (nat_le k 1) outermost inner).stage) e ∙ none
+
+-- nor does the outermost commit
+commit_stage : (tx : Transaction) → tx.level ≡ 1 → is_working (after_reply Commit None tx).stage ≡ false
+commit_stage tx e = level_stage tx.level (record (idle tx.before tx.pending) { items = all_edited (set_edits tx.sets) tx.items })
+    (record (committed tx) { level = tx.level - 1; stage = cond (is_none tx.error) stage.Work stage.OnAbort }) e refl
+
+end_stage : (tx : Transaction) (ran : Ran) → EndsTransaction tx ran → is_working (after ran tx).stage ≡ false
+end_stage tx ran ends = ⊎_elim
+    (λ (a : aborts ran ≡ true). abort_stage ran.operation ran.seen ran.reply tx a)
+    (λ (c : (ran.operation ≡ Commit) × (ran.reply ≡ None) × (tx.level ≡ 1)).
+    (λ i. is_working (after_reply (c.0 i) (c.1 i) tx).stage) ∙ commit_stage tx c.2)
+    ends
+
+pub transactions_end : TransactionsEnd
+transactions_end v earlier ran y =
+    ap (λ (told : List Told). is_working (lists_after v told).stage) y.call
+    ∙ (ap (λ (tx : Transaction). is_working tx.stage) (told_once_more earlier (told_by ran) (idle no_pool (pending_of v.entries)))
+    ∙ end_stage (lists_after v earlier) ran y.ends)
+
+-- ---- WITHOUT ENTRIES
+
+given_second : (d m r : Bool) (x : Option Bool) → m ≡ false → given (cond (d && (m || r)) x None) ≡ true → r ≡ true
+given_second true true r x none t = absurd (both_ways true none refl)
+given_second true false true x none t = refl
+given_second true false false x none t = t
+given_second false m r x none t = absurd (both_ways false refl t)
+
+module _ (v : View) where
+  -- no block is made or freed
+  no_block : (B : Block) → given (turn (change_so_far v []) B) ≡ false
+  no_block (Small c i) = refl
+  no_block (Big f) = refl
+  no_block Root = refl
+
+  made_none : {Q : Type 0} (B : Block) → Makes (change_so_far v []) B → Q
+  made_none B m = absurd (both_ways (given (turn (change_so_far v []) B)) (no_block B) (ap given m))
+
+  freed_none : {Q : Type 0} (B : Block) → Frees (change_so_far v []) B → Q
+  freed_none B m = absurd (both_ways (given (turn (change_so_far v []) B)) (no_block B) (ap given m))
+
+  -- what is changed was recorded
+  was_recorded : (p : Place) (b : ℕ) → given (change_so_far v [] p b) ≡ true → is_recorded v.log.records p ≡ true
+  was_recorded p b t =
+      let B = block_of (geometry_of v) p b in
+      given_second (is_data p) (is_made (turn (latest []) B)) (is_recorded v.log.records p) (picture v.fixed.shape v.claims p b)
+      (ap is_made (no_turn B)) t
+
+  changes_recorded : ((p : Place) → is_recorded v.log.records p ≡ true → IsChanged v p)
+      → (p : Place) (b : ℕ) → given (change_so_far v [] p b) ≡ true → ChangesAt v (change_so_far v []) p
+  changes_recorded known (InRun c zero) b t = tt
+  changes_recorded known (InRun c (suc w)) b t = known (InRun c (suc w)) (was_recorded (InRun c (suc w)) b t)
+  changes_recorded known (InHuge c w) b t = known (InHuge c w) (was_recorded (InHuge c w) b t)
+  changes_recorded known (Descr c) b t = absurd (both_ways false refl t)
+  changes_recorded known RootWord b t = absurd (both_ways false refl t)
+
+  no_entries : ((p : Place) → is_recorded v.log.records p ≡ true → IsChanged v p) → Enters v []
+  no_entries known = record {
+    makes = λ B m. made_none B m;
+    frees = λ B m. freed_none B m;
+    of_run = λ c i m. made_none (Small c i) m;
+    of_zone = λ f m. made_none (Big f) m;
+    says = λ f b m few. made_none (Big f) m;
+    no_run = λ f c i m t n. made_none (Big f) m;
+    no_other = λ f c m t n. made_none (Big f) m;
+    changes = changes_recorded known;
+  }
+
+pub calls_without_entries : CallsWithoutEntriesAreOver
+calls_without_entries v earlier ran y none known = record {
+  begun = y.begun;
+  over = transactions_end v earlier ran y;
+  enters = subst (Enters v) (sym none) (no_entries v known);
+  sized = λ B. subst (λ entries. Makes (change_so_far v entries) B → IsSized v entries B) (sym none) (λ m. made_none v B m);
+}
+
+pub calls_without_log : CallsWithoutLogAreOver
+calls_without_log v earlier ran y none empty = calls_without_entries v earlier ran y none
+    (λ p t. absurd (both_ways false refl (ap (λ records. is_recorded records p) (sym empty) ∙ t)))
+
+pub without_entries_have_facts : CallsWithoutEntriesHaveFacts
+without_entries_have_facts v none sim y = sims_are_facts v (subst (Sim v) (sym none) sim) y

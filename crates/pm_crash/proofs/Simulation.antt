@@ -90,7 +90,7 @@ module _ (v next : View) (entries entries' : List Entry) (same : SameBits v entr
 
 -- ---- A CALL BEGINS
 
-no_turn : (B : Block) → turn (latest []) B ≡ None
+pub no_turn : (B : Block) → turn (latest []) B ≡ None
 no_turn (Small c i) = refl
 no_turn (Big f) = refl
 no_turn Root = refl

@@ -1,15 +1,19 @@
 -- A CALL THAT ENDS has its fact, by the simulation: as a transaction takes its number.
-use Rattle.std.specs.Prelude.{◌≡◌, ℕ, ◌*◌, ◌<◌, ◌≤◌, Bool, true, false, List, [], ◌∷◌}
+use Rattle.std.specs.Prelude.{◌≡◌, ◌⊎◌, ℕ, ◌*◌, ◌<◌, ◌≤◌, Bool, true, false, List, [], ◌∷◌, ◌++◌, None}
 use Rattle.pm_layout.specs.Sizes.{class_of}
 use Rattle.pm_objects.specs.Pool.{block_lines}
-use Rattle.pm_model.specs.Inside.{is_begin}
-use Rattle.pm_model.specs.Transaction.{is_working}
+use Rattle.pm_objects.specs.declared.calls.Operation.TheVariants.{Commit}
+use Rattle.pm_model.specs.Inside.{Ran, is_begin}
+use Rattle.pm_model.specs.Shown.{aborts}
+use Rattle.pm_model.specs.Transaction.{Transaction, idle, is_working}
 use Rattle.pm_view.specs.Entries.{Entry}
-use Rattle.pm_view.specs.Places.{Block}
+use Rattle.pm_view.specs.Places.{Block, Place}
 use Rattle.pm_view.specs.View.{Told, View}
-use Rattle.pm_crash.specs.Calls.{Fact}
+use Rattle.pm_world.specs.Sights.{is_recorded}
+use Rattle.pm_crash.specs.Calls.{Fact, pending_of, told_by}
 use Rattle.pm_crash.specs.HeapChanges.{Makes}
-use Rattle.pm_crash.specs.Looked.{Enters, IsObject, KnowsWord, words_in}
+use Rattle.pm_crash.specs.Looked.{Enters, IsChanged, IsObject, KnowsWord, words_in}
+use Rattle.pm_crash.specs.OpenRuns.{after_told, no_pool}
 use Rattle.pm_crash.specs.Sim.{Sim, change_so_far, lists_of}
 
 -- a block that the call makes has an object of its size, and its other header words are 0
@@ -37,3 +41,41 @@ pub record IsOver (v : View) : Type 0 where
 -- SO ITS CALL HAS ITS FACT
 abbrev pub SimsAreFacts : Type 0
 SimsAreFacts = (v : View) → Sim v v.log.entries → IsOver v → Fact v
+
+-- ---- A TRANSACTION ENDS
+
+-- the lane's lists after these operations of its call
+abbrev pub lists_after : View → List Told → Transaction
+lists_after v told = after_told told (idle no_pool (pending_of v.entries))
+
+-- the operation ends the transaction of these lists: it aborts it, or commits its outermost level
+abbrev pub EndsTransaction : Transaction → Ran → Type 0
+EndsTransaction tx ran = (aborts ran ≡ true)
+    ⊎ ((ran.operation ≡ Commit) × (ran.reply ≡ None) × (tx.level ≡ 1))
+
+-- the call began with `begin`, and this operation, told last, ends its transaction
+pub record EndsWith (v : View) (earlier : List Told) (ran : Ran) : Type 0 where
+  pub begun : is_begun v.call ≡ true
+  pub call : v.call ≡ earlier ++ told_by ran ∷ []
+  pub ends : EndsTransaction (lists_after v earlier) ran
+
+-- NO TRANSACTION IS AT WORK THEN, whatever its log has
+abbrev pub TransactionsEnd : Type 0
+TransactionsEnd = (v : View) (earlier : List Told) (ran : Ran) → EndsWith v earlier ran
+    → is_working (lists_of v).stage ≡ false
+
+-- IT IS OVER where its log has no entries: it made and freed no block and sets no word, and what it
+-- recorded is data of blocks that it found
+abbrev pub CallsWithoutEntriesAreOver : Type 0
+CallsWithoutEntriesAreOver = (v : View) (earlier : List Told) (ran : Ran) → EndsWith v earlier ran
+    → v.log.entries ≡ [] → ((p : Place) → is_recorded v.log.records p ≡ true → IsChanged v p)
+    → IsOver v
+
+-- so it is where its log has nothing: all of it was rolled back, or it changed nothing
+abbrev pub CallsWithoutLogAreOver : Type 0
+CallsWithoutLogAreOver = (v : View) (earlier : List Told) (ran : Ran) → EndsWith v earlier ran
+    → v.log.entries ≡ [] → v.log.records ≡ [] → IsOver v
+
+-- SO THIS CALL HAS ITS FACT
+abbrev pub CallsWithoutEntriesHaveFacts : Type 0
+CallsWithoutEntriesHaveFacts = (v : View) → v.log.entries ≡ [] → Sim v [] → IsOver v → Fact v

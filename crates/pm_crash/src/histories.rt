@@ -1,4 +1,5 @@
-ghost use Rattle.pm_crash.specs.Facts.{DrawsKeepFacts, EffectsAreFacts, EffectsAreSteps, HistoriesHaveFacts, QuietCallsAreSteps};
+ghost use Rattle.pm_crash.specs.Facts.{DrawsKeepFacts, HistoriesHaveFacts};
+ghost use Rattle.pm_crash.specs.Facts.{EffectsAreFacts, EffectsAreSteps, QuietCallsAreSteps};
 ghost use Rattle.pm_crash.specs.Laws.{CallIsStep, EverySetMayBeKept, HistoryHolds};
 
 /// A law: a call whose fact holds is a step of the plain model, from whatever pool the kept bits

@@ -2,7 +2,8 @@ ghost use Rattle.pm_crash.specs.Sim.{SimBegins, SimGoesOn, SimIsKept, SimStays, 
 ghost use Rattle.pm_crash.specs.SimOps.{NoRootIsAsked, SimAborts, SimExtends, SimRefuses, SimWrites};
 ghost use Rattle.pm_crash.specs.SimAllocs.{SimAllocates, SimFrees, SimPublishes, SimReserves};
 ghost use Rattle.pm_crash.specs.SimCommits.{SimCommits};
-ghost use Rattle.pm_crash.specs.SimFacts.{SimsAreFacts};
+ghost use Rattle.pm_crash.specs.SimFacts.{CallsWithoutEntriesAreOver, CallsWithoutEntriesHaveFacts};
+ghost use Rattle.pm_crash.specs.SimFacts.{CallsWithoutLogAreOver, SimsAreFacts, TransactionsEnd};
 ghost use Rattle.pm_crash.specs.Looked.{ReadIs, RefusalIs};
 ghost use Rattle.pm_crash.specs.Looks.{RefusalsLook};
 
@@ -47,4 +48,14 @@ pub fn first_refusals_are_the_models()
 /// log, has the fact that its call owes. No code runs.
 pub fn transactions_have_facts()
     ensures { SimsAreFacts }
+{}
+
+/// A law: a transaction that began with `begin` is over after an operation that aborts it, by the script
+/// or by a refusal, and after the commit of its outermost level. Where its log has no entries, and its
+/// records are of blocks that it found or are retired, it has the fact that its call owes. No code runs.
+pub fn ended_transactions_are_over()
+    ensures ends { TransactionsEnd }
+    ensures entries { CallsWithoutEntriesAreOver }
+    ensures log { CallsWithoutLogAreOver }
+    ensures facts { CallsWithoutEntriesHaveFacts }
 {}

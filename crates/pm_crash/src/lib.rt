@@ -32,8 +32,8 @@ pub use histories::{
 };
 pub use images::images_mean_replays;
 pub use lanes::{
-    a_lane_follows_the_model, first_refusals_are_the_models, operations_follow_the_model,
-    transactions_have_facts,
+    a_lane_follows_the_model, ended_transactions_are_over, first_refusals_are_the_models,
+    operations_follow_the_model, transactions_have_facts,
 };
 pub use objects::{
     a_difference_changes_the_heap, blocks_are_items, good_heaps_hold_pools, own_blocks_are_free,
