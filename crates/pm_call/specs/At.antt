@@ -1,6 +1,6 @@
 -- A LANE AT WORK IN A TRANSACTION, between two of its operations: by plain data alone. Its log may grow; each object whose lock it has is found; its lists are
 -- those of the model's transaction that its operations led to; and from whatever bits it agrees with, what it told leads the model there.
-use Rattle.std.specs.Prelude.{◌≡◌, ℕ, ◌+◌, ◌*◌, ◌%◌, ◌^◌, ◌<◌, ◌≤◌, Bool, true, Contains, List, [], length, map, Option, Some, None}
+use Rattle.std.specs.Prelude.{◌≡◌, ℕ, ◌+◌, ◌*◌, ◌/◌, ◌%◌, ◌^◌, ◌<◌, ◌≤◌, Bool, true, false, Contains, List, [], length, map, Option, Some, None}
 use Rattle.std.specs.List.{AllByRecursion}
 use Rattle.pm_layout.specs.Areas.{greatest_generation, word_of_seal}
 use Rattle.pm_objects.specs.declared.history.TxErr.TheVariants as error
@@ -8,19 +8,20 @@ use Rattle.pm_model.specs.Pending.{SetWord}
 use Rattle.pm_model.specs.Transaction.{Transaction, is_locked, is_working}
 use Rattle.pm_record.specs.declared.redo.Op.TheVariants as op
 use Rattle.pm_record.specs.declared.redo.Redo.{Redo}
+use Rattle.pm_view.specs.Claims.{span}
 use Rattle.pm_view.specs.Entries.{Entry}
-use Rattle.pm_view.specs.Places.{Block, Place}
+use Rattle.pm_view.specs.Places.{Big, Place}
 use Rattle.pm_view.specs.Steps.Step.{NumberSeen}
 use Rattle.pm_view.specs.View.{View}
 use Rattle.pm_view.specs.Views.{value_in}
 use Rattle.pm_world.specs.InWorld.{IsSound}
 use Rattle.pm_world.specs.LaneFields.{Standing}
-use Rattle.pm_world.specs.Lanes.{is_occupancy}
 use Rattle.pm_world.specs.Sights.{is_recorded}
 use Rattle.pm_crash.specs.Facts.{HaveFacts}
 use Rattle.pm_crash.specs.Footprints.{has_found}
-use Rattle.pm_crash.specs.Looked.{size_seen, word_place, words_in}
+use Rattle.pm_crash.specs.Looked.{KnowsSize, size_seen, word_place, words_in}
 use Rattle.pm_crash.specs.Sim.{Sim, lists_of}
+use Rattle.pm_crash.specs.SimFacts.{is_begun}
 use Rattle.pm_undo.specs.Records.{kept_by}
 use Rattle.pm_undo.specs.Spans as spans
 use Rattle.pm_undo.specs.Working.{IsWorking}
@@ -55,9 +56,16 @@ pub record AreLists (s : Standing) (level : ℕ) (tx : Transaction) : Type 0 whe
   pub may_set : AllByRecursion (MaySet s) tx.sets
   pub error_is : tx.error ≡ error.None
 
--- a recorded word is of the data of a block that the lane found
-abbrev pub IsDataOf : View → Place → Type 0
-IsDataOf v p = (B : Block) × (k : ℕ) × (p ≡ word_place v B k) × (8 ≤ k) × (k < words_in v B) × (has_found v B ≡ true) × (is_occupancy v.fixed.shape B ≡ true)
+-- a recorded word is of the data of an object that the lane found, and of which it knows the size: in a line that the object has
+pub record IsDataOf (v : View) (p : Place) : Type 0 where
+  pub off : ℕ
+  pub object : KnowsSize v [] off
+  pub found : has_found v object.block ≡ true
+  pub index : ℕ
+  pub at : p ≡ word_place v object.block index
+  pub data_ : 8 ≤ index
+  pub within : index < words_in v object.block
+  pub alive : index / 8 ≤ (object.size + 63) / 64
 
 -- the call saw that it may take a number, and took none
 pub record MayTakeNumber (v : View) : Type 0 where
@@ -69,9 +77,12 @@ pub record MayTakeNumber (v : View) : Type 0 where
 -- AT WORK at this level of the model's transaction
 pub record IsAt (s : Standing) (level : ℕ) : Type 0 where
   pub working : IsWorking s.view
+  pub unbumped : s.view.log.bumped ≡ false
+  pub begun : is_begun s.view.call ≡ true
   pub some : 1 ≤ level
   pub most : level ≤ 64
   pub sound : IsSound s.view
+  pub spans : (f : ℕ) → has_found s.view (Big f) ≡ true → 1 ≤ span s.view.fixed.shape s.view.claims f
   pub sealed : value_in s.view (word_of_seal s.view.fixed.shape s.view.fixed.lane) ≡ Some 0
   pub number : MayTakeNumber s.view
   pub held : AreHeld s.view s.locks
