@@ -243,6 +243,12 @@ module _ (v : View) (entries : List Entry) (kept : Bool) (classes : ℕ → ℕ)
       let same : size_bits B ≡ now (word_place v B 1) = λ i b. sym (ap (λ o. over o (s (word_place v B 1) b)) (header_none B 1 b y.inside t (omega arith))) i in
       ap (λ w. val w 0 64) same ∙ number_is (now (word_place v B 1)) n kn.small (known_bits B 1 n y low kn (λ f z. lit_header (size_bits B) 1 (omega arith)))
 
+  -- a meaning looks at the words of a found object, as far as its size says
+  pub found_alive : (B : Block) (k size : ℕ) → IsObject v entries B → has_found v B ≡ true → given (turn d B) ≡ false → 1 < words_in v B → k < words_in v B
+      → KnowsWord v entries B 1 size → k / 8 ≤ (size + 63) / 64 → live s (geometry_of v) (is_run_to v) (word_place v B k) ≡ true
+  found_alive B k size y t u some low sized within = alive B k y t low
+      (le-leb (k / 8) ((val (size_bits B) 0 64 + 63) / 64) (subst (λ z. k / 8 ≤ (z + 63) / 64) (sym (size_before B size y t u some sized)) within))
+
   -- a word of its data
   pub data_known : (B : Block) (k n size : ℕ) → IsObject v entries B → 1 < words_in v B → k < words_in v B → KnowsWord v entries B 1 size
       → KnowsWord v entries B k n → k / 8 ≤ (size + 63) / 64

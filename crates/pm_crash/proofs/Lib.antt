@@ -45,6 +45,7 @@ pub mod OpenPools
 pub mod SimFacts
 pub mod EntryFacts
 pub mod SimOps
+pub mod Rollbacks
 pub mod SceneMoves
 pub mod SimWrites
 pub mod SceneBlocks

@@ -21,8 +21,8 @@ use Rattle.pm_crash.specs.SimOps.{LookedAt}
 use Rattle.pm_crash.specs.Spelled.{Holds}
 use Rattle.pm_crash.proofs.FreeBlocks.{are_free, is_free}
 use Rattle.pm_crash.proofs.SimBlocks.{objects_changed}
-use Rattle.pm_crash.proofs.SimOps.{first_is, holds_before, is_done, stay, x_before}
-use Rattle.pm_crash.proofs.Simulation.{sim_goes_on}
+use Rattle.pm_crash.proofs.SimOps.{first_is, holds_before, is_done, stay}
+use Rattle.pm_crash.proofs.Simulation.{agrees_back, sim_goes_on}
 
 -- one edit, and then none
 one_edit : (e : Edit) (items : Items) → all_edited (e ∷ []) items ≡ Rattle.pm_model.specs.Items.edited e items
@@ -44,13 +44,13 @@ module _ (v next : View) (entries entries' : List Entry) (root : Option ℕ) (ra
   tx = tx_with v (plain_pool pool) copy
 
   xb : Agrees classes v was s
-  xb = x_before v next entries entries' root ran tells grows looks kept classes s header pool x holds id c
+  xb = agrees_back v next (is_kept_by ran.operation kept) kept tells.keeps (grows kept) classes s x
 
   hb : Holds v.fixed.shape classes s header pool
-  hb = holds_before v next entries entries' root ran tells grows looks kept classes s header pool x holds id c
+  hb = holds_before v next entries entries' root ran tells looks kept classes s header pool x xb holds id c
 
   unrefused : refusal_of ran.seen tx ran.operation ≡ None
-  unrefused = first_is v next entries entries' root ran tells grows looks kept classes s header pool x holds id c ∙ none
+  unrefused = first_is v next entries entries' root ran tells looks kept classes s header pool x xb holds id c ∙ none
 
   -- the objects change, whatever the constants are called
   changed : (olds : List Old) (news : List New) → ChangesObjects v entries next entries' olds news → StandIn next.fixed.shape classes (bits_now next entries' s) (all_edited (object_edits olds news) copy)
@@ -118,7 +118,7 @@ module _ (v next : View) (entries entries' : List Entry) (root : Option ℕ) (ra
   pub reserving : (by : IsReservation v entries next entries' root ran) → LeadsOn v entries next entries' ran kept classes s (plain_pool pool)
   reserving by = record {
     replies = is_done tx ran kept (ap is_inside by.reserves) unrefused (subst (λ op. IsDone tx op kept ran.reply) (sym by.reserves) done);
-    stands = subst (StandIn next.fixed.shape classes (bits_now next entries' s)) (sym items) (stay v next entries entries' root ran tells grows looks kept classes s header pool x holds id c by.same);
+    stands = subst (StandIn next.fixed.shape classes (bits_now next entries' s)) (sym items) (stay v next entries entries' root ran tells looks kept classes s header pool x xb holds id c by.same);
   }
     where
       done : IsDone tx (Reserve by.size by.kind) kept ran.reply

@@ -52,9 +52,9 @@ use Rattle.pm_crash.proofs.NowBlocks as blocks
 use Rattle.pm_crash.proofs.OwnEntries as own
 use Rattle.pm_crash.proofs.OwnEntries.{kept_is_own, kept_more}
 use Rattle.pm_crash.proofs.SceneMoves.{BigIn, IsIn, SmallIn, place_by, scene_moved, word_at}
-use Rattle.pm_crash.proofs.SimOps.{first_is, holds_before, is_done, x_before}
+use Rattle.pm_crash.proofs.SimOps.{first_is, holds_before, is_done}
 use Rattle.pm_crash.proofs.SimWrites.{not_bitmap, not_descriptor}
-use Rattle.pm_crash.proofs.Simulation.{sim_goes_on}
+use Rattle.pm_crash.proofs.Simulation.{agrees_back, sim_goes_on}
 use Rattle.pm_crash.proofs.Spelling.{number_is}
 use Rattle.pm_crash.proofs.Covered.{byte_is_covered, covered_has_byte}
 use Rattle.pm_crash.proofs.SceneSteps.{scenes_are_written}
@@ -460,10 +460,10 @@ module _ (v next : View) (entries entries' : List Entry) (root : Option ℕ) (ra
   tx = tx_with v (plain_pool pool) old
 
   xb : Agrees classes v (is_kept_by ran.operation kept) s
-  xb = x_before v next entries entries' root ran tells grows by.looks kept classes s header pool x holds id c
+  xb = agrees_back v next (is_kept_by ran.operation kept) kept tells.keeps (grows kept) classes s x
 
   hb : Holds v.fixed.shape classes s header pool
-  hb = holds_before v next entries entries' root ran tells grows by.looks kept classes s header pool x holds id c
+  hb = holds_before v next entries entries' root ran tells by.looks kept classes s header pool x xb holds id c
 
   abbrev set_items : Items
   set_items = all_edited (set_edits (map (λ (q : Setting). q.set) by.settings)) old
@@ -473,7 +473,7 @@ module _ (v next : View) (entries entries' : List Entry) (root : Option ℕ) (ra
       (sets_now v next entries entries' by.settings by.sets (is_kept_by ran.operation kept) classes s header pool hb xb by.looks.enters old c.stands)
 
   unrefused : refusal_of ran.seen tx ran.operation ≡ None
-  unrefused = first_is v next entries entries' root ran tells grows by.looks kept classes s header pool x holds id c ∙ by.unrefused
+  unrefused = first_is v next entries entries' root ran tells by.looks kept classes s header pool x xb holds id c ∙ by.unrefused
 
   done : IsDone tx Commit kept ran.reply
   done = record { there = Rattle.std.proofs.lemmas.List.Elements.All-nil _; publishes = tt; value = by.replied }

@@ -290,7 +290,7 @@ given_second false m r x none t = absurd (both_ways false refl t)
 
 module _ (v : View) where
   -- no block is made or freed
-  no_block : (B : Block) → given (turn (change_so_far v []) B) ≡ false
+  pub no_block : (B : Block) → given (turn (change_so_far v []) B) ≡ false
   no_block (Small c i) = refl
   no_block (Big f) = refl
   no_block Root = refl
@@ -316,7 +316,7 @@ module _ (v : View) where
   changes_recorded known (Descr c) b t = absurd (both_ways false refl t)
   changes_recorded known RootWord b t = absurd (both_ways false refl t)
 
-  no_entries : ((p : Place) → is_recorded v.log.records p ≡ true → IsChanged v p) → Enters v []
+  pub no_entries : ((p : Place) → is_recorded v.log.records p ≡ true → IsChanged v p) → Enters v []
   no_entries known = record {
     makes = λ B m. made_none B m;
     frees = λ B m. freed_none B m;

@@ -19,7 +19,7 @@ use Rattle.pm_view.specs.Entries.{Entry}
 use Rattle.pm_view.specs.View.{Constants, View}
 use Rattle.pm_world.specs.States.{State, over}
 use Rattle.pm_crash.specs.Looked.{Enters, refusal_by}
-use Rattle.pm_crash.specs.Sim.{Agrees, Came, Grows, LeadsOn, SameBits, StandIn, Tells, bits_now, copy_of, lists_of, tx_with}
+use Rattle.pm_crash.specs.Sim.{Agrees, Came, LeadsOn, SameBits, StandIn, Tells, bits_now, copy_of, lists_of, tx_with}
 use Rattle.pm_crash.specs.SimOps.{Extends, Finds, IsAborted, LeavesBits, IsRefusedBy, LookedAt, RepliesBy, SimAborts, SimExtends, SimRefuses, leaves_copy}
 use Rattle.pm_crash.specs.Spelled.{Holds}
 use Rattle.pm_crash.proofs.Looked.{item_so, read_is, refusal_is}
@@ -66,9 +66,9 @@ pub is_refused : (tx : Transaction) (ran : Ran) (kept : Bool) (r : Refusal) → 
 is_refused tx ran kept r inside is y = record { inside = inside; reply = subst (λ o. MatchOption o (IsDone tx ran.operation kept ran.reply) (λ q. IsRefused q ran.reply)) (sym is) y }
 
 module _ (v next : View) (entries entries' : List Entry) (root : Option ℕ) (ran : Ran) (tells : Tells v next ran)
-    (grows : (kept : Bool) → Grows v (is_kept_by ran.operation kept) next kept) (looks : LookedAt v entries root ran.operation)
-    (kept : Bool) (classes : ℕ → ℕ) (s : State) (header : Header) (pool : PoolView) (x : Agrees classes next kept s) (holds : Holds next.fixed.shape classes s header pool)
-    (id : header.id ≡ next.fixed.pool) (c : Came v entries (is_kept_by ran.operation kept) classes s (plain_pool pool)) where
+    (looks : LookedAt v entries root ran.operation)
+    (kept : Bool) (classes : ℕ → ℕ) (s : State) (header : Header) (pool : PoolView) (x : Agrees classes next kept s) (x_before : Agrees classes v (is_kept_by ran.operation kept) s)
+    (holds : Holds next.fixed.shape classes s header pool) (id : header.id ≡ next.fixed.pool) (c : Came v entries (is_kept_by ran.operation kept) classes s (plain_pool pool)) where
   abbrev was : Bool
   was = is_kept_by ran.operation kept
 
@@ -77,9 +77,6 @@ module _ (v next : View) (entries entries' : List Entry) (root : Option ℕ) (ra
 
   abbrev tx : Transaction
   tx = tx_with v (plain_pool pool) copy
-
-  pub x_before : Agrees classes v was s
-  x_before = agrees_back v next was kept tells.keeps (grows kept) classes s x
 
   pub holds_before : Holds v.fixed.shape classes s header pool
   holds_before = holds_back v next tells.keeps classes s header pool holds
@@ -155,12 +152,12 @@ module _ (v next : View) (entries entries' : List Entry) (root : Option ℕ) (ra
 
 pub sim_extends : SimExtends
 sim_extends v next entries entries' root ran sim tells may grows by = sim_goes_on v next entries entries' ran sim tells may grows
-    (λ kept classes s header pool x holds id c. extended v next entries entries' root ran tells grows by.looks kept classes s header pool x holds id c by)
+    (λ kept classes s header pool x holds id c. extended v next entries entries' root ran tells by.looks kept classes s header pool x (agrees_back v next (is_kept_by ran.operation kept) kept tells.keeps (grows kept) classes s x) holds id c by)
 
 pub sim_refuses : SimRefuses
 sim_refuses v next entries entries' root ran sim tells may grows by = sim_goes_on v next entries entries' ran sim tells may grows
-    (λ kept classes s header pool x holds id c. refused_by v next entries entries' root ran tells grows by.looks kept classes s header pool x holds id c by)
+    (λ kept classes s header pool x holds id c. refused_by v next entries entries' root ran tells by.looks kept classes s header pool x (agrees_back v next (is_kept_by ran.operation kept) kept tells.keeps (grows kept) classes s x) holds id c by)
 
 pub sim_aborts : SimAborts
 sim_aborts v next entries root ran sim tells may grows by = sim_goes_on v next entries [] ran sim tells may grows
-    (λ kept classes s header pool x holds id c. aborted_so v next entries [] root ran tells grows by.looks kept classes s header pool x holds id c by refl)
+    (λ kept classes s header pool x holds id c. aborted_so v next entries [] root ran tells by.looks kept classes s header pool x (agrees_back v next (is_kept_by ran.operation kept) kept tells.keeps (grows kept) classes s x) holds id c by refl)

@@ -35,8 +35,8 @@ use Rattle.pm_crash.proofs.Looked.{read_is, size_word, words_so}
 use Rattle.pm_crash.proofs.OwnEntries as own
 use Rattle.pm_crash.proofs.SceneMoves.{BigIn, IsIn, SmallIn, place_by, scene_moved, word_at}
 use Rattle.pm_crash.proofs.SceneSteps.{scenes_are_written}
-use Rattle.pm_crash.proofs.SimOps.{first_is, holds_before, is_done, x_before}
-use Rattle.pm_crash.proofs.Simulation.{sim_goes_on}
+use Rattle.pm_crash.proofs.SimOps.{first_is, holds_before, is_done}
+use Rattle.pm_crash.proofs.Simulation.{agrees_back, sim_goes_on}
 use Rattle.pm_crash.proofs.Spelling.{number_is, with_block}
 
 -- no word of a block is a bitmap or a descriptor
@@ -249,17 +249,17 @@ module _ (v next : View) (entries entries' : List Entry) (root : Option ℕ) (ra
   was = is_kept_by ran.operation kept
 
   xb : Agrees classes v was s
-  xb = x_before v next entries entries' root ran tells grows by.looks kept classes s header pool x holds id c
+  xb = agrees_back v next (is_kept_by ran.operation kept) kept tells.keeps (grows kept) classes s x
 
   hb : Holds v.fixed.shape classes s header pool
-  hb = holds_before v next entries entries' root ran tells grows by.looks kept classes s header pool x holds id c
+  hb = holds_before v next entries entries' root ran tells by.looks kept classes s header pool x xb holds id c
 
   stands : StandIn next.fixed.shape classes (bits_now next entries' s) (edited (put_into by.off by.at by.bytes) old)
   stands = subst (λ (f : Constants). StandIn f.shape classes (bits_now next entries' s) (edited (put_into by.off by.at by.bytes) old)) (sym tells.keeps.fixed)
       (put_stands v next entries entries' by.off by.at by.bytes by.puts was classes s header pool hb xb by.looks.enters old c.stands)
 
   unrefused : Rattle.pm_model.specs.Refusals.refusal_of ran.seen tx ran.operation ≡ None
-  unrefused = first_is v next entries entries' root ran tells grows by.looks kept classes s header pool x holds id c ∙ by.unrefused
+  unrefused = first_is v next entries entries' root ran tells by.looks kept classes s header pool x xb holds id c ∙ by.unrefused
 
   write_done : (o : Oid) → ran.reply ≡ None → IsDone tx (Write o by.at by.bytes) kept ran.reply
   write_done o e = record { there = Rattle.std.proofs.lemmas.List.Elements.All-nil _; publishes = tt; value = e }

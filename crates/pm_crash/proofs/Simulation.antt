@@ -3,6 +3,7 @@ use Rattle.std.proofs.Common.{◌≡◌, ⊎_elim, ℕ, ◌&&◌, ◌||◌, ◌=
 use Rattle.std.proofs.lemmas.Bool.{or_cases, or_left, or_right}
 use Rattle.std.proofs.lemmas.List.{map-append}
 use Rattle.pm_header.specs.declared.header.Header.{Header}
+use Rattle.pm_objects.specs.declared.calls.Operation.{Operation}
 use Rattle.pm_objects.specs.declared.pool.PoolView.{PoolView}
 use Rattle.pm_model.specs.Inside.{Ran, Replies, after, is_kept_by}
 use Rattle.pm_model.specs.Items.{PlainPool, plain_pool}
@@ -18,7 +19,7 @@ use Rattle.pm_world.specs.States.{State, live, over}
 use Rattle.pm_crash.specs.Calls.{pending_of, told_by}
 use Rattle.pm_crash.specs.Footprints.{geometry_of, has_found, is_of_object, is_run_to}
 use Rattle.pm_crash.specs.OpenRuns.{AreReplies, MayFollow, after_told, no_pool}
-use Rattle.pm_crash.specs.Sim.{Agrees, Came, Grows, IsAsBefore, KeepsEntries, MayTell, SameBits, SimBegins, SimGoesOn, SimStays, StandIn, bits_now, change_so_far, copy_of, is_kept_block, lists_of, sees_at, tx_with}
+use Rattle.pm_crash.specs.Sim.{Agrees, Came, Grows, IsAsBefore, KeepsEntries, LeadsOn, MayTell, SameBits, Sim, SimBegins, SimGoesOn, SimStays, StandIn, Tells, bits_now, change_so_far, copy_of, is_kept_block, lists_of, sees_at, tx_with}
 use Rattle.pm_crash.specs.Spelled.{Holds}
 use Rattle.pm_crash.proofs.OpenRuns.{replies_once_more, told_apart, told_once_more}
 use Rattle.pm_crash.proofs.SceneSteps.{scenes_begin}
@@ -165,13 +166,25 @@ may_follow v pool (r ∷ runs) told may = ⊎_elim
     ∙ (ap (λ (tx : Transaction). is_working tx.stage) (now_is v pool) ∙ works))
     may
 
-pub sim_goes_on : SimGoesOn
-sim_goes_on v next entries entries' ran sim tells may grows owes = record { come = come } where
+-- what agrees with the lane then agrees with it before the operation
+abbrev pub AgreesBack : View → View → Operation → Type 0
+AgreesBack v next op = (kept : Bool) (classes : ℕ → ℕ) (s : State) (header : Header) (pool : PoolView)
+    → Agrees classes next kept s → Holds next.fixed.shape classes s header pool → Agrees classes v (is_kept_by op kept) s
+
+pub sim_goes_back : (v next : View) (entries entries' : List Entry) (ran : Ran) → Sim v entries
+    → Tells v next ran → MayTell v → AgreesBack v next ran.operation
+    → ((kept : Bool) (classes : ℕ → ℕ) (s : State) (header : Header) (pool : PoolView)
+    → Agrees classes next kept s → Holds next.fixed.shape classes s header pool
+    → header.id ≡ next.fixed.pool
+    → Came v entries (is_kept_by ran.operation kept) classes s (plain_pool pool)
+    → LeadsOn v entries next entries' ran kept classes s (plain_pool pool))
+    → Sim next entries'
+sim_goes_back v next entries entries' ran sim tells may back owes = record { come = come } where
   come : (kept : Bool) (classes : ℕ → ℕ) (s : State) (header : Header) (pool : PoolView) → Agrees classes next kept s → Holds next.fixed.shape classes s header pool → header.id ≡ next.fixed.pool → Came next entries' kept classes s (plain_pool pool)
   come kept classes s header pool x holds id =
       let keeps = tells.keeps in
       let was : Bool = is_kept_by ran.operation kept in
-      let c = sim.come was classes s header pool (agrees_back v next was kept keeps (grows kept) classes s x) (holds_back v next keeps classes s header pool holds) (header_back v next keeps header id) in
+      let c = sim.come was classes s header pool (back kept classes s header pool x holds) (holds_back v next keeps classes s header pool holds) (header_back v next keeps header id) in
       let leads = owes kept classes s header pool x holds id c in
       let start : Transaction = idle (plain_pool pool) (pending_of v.entries) in
       let now : after_told (map told_by c.runs) start ≡ tx_with v (plain_pool pool) (copy_of v (plain_pool pool)) = ap (λ (t : List Told). after_told t start) c.told ∙ now_is v (plain_pool pool) in
@@ -187,3 +200,7 @@ sim_goes_on v next entries entries' ran sim tells may grows owes = record { come
             (replies_once_more kept c.runs ran start c.replies (may_follow v (plain_pool pool) c.runs c.told may) (subst (λ (tx : Transaction). Replies tx ran kept) (sym now) leads.replies));
         stands = subst (StandIn next.fixed.shape classes (bits_now next entries' s)) copy leads.stands;
       }
+
+pub sim_goes_on : SimGoesOn
+sim_goes_on v next entries entries' ran sim tells may grows owes = sim_goes_back v next entries entries' ran sim tells may
+    (λ kept classes s header pool x holds. agrees_back v next (is_kept_by ran.operation kept) kept tells.keeps (grows kept) classes s x) owes

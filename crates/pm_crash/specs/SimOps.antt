@@ -16,11 +16,14 @@ use Rattle.pm_words.specs.Words.{AreBytes}
 use Rattle.pm_objects.specs.declared.ids.Oid.{Oid}
 use Rattle.pm_model.specs.Refusals.{is_first_lock}
 use Rattle.pm_view.specs.Entries.{Entry}
+use Rattle.pm_view.specs.Log.{Recorded}
 use Rattle.pm_view.specs.Places.{Block, Place}
 use Rattle.pm_view.specs.View.{View}
 use Rattle.pm_world.specs.Memory.{bit}
+use Rattle.pm_world.specs.Sights.{is_recorded}
 use Rattle.pm_world.specs.States.{State}
-use Rattle.pm_crash.specs.Looked.{Enters, HasRoot, KnowsSizes, IsObject, KnowsRange, KnowsSize, KnowsWord, bytes_seen, refusal_by, word_place}
+use Rattle.pm_crash.specs.Footprints.{bit_before, has_found}
+use Rattle.pm_crash.specs.Looked.{Enters, HasRoot, KnowsSizes, IsObject, KnowsRange, KnowsSize, KnowsWord, bytes_seen, refusal_by, word_place, words_in}
 use Rattle.pm_crash.specs.Looks.{ids_freed}
 use Rattle.pm_crash.specs.Sim.{Agrees, change_so_far, Grows, MayTell, SameBits, Sim, Tells, known_offset, lists_of}
 use Rattle.pm_crash.specs.Spelled.{Holds}
@@ -125,6 +128,37 @@ SimAborts = (v next : View) (entries : List Entry) (root : Option ℕ) (ran : Ra
     → Sim v entries → Tells v next ran → MayTell v
     → ((kept : Bool) → Grows v (is_kept_by ran.operation kept) next kept)
     → IsAborted v entries next root ran → Sim next []
+
+-- ---- A TRANSACTION THAT RECORDED WORDS is rolled back: it puts them back and retires its records
+
+-- the view, with these records in its log
+abbrev pub with_records : List Recorded → View → View
+with_records records v = record v { log = record v.log { records = records } }
+
+-- a word that they cover is one of an object that the lane found, as far as the object's size says;
+-- and without them the lane knows the word as it was before the call
+pub record IsPutBack (v : View) (records : List Recorded) (p : Place) : Type 0 where
+  pub off : ℕ
+  pub object : KnowsSize v [] off
+  pub found : has_found v object.block ≡ true
+  pub index : ℕ
+  pub at : p ≡ word_place v object.block index
+  pub within : index < words_in v object.block
+  pub alive : index / 8 ≤ (object.size + 63) / 64
+  pub old : (b : ℕ) (y : Bool) → bit_before (with_records records v) p b ≡ Some y
+      → bit_before v p b ≡ Some y
+
+-- with its records the lane would know no less then, and it put back what they cover
+pub record RollsBack (v next : View) (op : Operation) : Type 0 where
+  pub grows : (kept : Bool) → Grows v (is_kept_by op kept) (with_records v.log.records next) kept
+  pub put_back : (p : Place) → is_recorded v.log.records p ≡ true
+      → IsPutBack next v.log.records p
+  pub retired : next.log.records ≡ []
+
+abbrev pub SimRollsBack : Type 0
+SimRollsBack = (v next : View) (entries : List Entry) (root : Option ℕ) (ran : Ran)
+    → Sim v entries → Tells v next ran → MayTell v → RollsBack v next ran.operation
+    → IsAborted v entries next root ran ⊎ IsRefusedBy v entries next [] root ran → Sim next []
 
 -- ---- A WRITE: bytes of an object are put in, in words that the lane knows
 

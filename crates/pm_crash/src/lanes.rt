@@ -1,5 +1,6 @@
 ghost use Rattle.pm_crash.specs.Sim.{SimBegins, SimGoesOn, SimIsKept, SimStays, TellsGrow};
-ghost use Rattle.pm_crash.specs.SimOps.{NoRootIsAsked, SimAborts, SimExtends, SimRefuses, SimWrites};
+ghost use Rattle.pm_crash.specs.SimOps.{NoRootIsAsked, SimAborts, SimExtends, SimRefuses};
+ghost use Rattle.pm_crash.specs.SimOps.{SimRollsBack, SimWrites};
 ghost use Rattle.pm_crash.specs.SimAllocs.{SimAllocates, SimFrees, SimPublishes, SimReserves};
 ghost use Rattle.pm_crash.specs.SimCommits.{SimCommits};
 ghost use Rattle.pm_crash.specs.SimFacts.{CallsWithoutEntriesAreOver, CallsWithoutEntriesHaveFacts};
@@ -20,12 +21,13 @@ pub fn a_lane_follows_the_model()
 {}
 
 /// A law: what each operation owes has no bits in it. Operations on the lane's lists, those that are
-/// refused, and abort; writes and increments; objects that are freed, made, reserved and published; and
-/// commits, with the words that they set. No code runs.
+/// refused, and abort, of a transaction that recorded words too; writes and increments; objects that are
+/// freed, made, reserved and published; and commits, with the words that they set. No code runs.
 pub fn operations_follow_the_model()
     ensures extends { SimExtends }
     ensures refuses { SimRefuses }
     ensures aborts { SimAborts }
+    ensures rolls_back { SimRollsBack }
     ensures writes { SimWrites }
     ensures frees { SimFrees }
     ensures allocates { SimAllocates }

@@ -1,3 +1,4 @@
+use Rattle.pm_crash.proofs.Rollbacks.{sim_rolls_back}
 use Rattle.pm_crash.proofs.SimAllocs.{sim_allocates, sim_frees, sim_publishes, sim_reserves}
 use Rattle.pm_crash.proofs.SimCommits.{sim_commits}
 use Rattle.pm_crash.proofs.SimOps.{sim_aborts, sim_extends, sim_refuses}
@@ -12,6 +13,9 @@ returns-clause-refuses c = sim_refuses
 
 pub returns-clause-aborts : goal.returns-clause-aborts
 returns-clause-aborts c = sim_aborts
+
+pub returns-clause-rolls_back : goal.returns-clause-rolls_back
+returns-clause-rolls_back c = sim_rolls_back
 
 pub returns-clause-writes : goal.returns-clause-writes
 returns-clause-writes c = sim_writes

@@ -1,0 +1,88 @@
+-- A transaction that put back what it recorded knows no less without its records.
+use Rattle.std.proofs.Common.{◌≡◌, ⊎_elim, ℕ, ◌<◌, Bool, true, false, List, [], Option, Some, refl, sym, ◌∙◌, ap, subst, arith}
+use Rattle.std.specs.Option.{option_map}
+use Rattle.std.proofs.lemmas.Bool.{both_ways, cases_Bool, or_cases, or_right}
+use Rattle.pm_header.specs.declared.header.Header.{Header}
+use Rattle.pm_objects.specs.declared.pool.PoolView.{PoolView}
+use Rattle.pm_model.specs.Inside.{is_kept_by}
+use Rattle.pm_view.specs.Entries.{first_of_two}
+use Rattle.pm_view.specs.Log.{Recorded, old_of}
+use Rattle.pm_view.specs.Places.{Place, Block, Small, Big, Root}
+use Rattle.pm_view.specs.View.{View}
+use Rattle.pm_world.specs.Lanes.{sees}
+use Rattle.pm_world.specs.Memory.{bit}
+use Rattle.pm_world.specs.Sights.{is_recorded, picture, sight_of}
+use Rattle.pm_world.specs.States.{State, live}
+use Rattle.pm_crash.specs.Footprints.{bit_before, geometry_of, is_of_object, is_run_to}
+use Rattle.pm_crash.specs.Looked.{Enters, words_in}
+use Rattle.pm_crash.specs.Sim.{Agrees, KeepsEntries}
+use Rattle.pm_crash.specs.SimOps.{IsAborted, IsPutBack, IsRefusedBy, SimRollsBack, with_records}
+use Rattle.pm_crash.specs.Spelled.{Holds}
+use Rattle.pm_crash.proofs.KnownWords.{found_alive, none_of}
+use Rattle.pm_crash.proofs.SimFacts.{no_block, no_entries}
+use Rattle.pm_crash.proofs.SimOps.{aborted_so, refused_by}
+use Rattle.pm_crash.proofs.Simulation.{agrees_back, sim_goes_back}
+
+module _ (next : View) (records : List Recorded) (none : next.log.records ≡ []) (back : (p : Place) → is_recorded records p ≡ true → IsPutBack next records p)
+    (kept : Bool) (classes : ℕ → ℕ) (s : State) (header : Header) (pool : PoolView) (holds : Holds next.fixed.shape classes s header pool) (x : Agrees classes next kept s) where
+  enters : Enters next []
+  enters = no_entries next (λ p t. absurd (both_ways false refl (ap (λ (rs : List Recorded). is_recorded rs p) (sym none) ∙ t)))
+
+  some_words : (B : Block) (k : ℕ) → k < words_in next B → 1 < words_in next B
+  some_words (Small c i) k low = omega arith
+  some_words (Big f) k low = omega arith
+  some_words Root k low = absurd (omega arith)
+
+  -- a meaning looks at what was put back
+  alive_there : (p : Place) → IsPutBack next records p → live s (geometry_of next) (is_run_to next) p ≡ true
+  alive_there p y = subst (λ (q : Place). live s (geometry_of next) (is_run_to next) q ≡ true) (sym y.at)
+      (found_alive next [] kept classes s header pool holds x enters y.object.block y.index y.object.size y.object.object y.found (no_block next y.object.block)
+      (some_words y.object.block y.index y.within) y.within y.object.knows y.alive)
+
+  known_back : (p : Place) (b : ℕ) (y : Bool) → sees (geometry_of next) s (sight_of next).hold p b ≡ true → is_recorded records p ≡ true
+      → bit_before (with_records records next) p b ≡ Some y → s p b ≡ y
+  known_back p b y t r e = x.known p b y t (or_right (is_recorded next.log.records p) (live s (geometry_of next) (is_run_to next) p) (alive_there p (back p r))) ((back p r).old b y e)
+
+  -- of other words the records tell nothing
+  same_before : (p : Place) (b : ℕ) → is_recorded records p ≡ false → bit_before (with_records records next) p b ≡ bit_before next p b
+  same_before p b n =
+      ap (λ (o : Option ℕ). first_of_two (option_map (λ w. bit w b) o) (picture next.fixed.shape next.claims p b)) (none_of (old_of records p) n)
+      ∙ sym (ap (λ (rs : List Recorded). first_of_two (option_map (λ w. bit w b) (old_of rs p)) (picture next.fixed.shape next.claims p b)) none)
+
+  known_else : (p : Place) (b : ℕ) (y : Bool) → sees (geometry_of next) s (sight_of next).hold p b ≡ true → is_recorded records p ≡ false
+      → is_of_object (with_records records next) s p ≡ true → bit_before (with_records records next) p b ≡ Some y → s p b ≡ y
+  known_else p b y t n o e = x.known p b y t
+      (or_right (is_recorded next.log.records p) (live s (geometry_of next) (is_run_to next) p) (⊎_elim
+      (λ (r : is_recorded records p ≡ true). absurd (both_ways (is_recorded records p) n r))
+      (λ (l : live s (geometry_of next) (is_run_to next) p ≡ true). l)
+      (or_cases (is_recorded records p) (live s (geometry_of next) (is_run_to next) p) o)))
+      (sym (same_before p b n) ∙ e)
+
+  pub agrees_with_records : Agrees classes (with_records records next) kept s
+  agrees_with_records = record {
+    found = x.found;
+    spans = x.spans;
+    whole = x.whole;
+    plain = x.plain;
+    class = x.class;
+    known = λ p b y t o e. ⊎_elim
+        (λ (r : is_recorded records p ≡ true). known_back p b y t r e)
+        (λ (n : is_recorded records p ≡ false). known_else p b y t n o e)
+        (cases_Bool (is_recorded records p));
+    apart = x.apart;
+  }
+
+pub sim_rolls_back : SimRollsBack
+sim_rolls_back v next entries root ran sim tells may rolls by = sim_goes_back v next entries [] ran sim tells may before
+    (λ kept classes s header pool x holds id c. ⊎_elim
+    (λ (a : IsAborted v entries next root ran). aborted_so v next entries [] root ran tells a.looks kept classes s header pool x (before kept classes s header pool x holds) holds id c a refl)
+    (λ (r : IsRefusedBy v entries next [] root ran). refused_by v next entries [] root ran tells r.looks kept classes s header pool x (before kept classes s header pool x holds) holds id c r)
+    by)
+  where
+    keeps : KeepsEntries v (with_records v.log.records next)
+    keeps = record { fixed = tells.keeps.fixed; entries = tells.keeps.entries }
+
+    before : (kept : Bool) (classes : ℕ → ℕ) (s : State) (header : Header) (pool : PoolView) → Agrees classes next kept s → Holds next.fixed.shape classes s header pool
+        → Agrees classes v (is_kept_by ran.operation kept) s
+    before kept classes s header pool x holds = agrees_back v (with_records v.log.records next) (is_kept_by ran.operation kept) kept keeps (rolls.grows kept) classes s
+        (agrees_with_records next v.log.records rolls.retired rolls.put_back kept classes s header pool holds x)
