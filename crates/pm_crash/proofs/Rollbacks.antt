@@ -16,14 +16,14 @@ use Rattle.pm_world.specs.States.{State, live}
 use Rattle.pm_crash.specs.Footprints.{bit_before, geometry_of, is_of_object, is_run_to}
 use Rattle.pm_crash.specs.Looked.{Enters, words_in}
 use Rattle.pm_crash.specs.Sim.{Agrees, KeepsEntries}
-use Rattle.pm_crash.specs.SimOps.{IsAborted, IsPutBack, IsRefusedBy, SimRollsBack, with_records}
+use Rattle.pm_crash.specs.SimOps.{IsAborted, KnowsWithoutRecords, IsRefusedBy, SimRollsBack, with_records}
 use Rattle.pm_crash.specs.Spelled.{Holds}
 use Rattle.pm_crash.proofs.KnownWords.{found_alive, none_of}
 use Rattle.pm_crash.proofs.SimFacts.{no_block, no_entries}
 use Rattle.pm_crash.proofs.SimOps.{aborted_so, refused_by}
 use Rattle.pm_crash.proofs.Simulation.{agrees_back, sim_goes_back}
 
-module _ (next : View) (records : List Recorded) (none : next.log.records ≡ []) (back : (p : Place) → is_recorded records p ≡ true → IsPutBack next records p)
+module _ (next : View) (records : List Recorded) (none : next.log.records ≡ []) (back : (p : Place) → is_recorded records p ≡ true → KnowsWithoutRecords next records p)
     (kept : Bool) (classes : ℕ → ℕ) (s : State) (header : Header) (pool : PoolView) (holds : Holds next.fixed.shape classes s header pool) (x : Agrees classes next kept s) where
   enters : Enters next []
   enters = no_entries next (λ p t. absurd (both_ways false refl (ap (λ (rs : List Recorded). is_recorded rs p) (sym none) ∙ t)))
@@ -34,7 +34,7 @@ module _ (next : View) (records : List Recorded) (none : next.log.records ≡ []
   some_words Root k low = absurd (omega arith)
 
   -- a meaning looks at what was put back
-  alive_there : (p : Place) → IsPutBack next records p → live s (geometry_of next) (is_run_to next) p ≡ true
+  alive_there : (p : Place) → KnowsWithoutRecords next records p → live s (geometry_of next) (is_run_to next) p ≡ true
   alive_there p y = subst (λ (q : Place). live s (geometry_of next) (is_run_to next) q ≡ true) (sym y.at)
       (found_alive next [] kept classes s header pool holds x enters y.object.block y.index y.object.size y.object.object y.found (no_block next y.object.block)
       (some_words y.object.block y.index y.within) y.within y.object.knows y.alive)

@@ -54,26 +54,26 @@ EndsTransaction tx ran = (aborts ran ≡ true)
     ⊎ ((ran.operation ≡ Commit) × (ran.reply ≡ None) × (tx.level ≡ 1))
 
 -- the call began with `begin`, and this operation, told last, ends its transaction
-pub record EndsWith (v : View) (earlier : List Told) (ran : Ran) : Type 0 where
+pub record EndsCall (v : View) (earlier : List Told) (ran : Ran) : Type 0 where
   pub begun : is_begun v.call ≡ true
   pub call : v.call ≡ earlier ++ told_by ran ∷ []
   pub ends : EndsTransaction (lists_after v earlier) ran
 
 -- NO TRANSACTION IS AT WORK THEN, whatever its log has
 abbrev pub TransactionsEnd : Type 0
-TransactionsEnd = (v : View) (earlier : List Told) (ran : Ran) → EndsWith v earlier ran
+TransactionsEnd = (v : View) (earlier : List Told) (ran : Ran) → EndsCall v earlier ran
     → is_working (lists_of v).stage ≡ false
 
 -- IT IS OVER where its log has no entries: it made and freed no block and sets no word, and what it
 -- recorded is data of blocks that it found
 abbrev pub CallsWithoutEntriesAreOver : Type 0
-CallsWithoutEntriesAreOver = (v : View) (earlier : List Told) (ran : Ran) → EndsWith v earlier ran
+CallsWithoutEntriesAreOver = (v : View) (earlier : List Told) (ran : Ran) → EndsCall v earlier ran
     → v.log.entries ≡ [] → ((p : Place) → is_recorded v.log.records p ≡ true → IsChanged v p)
     → IsOver v
 
 -- so it is where its log has nothing: all of it was rolled back, or it changed nothing
 abbrev pub CallsWithoutLogAreOver : Type 0
-CallsWithoutLogAreOver = (v : View) (earlier : List Told) (ran : Ran) → EndsWith v earlier ran
+CallsWithoutLogAreOver = (v : View) (earlier : List Told) (ran : Ran) → EndsCall v earlier ran
     → v.log.entries ≡ [] → v.log.records ≡ [] → IsOver v
 
 -- SO THIS CALL HAS ITS FACT

@@ -137,7 +137,7 @@ with_records records v = record v { log = record v.log { records = records } }
 
 -- a word that they cover is one of an object that the lane found, as far as the object's size says;
 -- and without them the lane knows the word as it was before the call
-pub record IsPutBack (v : View) (records : List Recorded) (p : Place) : Type 0 where
+pub record KnowsWithoutRecords (v : View) (records : List Recorded) (p : Place) : Type 0 where
   pub off : ℕ
   pub object : KnowsSize v [] off
   pub found : has_found v object.block ≡ true
@@ -152,7 +152,7 @@ pub record IsPutBack (v : View) (records : List Recorded) (p : Place) : Type 0 w
 pub record RollsBack (v next : View) (op : Operation) : Type 0 where
   pub grows : (kept : Bool) → Grows v (is_kept_by op kept) (with_records v.log.records next) kept
   pub put_back : (p : Place) → is_recorded v.log.records p ≡ true
-      → IsPutBack next v.log.records p
+      → KnowsWithoutRecords next v.log.records p
   pub retired : next.log.records ≡ []
 
 abbrev pub SimRollsBack : Type 0
