@@ -1,6 +1,6 @@
 -- A LANE AT WORK IN A TRANSACTION, between two of its operations: by plain data alone. Its log may grow; each object whose lock it has is found; its lists are
 -- those of the model's transaction that its operations led to; and from whatever bits it agrees with, what it told leads the model there.
-use Rattle.std.specs.Prelude.{◌≡◌, ℕ, ◌+◌, ◌*◌, ◌%◌, ◌^◌, ◌<◌, ◌≤◌, Bool, true, Contains, List, [], length, map, Option, Some, None}
+use Rattle.std.specs.Prelude.{◌≡◌, ℕ, ◌+◌, ◌*◌, ◌/◌, ◌%◌, ◌^◌, ◌<◌, ◌≤◌, Bool, true, false, Contains, List, [], length, map, Option, Some, None}
 use Rattle.std.specs.List.{AllByRecursion}
 use Rattle.pm_layout.specs.Areas.{greatest_generation, word_of_seal}
 use Rattle.pm_objects.specs.declared.history.TxErr.TheVariants as error
@@ -9,7 +9,7 @@ use Rattle.pm_model.specs.Transaction.{Transaction, is_locked, is_working}
 use Rattle.pm_record.specs.declared.redo.Op.TheVariants as op
 use Rattle.pm_record.specs.declared.redo.Redo.{Redo}
 use Rattle.pm_view.specs.Entries.{Entry}
-use Rattle.pm_view.specs.Places.{Block, Place, word_of}
+use Rattle.pm_view.specs.Places.{Place, word_of}
 use Rattle.pm_view.specs.Steps.Step.{NumberSeen}
 use Rattle.pm_view.specs.View.{View}
 use Rattle.pm_view.specs.Views.{value_in}
@@ -17,12 +17,14 @@ use Rattle.pm_world.specs.InWorld.{IsSound}
 use Rattle.pm_world.specs.LaneFields.{Standing}
 use Rattle.pm_world.specs.Sights.{is_recorded}
 use Rattle.pm_crash.specs.Facts.{HaveFacts}
-use Rattle.pm_crash.specs.Looked.{size_seen, word_place}
+use Rattle.pm_crash.specs.Footprints.{has_found}
+use Rattle.pm_crash.specs.Looked.{KnowsSize, size_seen, word_place, words_in}
 use Rattle.pm_crash.specs.Sim.{Sim, lists_of}
+use Rattle.pm_crash.specs.SimFacts.{is_begun}
 use Rattle.pm_undo.specs.Records.{kept_by}
 use Rattle.pm_undo.specs.Spans as spans
 use Rattle.pm_undo.specs.Working.{IsWorking}
-use Rattle.pm_call.specs.Held.{AreHeld, IsObjectWord, is_in_locks}
+use Rattle.pm_call.specs.Held.{AreHeld, is_in_locks}
 
 -- the entries of the blocks that the call made and freed so far: none, as long as no call of a transaction makes or frees a block
 abbrev pub entries_so_far : Standing → List Entry
@@ -53,13 +55,16 @@ pub record AreLists (s : Standing) (level : ℕ) (tx : Transaction) : Type 0 whe
   pub may_set : AllByRecursion (MaySet s) tx.sets
   pub error_is : tx.error ≡ error.None
 
--- a recorded word is of the data of a block that the lane found, and known
+-- a recorded word is of the data of an object that the lane found, and of which it knows the size: in a line that the object has. The lane knows the word too
 pub record IsDataOf (v : View) (p : Place) : Type 0 where
-  pub block : Block
+  pub off : ℕ
+  pub object : KnowsSize v [] off
+  pub found : has_found v object.block ≡ true
   pub index : ℕ
-  pub is : p ≡ word_place v block index
-  pub word : IsObjectWord v block index
+  pub at : p ≡ word_place v object.block index
   pub data_ : 8 ≤ index
+  pub within : index < words_in v object.block
+  pub alive : index / 8 ≤ (object.size + 63) / 64
   pub value : ℕ
   pub known : value_in v (word_of v.fixed.shape p) ≡ Some value
 
@@ -73,6 +78,8 @@ pub record MayTakeNumber (v : View) : Type 0 where
 -- AT WORK at this level of the model's transaction
 pub record IsAt (s : Standing) (level : ℕ) : Type 0 where
   pub working : IsWorking s.view
+  pub unbumped : s.view.log.bumped ≡ false
+  pub begun : is_begun s.view.call ≡ true
   pub some : 1 ≤ level
   pub most : level ≤ 64
   pub sound : IsSound s.view

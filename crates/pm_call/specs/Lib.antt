@@ -2,3 +2,4 @@ pub mod Held
 pub mod At
 pub mod Plans
 pub mod Did
+pub mod GivenUp

@@ -90,11 +90,12 @@ module _ (v : View) (working : IsWorking v) where
     pub same : u ≡ record v { claims = u.claims; changes = u.changes; calls = u.calls }
     pub far : AllByRecursion (λ (c : Undrained). IsBeyond sh c.word) u.changes
     pub others : (p : Place) → is_data p ≡ true → place_in v (word_of sh p) ≡ Some p → is_recorded records p ≡ false → known sh (runs_one v) u.claims (word_of sh p) ≡ knows v (word_of sh p)
+    pub stays : (y : ℕ) → ((p : Place) → is_recorded records p ≡ true → y ≢ word_of sh p) → pictured sh u.claims y ≡ pictured sh v.claims y
     pub ends : pictured sh u.claims (word_of_generation sh v.fixed.lane) ≡ pictured sh v.claims (word_of_generation sh v.fixed.lane)
     pub done : (m i : ℕ) → IsDone k j m i → m < length records → i < length (get_or records m no_recorded).old → pictured sh u.claims (word_at m i) ≡ Some (slice_index (get_or records m no_recorded).old i)
 
   pub putting_starts : Putting 0 0 v
-  putting_starts = record { notes = []; are = refl; each = tt; same = refl; far = working.clean; others = λ p plain at new. refl; ends = refl; done = λ m i d low small. absurd (⊎_elim (λ (a : m < 0). omega (arith, a)) (λ (a : (m ≡ 0) × (i < 0)). let b = a.1 in omega (arith, b)) d) }
+  putting_starts = record { notes = []; are = refl; each = tt; same = refl; far = working.clean; others = λ p plain at new. refl; stays = λ y other. refl; ends = refl; done = λ m i d low small. absurd (⊎_elim (λ (a : m < 0). omega (arith, a)) (λ (a : (m ≡ 0) × (i < 0)). let b = a.1 in omega (arith, b)) d) }
 
   module _ (k j : ℕ) (u : View) (p : Putting k j u) where
     fixed_ : u.fixed ≡ v.fixed
@@ -143,6 +144,7 @@ module _ (v : View) (working : IsWorking v) where
               ∙ (ap (λ (y : View). record y { claims = claims_persisted u.changes u.log u.claims; changes = []; calls = w.calls }) p.same ∙ ap (λ (y : View). record v { claims = y.claims; changes = y.changes; calls = w.calls }) (sym is)));
           far = subst (AllByRecursion (λ (c : Undrained). IsBeyond sh c.word)) (sym (ap (λ (y : View). y.changes) is)) tt;
           others = λ q plain at new. kn (word_of sh q) ∙ p.others q plain at new;
+          stays = λ y other. pi y ∙ p.stays y other;
           ends = pi (word_of_generation sh v.fixed.lane) ∙ p.ends;
           done = λ m i d low small. pi (word_at m i) ∙ p.done m i d low small;
         }
@@ -220,6 +222,7 @@ module _ (v : View) (working : IsWorking v) where
         same = ap (λ (y : View). record y { claims = Knows w x ∷ u.claims; changes = changed_word ∷ u.changes; calls = u.calls + 1 }) p.same;
         far = (far_, p.far);
         others = λ p' plain at new. known_noted sh u.claims (runs_one v) (Valued w x) tt (word_of sh p') (other_word p' at (λ e. both_ways (is_recorded records p') new (subst (λ y. is_recorded records y ≡ true) (sym e) (has_one records k q low has_)))) ∙ p.others p' plain at new;
+        stays = λ y other. pictured_noted sh u.claims (Valued w x) tt y (λ e. other q (has_one records k q low has_) (sym e)) ∙ p.stays y other;
         ends = pictured_noted sh u.claims (Valued w x) tt (word_of_generation sh v.fixed.lane) (λ e. let a = working.lane in let f = far_ in omega (arith, e, f, a)) ∙ p.ends;
         done = λ m i d lower smaller. go m i d lower smaller;
       })

@@ -78,6 +78,7 @@ module _ (v : View) (working : IsWorking v) where
         same = p.same;
         far = p.far;
         others = p.others;
+        stays = p.stays;
         ends = p.ends;
         done = λ m i d lower smaller. p.done m i (⊎_elim (λ (less : m < k + 1). split m i less smaller) (λ (here : (m ≡ k + 1) × (i < 0)). absurd (let z = here.1 in omega (arith, z))) d) lower smaller;
       }
@@ -140,6 +141,7 @@ module _ (v : View) (working : IsWorking v) where
       noted = record { notes = p.notes; are = p.are; each = p.each };
       restored = subst (λ (g : Constants). AreRestored (picture g.shape u.claims) u.log.records) (sym fixed_) (subst (λ (l : Log). AreRestored (picture sh u.claims) l.records) (sym log_) restored_);
       known = λ q plain at new. ap (λ (g : Constants). known g.shape (g.lanes == 1) u.claims (word_of sh q)) fixed_ ∙ p.others q plain at new;
+      others = λ y other. ap (λ (g : Constants). pictured g.shape u.claims y) fixed_ ∙ p.stays y other;
       working = works_;
     }
 

@@ -1,5 +1,5 @@
 -- A lane whose log may grow, be put back and be retired, on its view alone; and what each of these leaves of the view.
-use Rattle.std.specs.Prelude.{◌≡◌, ℕ, ◌+◌, ◌*◌, ◌^◌, ◌<◌, ◌≤◌, true, false, List, [], ◌∷◌, ◌++◌, length, map, slice_index, Some}
+use Rattle.std.specs.Prelude.{◌≡◌, ◌≢◌, ℕ, ◌+◌, ◌*◌, ◌^◌, ◌<◌, ◌≤◌, true, false, List, [], ◌∷◌, ◌++◌, length, map, slice_index, Some}
 use Rattle.std.specs.List.{AllByRecursion}
 use Rattle.pm_layout.specs.declared.shape.Shape.{Shape}
 use Rattle.pm_layout.specs.Areas.{greatest_generation, undo_slots, old_words, word_of_generation}
@@ -114,6 +114,7 @@ pub record IsRestored (v w : View) : Type 0 where
   pub noted : HasNoted v w
   pub restored : AreRestored (picture w.fixed.shape w.claims) w.log.records
   pub known : (p : Place) → is_data p ≡ true → place_in v (word_of v.fixed.shape p) ≡ Some p → is_recorded v.log.records p ≡ false → knows w (word_of v.fixed.shape p) ≡ knows v (word_of v.fixed.shape p)
+  pub others : (u : ℕ) → ((p : Place) → is_recorded v.log.records p ≡ true → u ≢ word_of v.fixed.shape p) → value_in w u ≡ value_in v u
   pub working : IsWorking w
 
 -- ---- ending the generation
@@ -144,4 +145,5 @@ pub record IsRetired (v w : View) : Type 0 where
   pub same : w ≡ record v { claims = w.claims; changes = []; calls = w.calls; log = next_log (phase_ended v.log.phase) v.log }
   pub noted : HasNoted v w
   pub known : (u : ℕ) → IsBeyond v.fixed.shape u → knows w u ≡ knows v u
+  pub others : (u : ℕ) → u ≢ word_of_generation v.fixed.shape v.fixed.lane → value_in w u ≡ value_in v u
   pub next : value_in w (word_of_generation v.fixed.shape v.fixed.lane) ≡ Some (v.log.generation + 1)

@@ -1,0 +1,96 @@
+-- A TRANSACTION IS GIVEN UP: all that it did is rolled back, the operation that ends it is told, and it takes its number.
+use Rattle.std.specs.Prelude.{◌≡◌, ◌⊎◌, ℕ, zero, suc, ◌+◌, true, false, List, [], ◌∷◌, length, Option, Some, None, Result, Ok, Err}
+use Rattle.pm_memory.specs.Runs.{Stops}
+use Rattle.pm_memory.specs.declared.lane_mem.Stopped.{Stopped}
+use Rattle.pm_model.specs.Inside.{error_for, is_action, is_inside}
+use Rattle.pm_objects.specs.declared.calls.Operation.{Operation}
+use Rattle.pm_objects.specs.declared.calls.Operation.TheVariants.{Abort}
+use Rattle.pm_objects.specs.declared.history.TxErr.{TxErr}
+use Rattle.pm_objects.specs.declared.history.Value.{Value}
+use Rattle.pm_objects.specs.declared.history.Value.TheVariants.{Refused}
+use Rattle.pm_objects.specs.declared.refusal.Refusal.{Refusal}
+use Rattle.pm_objects.specs.declared.refusal.Refusal.TheVariants as refusal
+use Rattle.pm_view.specs.Log.{Log, Recorded}
+use Rattle.pm_view.specs.View.{View}
+use Rattle.pm_view.specs.Views.{after_all}
+use Rattle.pm_world.specs.LaneFields.{IsSeenAs, Standing, Works, fields_of, last_number}
+use Rattle.pm_world.specs.declared.lane.Lane.{Lane}
+use Rattle.pm_plan.specs.Plans.{Ready}
+use Rattle.pm_undo.specs.Undoing.{KeepsLog, LogMoves}
+use Rattle.pm_undo.specs.Working.{IsWorking}
+use Rattle.pm_call.specs.At.{At}
+use Rattle.pm_call.specs.Did.{Cut, IsOver, IsRefused, given_up, next, work_refusal}
+use Rattle.pm_call.specs.Plans.{gives_up, takes_back}
+
+-- ---- WHICH OPERATIONS GIVE IT UP, with their replies
+
+-- one that is refused, and is none on the pending list alone
+pub record IsRefusedWith (s : Standing) (op : Operation) (reply : Option Value) : Type 0 where
+  pub inside : is_inside op ≡ true
+  pub plain : is_action op ≡ false
+  pub refusal : Refusal
+  pub refused : IsRefused s op refusal
+  pub replied : reply ≡ Some (Refused refusal)
+
+-- an abort
+pub record IsAbort (op : Operation) (reply : Option Value) : Type 0 where
+  pub errnum : ℕ
+  pub is : op ≡ Abort errnum
+  pub replied : reply ≡ None
+
+abbrev pub GivesUp : Standing → Operation → Option Value → Type 0
+GivesUp s op reply = IsRefusedWith s op reply ⊎ IsAbort op reply
+
+-- ---- WHAT IS LEFT THEN
+
+-- the generation ends where it has records
+abbrev pub generation_after : List Recorded → ℕ → ℕ
+generation_after [] generation = generation
+generation_after (r ∷ records) generation = generation + 1
+
+pub record LeavesOver (s : Standing) (op : Operation) (reply : Option Value) (n : ℕ) : Type 0 where
+  pub ready : Ready s.view (gives_up op reply n s.view)
+  pub over : IsOver (next s (gives_up op reply n))
+  pub generation : (next s (gives_up op reply n)).view.log.generation ≡ generation_after s.view.log.records s.view.log.generation
+  pub number : last_number (next s (gives_up op reply n)).view.entries ≡ suc n
+
+-- THE LAW: a lane at work may give its transaction up, and it is over then, whatever number it takes
+abbrev pub TransactionsMayBeGivenUp : Type 0
+TransactionsMayBeGivenUp = (s : Standing) (op : Operation) (reply : Option Value) (n : ℕ) → At s → GivesUp s op reply → LeavesOver s op reply n
+
+-- ---- WHAT WAS DONE TO A LANE
+
+-- recorded words are what they were, and their generation is ended; or the lane stopped on the way
+abbrev pub TakenBackAs : {M : Type 0} → (M → View → Type 0) → View → Lane M → Lane M → Result (Unit {0}) Stopped → Type 0
+TakenBackAs at v old new (Ok done) = LogMoves at old new (after_all v (takes_back v))
+TakenBackAs at v old new (Err stopped) = Stops (at new.memory) v (takes_back v) × (fields_of new ≡ fields_of old)
+
+unfoldable pub TakenBack : {M : Type 0} → (M → View → Type 0) → Lane M → Lane M → Result (Unit {0}) Stopped → Type 0
+TakenBack at old new result = (v : View) → KeepsLog at old v → IsWorking v → TakenBackAs at v old new result
+
+-- it was given up with this operation and this error
+pub record WasGivenUp {M : Type 0} (at : M → View → Type 0) (lane : Lane M) (s : Standing) (op : Operation) (reply : Option Value) (e : TxErr) : Type 0 where
+  pub number : ℕ
+  pub ready : Ready s.view (gives_up op reply number s.view)
+  pub sees : IsSeenAs at lane (after_all s.view (gives_up op reply number s.view)) (given_up e (next s (gives_up op reply number)))
+  pub over : IsOver (next s (gives_up op reply number))
+
+abbrev pub GivenUpAs : {M : Type 0} → (M → View → Type 0) → Lane M → Operation → Option Value → TxErr → Result (Unit {0}) Stopped → Standing → Type 0
+GivenUpAs at lane op reply e (Ok done) s = WasGivenUp at lane s op reply e
+GivenUpAs at lane op reply e (Err stopped) s = (n : ℕ) × Cut at lane s (gives_up op reply n) false
+
+unfoldable pub GivenUp : {M : Type 0} → (M → View → Type 0) → Lane M → Lane M → Operation → Option Value → TxErr → Result (Unit {0}) Stopped → Type 0
+GivenUp at old new op reply e result = (s : Standing) → Works at old s → At s → GivesUp s op reply → GivenUpAs at new op reply e result s
+
+-- ---- AN ABORT: refused for its stage it changes nothing; else the transaction is given up with its error, or the lane stopped on the way
+abbrev pub AbortedAs : {M : Type 0} → (M → View → Type 0) → Lane M → ℕ → Result (Unit {0}) Refusal → Standing → Type 0
+AbortedAs at lane errnum (Ok done) s = WasGivenUp at lane s (Abort errnum) None (error_for errnum)
+AbortedAs at lane errnum (Err refusal.Stopped) s = (n : ℕ) × Cut at lane s (gives_up (Abort errnum) None n) true
+AbortedAs at lane errnum (Err r) s = ⊥
+
+abbrev pub AbortedSo : {M : Type 0} → Option Refusal → (M → View → Type 0) → Lane M → Lane M → ℕ → Result (Unit {0}) Refusal → Type 0
+AbortedSo (Some r) at old new errnum result = (result ≡ Err r) × (new ≡ old)
+AbortedSo None at old new errnum result = (s : Standing) → Works at old s → At s → AbortedAs at new errnum result s
+
+unfoldable pub Aborted : {M : Type 0} → (M → View → Type 0) → Lane M → Lane M → ℕ → Result (Unit {0}) Refusal → Type 0
+Aborted at old new errnum result = AbortedSo (work_refusal old) at old new errnum result
