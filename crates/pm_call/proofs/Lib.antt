@@ -1,5 +1,5 @@
 pub mod Frames
 pub mod ObjectWords
+pub mod KnownObjects
 pub mod Noting
 pub mod Looking
-pub mod Knowing

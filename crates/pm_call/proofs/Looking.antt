@@ -27,6 +27,7 @@ use Rattle.pm_undo.proofs.Standing.{all_still}
 use Rattle.pm_call.specs.At.{At, IsAt, IsDataOf, entries_so_far}
 use Rattle.pm_call.specs.Held.{IsObjectWord, Looks, LooksAt}
 use Rattle.pm_call.proofs.Frames.{noting}
+use Rattle.pm_call.proofs.KnownObjects.{fresh_is}
 use Rattle.pm_call.proofs.Noting.{Keeps, data_so, noted_at, object_word_so, place_so}
 use Rattle.pm_call.proofs.ObjectWords.{IsDataPlace, object_known, object_place}
 
@@ -67,15 +68,6 @@ picture_stays sh t t' q b y h e = go (is_pictured q) (pictured sh t (word_of sh 
 pub before_stays : (f : ℕ → Bool) (old : Option ℕ) (a c : Option Bool) (y : Bool) → (a ≡ Some y → c ≡ Some y) → first_of_two (option_map f old) a ≡ Some y → first_of_two (option_map f old) c ≡ Some y
 before_stays f None a c y h e = h e
 before_stays f (Some z) a c y h e = e
-
--- of a call without entries, what it changed are recorded words
-none_made : (B : Block) → is_made (turn (latest []) B) ≡ false
-none_made (Small c i) = refl
-none_made (Big f) = refl
-none_made Root = refl
-
-pub fresh_is : (sh : Rattle.pm_layout.specs.declared.shape.Shape.Shape) (t : List Claim) (log : Log) (q : Place) (b : ℕ) → fresh sh t (record log { entries = [] }) q b ≡ cond (is_data q && is_recorded log.records q) (picture sh t q b) None
-fresh_is sh t log q b = ap (λ m. cond (is_data q && (m || is_recorded log.records q)) (picture sh t q b) None) (none_made (block_of (geometry sh t) q b))
 
 finds_same : (known : Option ℕ) (x z : ℕ) → known ≡ Some z → Rattle.std.specs.Prelude.IfSome known (λ y. x ≡ y) → x ≡ z
 finds_same known x z e f = subst (λ o. Rattle.std.specs.Prelude.IfSome o (λ y. x ≡ y)) e f
@@ -140,9 +132,10 @@ module _ (s : Standing) (level : ℕ) (at : IsAt s level) (next : View) (l : Loo
   keeps = record {
     each = each;
     working = working;
+    unbumped = at.unbumped;
     seal = values (word_of_seal v.fixed.shape v.fixed.lane) 0 at.sealed;
     sizes = λ a m. values (a.id.off / 8 - 7) m.size m.sized ∙ sym m.sized;
-    recorded = λ q e. let d = at.recorded q e in data_so v ns v.changes v.calls v.log each at.working.unmaking q d (λ z k. (z, values (word_of v.fixed.shape q) z k));
+    recorded = λ q e. let d = at.recorded q e in data_so v ns v.changes v.calls v.log each at.working.unmaking at.sound q d (values (d.off / 8 - 7) d.object.size d.object.seen) d.value (values (word_of v.fixed.shape q) d.value d.known);
     more = λ q e. e;
     knows = λ q b y _ e. before_stays (λ x. bit x b) (old_of v.log.records q) (picture v.fixed.shape v.claims q b) (picture then.fixed.shape then.claims q b) y (pictures q b y) e;
     same = λ q b. inl (same_bits q b (is_recorded v.log.records q) refl);

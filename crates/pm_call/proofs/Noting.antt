@@ -1,7 +1,9 @@
 -- A LANE AT WORK STAYS SO where it only notes, records or stores: what it holds is the same.
 use Rattle.std.specs.Prelude.{map}
-use Rattle.std.proofs.Common.{◌≡◌, ◌≢◌, ℕ, ◌+◌, ◌*◌, ◌-◌, ◌/◌, ◌%◌, ◌<◌, ◌≤◌, ◌⊎◌, inl, inr, ⊎_elim, Bool, true, false, List, [], ◌∷◌, refl, sym, ap, ◌∙◌, subst, Option, Some}
+use Rattle.std.proofs.Common.{◌≡◌, ◌≢◌, ℕ, ◌+◌, ◌*◌, ◌-◌, ◌/◌, ◌%◌, ◌<◌, ◌≤◌, ◌⊎◌, inl, inr, ⊎_elim, Bool, true, false, List, [], ◌∷◌, refl, sym, ap, ◌∙◌, subst, arith, eq-eqb, nat_le, ◌==◌, Option, Some}
 use Rattle.std.specs.List.{AllByRecursion}
+use Rattle.std.proofs.lemmas.Bool.{and_from, both_ways, le-leb}
+use Rattle.pm_world.specs.Lanes.{is_occupancy}
 use Rattle.pm_layout.specs.Areas.{word_of_seal}
 use Rattle.pm_layout.specs.Sizes.{blocks_of}
 use Rattle.pm_model.specs.Pending.{SetWord}
@@ -16,19 +18,33 @@ use Rattle.pm_world.specs.LaneFields.{Standing, moved}
 use Rattle.pm_world.specs.Sights.{is_recorded}
 use Rattle.pm_world.specs.declared.lane.HeldLock.{HeldLock}
 use Rattle.pm_crash.specs.Footprints.{bit_before, has_found}
-use Rattle.pm_crash.specs.Looked.{size_seen, word_place, words_in}
+use Rattle.pm_crash.specs.Looked.{KnowsSize, size_seen, word_place, words_in}
+use Rattle.pm_crash.specs.SimFacts.{is_begun}
 use Rattle.pm_crash.specs.Sim.{SameBits, Sim, lists_of, sees_at}
 use Rattle.pm_crash.proofs.Simulation.{sim_stays}
 use Rattle.pm_lock.specs.Holding.{IsHeldAs}
 use Rattle.pm_undo.specs.Working.{IsStanding, IsWorking, Note, noted, AreNotes}
 use Rattle.pm_undo.proofs.Notes as notes
 use Rattle.pm_call.specs.At.{AreLists, IsAt, IsDataOf, MaySet, entries_so_far}
-use Rattle.pm_call.specs.Held.{AreHeld, HasObject, IsHeld, IsObjectWord}
-use Rattle.pm_call.proofs.Frames.{noting, noting_grows}
+use Rattle.pm_call.specs.Held.{AreHeld, HasObject, IsHeld, IsObjectWord, has_line, line_of}
+use Rattle.pm_call.proofs.KnownObjects.{size_known}
+use Rattle.pm_call.proofs.Frames.{header_so, noting, noting_grows}
 
 pub all_map : {A : Type 0} (P Q : A → Type 0) (xs : List A) → ((x : A) → P x → Q x) → AllByRecursion P xs → AllByRecursion Q xs
 all_map P Q [] f all = tt
 all_map P Q (x ∷ xs) f all = (f x all.0, all_map P Q xs f all.1)
+
+-- the line of an object's header, by its offset
+header_high : (v : View) (B : Block) → is_occupancy v.fixed.shape B ≡ true → 1 ≤ header_in v.fixed.shape v.claims B
+header_high v (Small c i) o = omega arith
+header_high v (Big f) o = omega arith
+header_high v Rattle.pm_view.specs.Places.Root o = absurd (both_ways false refl o)
+
+pub header_line : (v : View) → IsSound v → (off : ℕ) (k : KnowsSize v [] off) → has_found v k.block ≡ true → header_in v.fixed.shape v.claims k.block ≡ line_of off
+header_line v s off k f = let a = k.at in let h = header_high v k.block k.object.inside in omega (arith, a, h)
+
+pub offset_line : (v : View) → IsSound v → (off : ℕ) (k : KnowsSize v [] off) → has_found v k.block ≡ true → has_line off ≡ true
+offset_line v s off k f = let a = k.at in let h = header_high v k.block k.object.inside in and_from (off % 64 == 0) (nat_le 128 off) (eq-eqb (off % 64) 0 (omega (arith, a))) (le-leb 128 off (omega (arith, a, h)))
 
 module _ (v : View) (ns : List Note) (changes : List Undrained) (calls : ℕ) (log : Log) (are : AreNotes v.fixed.shape v.claims ns) (none : (c : ℕ) → making v.fixed.shape v.claims c ≡ false) where
   abbrev next : View
@@ -66,7 +82,7 @@ module _ (v : View) (ns : List Note) (changes : List Undrained) (calls : ℕ) (l
   held_so locks all = all_map (IsHeld v) (IsHeld next) locks one all
     where
       object : (line : ℕ) → HasObject v line → HasObject next line
-      object line o = record { block = o.block; found = found_so o.block ∙ o.found; at = Rattle.pm_call.proofs.Frames.header_so v.fixed.shape ns v.claims are none o.block ∙ o.at; inside = o.inside }
+      object line o = record { block = o.block; found = found_so o.block ∙ o.found; at = header_so v.fixed.shape ns v.claims are none o.block ∙ o.at; inside = o.inside }
 
       one : (l : HeldLock) → IsHeld v l → IsHeld next l
       one l h = record {
@@ -74,13 +90,29 @@ module _ (v : View) (ns : List Note) (changes : List Undrained) (calls : ℕ) (l
         object = ⊎_elim (λ (z : l.line ≡ 0). inl z) (λ (o : HasObject v l.line). inr (object l.line o)) h.object;
       }
 
-  pub data_so : (p : Place) (d : IsDataOf v p) → ((z : ℕ) → value_in v (word_of v.fixed.shape p) ≡ Some z → (y : ℕ) × (value_in next (word_of v.fixed.shape p) ≡ Some y)) → IsDataOf next p
-  data_so p d values = let y = values d.value d.known in record { block = d.block; index = d.index; is = d.is ∙ sym (place_so d.block d.index); word = object_word_so d.block d.index d.word; data_ = d.data_; value = y.0; known = y.1 }
+  abbrev pub size_so : IsSound v → (off : ℕ) (k : KnowsSize v [] off) → has_found v k.block ≡ true → size_seen next off ≡ Some k.size → KnowsSize next [] off
+  size_so s off k f seen = let o : HasObject next (line_of off) = record { block = k.block; found = found_so k.block ∙ f; at = header_so v.fixed.shape ns v.claims are none k.block ∙ header_line v s off k f; inside = k.object.inside } in
+      size_known next (sound_so s) off k.size (offset_line v s off k f) o seen k.knows.small
+
+  pub data_so : IsSound v → (p : Place) (d : IsDataOf v p) → size_seen next d.off ≡ Some d.object.size → (y : ℕ) → value_in next (word_of v.fixed.shape p) ≡ Some y → IsDataOf next p
+  data_so s p d sized y known = record {
+    off = d.off;
+    object = size_so s d.off d.object d.found sized;
+    found = found_so d.object.block ∙ d.found;
+    index = d.index;
+    at = d.at ∙ sym (place_so d.object.block d.index);
+    data_ = d.data_;
+    within = subst (λ n. d.index < n) (sym (words_so d.object.block)) d.within;
+    alive = d.alive;
+    value = y;
+    known = known;
+  }
 
 -- what such a step owes
 pub record Keeps (s : Standing) (ns : List Note) (changes : List Undrained) (calls : ℕ) (log : Log) : Type 0 where
   pub each : AreNotes s.view.fixed.shape s.view.claims ns
   pub working : IsWorking (noting s.view ns changes calls log)
+  pub unbumped : log.bumped ≡ false
   pub seal : value_in (noting s.view ns changes calls log) (word_of_seal s.view.fixed.shape s.view.fixed.lane) ≡ Some 0
   pub sizes : (a : SetWord) → MaySet s a → size_seen (noting s.view ns changes calls log) a.id.off ≡ size_seen s.view a.id.off
   pub recorded : (p : Place) → is_recorded log.records p ≡ true → IsDataOf (noting s.view ns changes calls log) p
@@ -133,8 +165,27 @@ module _ (v : View) (call actions published : List Told) where
   place_told (Big f) k = refl
   place_told Rattle.pm_view.specs.Places.Root k = refl
 
-  data_told : (p : Place) → IsDataOf v p → IsDataOf told p
-  data_told p d = record { block = d.block; index = d.index; is = d.is ∙ sym (place_told d.block d.index); word = word_told d.block d.index d.word; data_ = d.data_; value = d.value; known = d.known }
+  abbrev size_told : IsSound v → (off : ℕ) (k : KnowsSize v [] off) → has_found v k.block ≡ true → KnowsSize told [] off
+  size_told s off k f = size_known told (sound_told s) off k.size (offset_line v s off k f) (record { block = k.block; found = f; at = header_line v s off k f; inside = k.object.inside }) k.seen k.knows.small
+
+  words_told : (B : Block) → words_in told B ≡ words_in v B
+  words_told (Small c i) = refl
+  words_told (Big f) = refl
+  words_told Rattle.pm_view.specs.Places.Root = refl
+
+  data_told : IsSound v → (p : Place) → IsDataOf v p → IsDataOf told p
+  data_told s p d = record {
+    off = d.off;
+    object = size_told s d.off d.object d.found;
+    found = d.found;
+    index = d.index;
+    at = d.at ∙ sym (place_told d.object.block d.index);
+    data_ = d.data_;
+    within = subst (λ n. d.index < n) (sym (words_told d.object.block)) d.within;
+    alive = d.alive;
+    value = d.value;
+    known = d.known;
+  }
 
 -- AT WORK AGAIN after such a step, and one more operation told or none
 module _ (s : Standing) (level : ℕ) (at : IsAt s level) (ns : List Note) (changes : List Undrained) (calls : ℕ) (log : Log) (k : Keeps s ns changes calls log) where
@@ -148,12 +199,14 @@ module _ (s : Standing) (level : ℕ) (at : IsAt s level) (ns : List Note) (chan
   pub noted_sim : Sim noted_view (entries_so_far s)
   noted_sim = sim_stays s.view noted_view (entries_so_far s) (entries_so_far s) at.sim (record { fixed = refl; entries = refl }) refl grows k.same
 
-  pub told_at : (call actions published : List Told) (level' : ℕ) → 1 ≤ level' → level' ≤ 64
+  pub told_at : (call actions published : List Told) (level' : ℕ) → 1 ≤ level' → level' ≤ 64 → is_begun call ≡ true
       → AreLists (moved s (told noted_view call actions published)) level' (lists_of (told noted_view call actions published))
       → Sim (told noted_view call actions published) (entries_so_far s)
       → IsAt (moved s (told noted_view call actions published)) level'
-  told_at call actions published level' some most lists sim = record {
+  told_at call actions published level' some most begun lists sim = record {
     working = working_told noted_view call actions published k.working;
+    unbumped = k.unbumped;
+    begun = begun;
     some = some;
     most = most;
     sound = sound_told noted_view call actions published (sound_so s.view ns changes calls log k.each at.working.unmaking at.sound);
@@ -161,7 +214,7 @@ module _ (s : Standing) (level : ℕ) (at : IsAt s level) (ns : List Note) (chan
     number = record { seen = at.number.seen; told = at.number.told; below = at.number.below; none = at.number.none };
     held = held_told noted_view call actions published s.locks (held_so s.view ns changes calls log k.each at.working.unmaking s.locks at.held);
     few = at.few;
-    recorded = λ p e. data_told noted_view call actions published p (k.recorded p e);
+    recorded = λ p e. data_told noted_view call actions published (sound_so s.view ns changes calls log k.each at.working.unmaking at.sound) p (k.recorded p e);
     lists = lists;
     sim = sim;
     facts = at.facts;
@@ -169,7 +222,7 @@ module _ (s : Standing) (level : ℕ) (at : IsAt s level) (ns : List Note) (chan
 
   -- AND WITH NOTHING TOLD, where no record is new
   pub noted_at : log.records ≡ s.view.log.records → IsAt (moved s noted_view) level
-  noted_at same = told_at s.view.call s.view.actions s.view.published level at.some at.most lists noted_sim
+  noted_at same = told_at s.view.call s.view.actions s.view.published level at.some at.most at.begun lists noted_sim
     where
       lists : AreLists (moved s noted_view) level (lists_of s.view)
       lists = record {
