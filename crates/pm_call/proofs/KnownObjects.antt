@@ -147,4 +147,3 @@ module _ (v : View) (locks : List HeldLock) (all_held : AreHeld v locks) where
       go (l ∷ locks) all q = ⊎_elim (λ (y : (l.line == line_of off && (l.write || not write)) ≡ true). let same = eqb-true l.line (line_of off) (and_parts (l.line == line_of off) (l.write || not write) y).0 in
           subst (HasObject v) same (⊎_elim (λ (z : l.line ≡ 0). absurd (let h = high in omega (arith, z, same, h))) (λ (o : HasObject v l.line). o) all.0.object))
           (λ (y : list_any (λ (l : HeldLock). l.line == line_of off && (l.write || not write)) locks ≡ true). go locks all.1 y) (or_cases (l.line == line_of off && (l.write || not write)) (list_any (λ (l : HeldLock). l.line == line_of off && (l.write || not write)) locks) q)
-

@@ -105,7 +105,7 @@ module _ (s : Standing) (level : ℕ) (at : IsAt s level) (next : View) (l : Loo
   values : (u z : ℕ) → value_in v u ≡ Some z → value_in then u ≡ Some z
   values u z e = ⊎_elim
       (λ (q : w ≡ u). subst (λ y. value_in then y ≡ Some z) q (looked_here v.fixed.shape v.claims chunk.chunk chunk.at w l.value
-          ∙ ap (λ y. Some y) (finds_same (knows v w) l.value z (object_known v at.sound l.block l.index l.word ∙ (ap (value_in v) q ∙ e)) l.agrees)))
+      ∙ ap (λ y. Some y) (finds_same (knows v w) l.value z (object_known v at.sound l.block l.index l.word ∙ (ap (value_in v) q ∙ e)) l.agrees)))
       (λ (ne : w ≢ u). looked_else v.fixed.shape v.claims chunk.chunk chunk.at w l.value u each ne ∙ e) (cases_eq w u)
 
   pictures : (q : Place) (b : ℕ) (y : Bool) → picture v.fixed.shape v.claims q b ≡ Some y → picture then.fixed.shape then.claims q b ≡ Some y

@@ -1,5 +1,6 @@
 pub mod Held
 pub mod At
+pub mod Ranges
 pub mod Plans
 pub mod Did
 pub mod GivenUp
