@@ -2,13 +2,13 @@
 use Rattle.std.specs.Prelude.{map}
 use Rattle.std.proofs.Common.{◌≡◌, ◌≢◌, ℕ, zero, suc, ◌+◌, ◌*◌, ◌-◌, ◌/◌, ◌<◌, ◌≤◌, ◌⊎◌, inl, inr, ⊎_elim, Bool, true, false, cond, ◌==◌, ◌&&◌, ◌||◌, List, [], ◌∷◌, refl, sym, ap, ◌∙◌, subst, arith, eq-eqb, ne_eqb, Option, None, Some}
 use Rattle.std.specs.Option.{option_map}
-use Rattle.std.proofs.lemmas.Option.{none-some}
+use Rattle.std.proofs.lemmas.Option.{none-some, same_Some}
 use Rattle.std.proofs.lemmas.Bool.{and_right, cases_eq, cond-true, cond-false}
 use Rattle.pm_layout.specs.Areas.{word_of_generation, word_of_seal}
-use Rattle.pm_view.specs.Claims.{Claim, class, geometry, making, pictured}
+use Rattle.pm_view.specs.Claims.{Claim, class, geometry, header_in, making, pictured}
 use Rattle.pm_view.specs.Entries.{Entry, first_of_two, latest, turn}
 use Rattle.pm_view.specs.Founds.{FindsKnown, knows}
-use Rattle.pm_view.specs.Log.{Log, Open, old_of}
+use Rattle.pm_view.specs.Log.{Log, Open, old_of, place_at}
 use Rattle.pm_view.specs.Parts.{ChunkPart, Part}
 use Rattle.pm_view.specs.Places.{Place, Block, Small, Big, Root, block_of, is_data, word_of}
 use Rattle.pm_view.specs.Steps.Step.{Load}
@@ -17,18 +17,20 @@ use Rattle.pm_view.specs.Views.{after, learned, part_in, value_in}
 use Rattle.pm_world.specs.LaneFields.{Standing, moved}
 use Rattle.pm_world.specs.Memory.{bit}
 use Rattle.pm_world.specs.Sights.{fresh, is_made, is_pictured, is_recorded, picture}
-use Rattle.pm_crash.specs.Footprints.{bit_before}
+use Rattle.pm_crash.specs.Footprints.{bit_before, has_found}
 use Rattle.pm_crash.specs.Looked.{size_seen, word_place}
 use Rattle.pm_crash.specs.Sim.{SameBits, change_so_far, sees_at}
+use Rattle.pm_undo.specs.Ranges.{block_bytes}
+use Rattle.pm_world.specs.Lanes.{is_occupancy}
 use Rattle.pm_undo.specs.Working.{IsStanding, IsWorking, Note, Valued, Looked, noted, AreNotes, IsBeyond}
 use Rattle.pm_undo.proofs.AreaParts.{OfChunk, data_beyond, data_part}
 use Rattle.pm_undo.proofs.Notes as notes
 use Rattle.pm_undo.proofs.Standing.{all_still}
 use Rattle.pm_call.specs.At.{At, IsAt, IsDataOf, entries_so_far}
-use Rattle.pm_call.specs.Held.{IsObjectWord, Looks, LooksAt}
-use Rattle.pm_call.proofs.Frames.{noting}
-use Rattle.pm_call.proofs.KnownObjects.{fresh_is}
-use Rattle.pm_call.proofs.Noting.{Keeps, data_so, noted_at, object_word_so, place_so}
+use Rattle.pm_call.specs.Held.{IsObjectWord, Looks, LooksAt, SizesFit}
+use Rattle.pm_call.proofs.Frames.{header_so, noting}
+use Rattle.pm_call.proofs.KnownObjects.{fresh_is, size_word, word_number}
+use Rattle.pm_call.proofs.Noting.{Keeps, bytes_so, data_so, found_so, noted_at, object_word_so, place_so}
 use Rattle.pm_call.proofs.ObjectWords.{IsDataPlace, object_known, object_place}
 
 -- ---- what a look notes
@@ -133,6 +135,7 @@ module _ (s : Standing) (level : ℕ) (at : IsAt s level) (next : View) (l : Loo
     each = each;
     working = working;
     unbumped = at.unbumped;
+    fit = fit;
     seal = values (word_of_seal v.fixed.shape v.fixed.lane) 0 at.sealed;
     sizes = λ a m. values (a.id.off / 8 - 7) m.size m.sized ∙ sym m.sized;
     recorded = λ q e. let d = at.recorded q e in data_so v ns v.changes v.calls v.log each at.working.unmaking at.sound q d (values (d.off / 8 - 7) d.object.size d.object.seen) d.value (values (word_of v.fixed.shape q) d.value d.known);
@@ -141,6 +144,34 @@ module _ (s : Standing) (level : ℕ) (at : IsAt s level) (next : View) (l : Loo
     same = λ q b. inl (same_bits q b (is_recorded v.log.records q) refl);
   }
     where
+      -- the size that was looked at fits, and so do those that were known
+      fit : SizesFit then
+      fit B x f o e = let old_found : has_found v B ≡ true = sym (found_so v ns v.changes v.calls v.log each at.working.unmaking B) ∙ f in
+          let line = header_so v.fixed.shape ns v.claims each at.working.unmaking B in
+          let word : value_in then (8 * header_in v.fixed.shape v.claims B + 1) ≡ Some x = ap (λ h. value_in then (8 * h + 1)) (sym line) ∙ e in
+          subst (λ n. 64 + x ≤ n) (sym (bytes_so v ns v.changes v.calls v.log each at.working.unmaking B)) (⊎_elim
+          (λ (q : w ≡ 8 * header_in v.fixed.shape v.claims B + 1). by_look B x old_found o q (same_Some l.value x (sym (looked_here v.fixed.shape v.claims chunk.chunk chunk.at w l.value) ∙ (ap (value_in then) q ∙ word))))
+          (λ (ne : w ≢ 8 * header_in v.fixed.shape v.claims B + 1). at.sizes B x old_found o (sym (looked_else v.fixed.shape v.claims chunk.chunk chunk.at w l.value (8 * header_in v.fixed.shape v.claims B + 1) each ne) ∙ word)) (cases_eq w (8 * header_in v.fixed.shape v.claims B + 1)))
+        where
+          -- the word is the size of its own block alone
+          by_look : (B : Block) (x : ℕ) → has_found v B ≡ true → is_occupancy v.fixed.shape B ≡ true → w ≡ 8 * header_in v.fixed.shape v.claims B + 1 → l.value ≡ x → 64 + x ≤ block_bytes v B
+          by_look B x f o q e = subst (λ C. 64 + x ≤ block_bytes v C) (sym same_block) (subst (λ y. 64 + y ≤ block_bytes v l.block) e (l.fits index_one))
+            where
+              own : IsObjectWord v B 1
+              own = size_word v at.sound (header_in v.fixed.shape v.claims B) (record { block = B; found = f; at = refl; inside = o })
+
+              same_word : word_of v.fixed.shape (word_place v B 1) ≡ w
+              same_word = word_number v at.sound B 1 own ∙ sym q
+
+              same_place : word_place v B 1 ≡ word_place v l.block l.index
+              same_place = same_Some (word_place v B 1) (word_place v l.block l.index) (sym (object_place v at.sound B 1 own).use_ ∙ (ap (place_at v.fixed.shape (class v.claims)) same_word ∙ place.use_))
+
+              same_block : B ≡ l.block
+              same_block = sym (object_place v at.sound B 1 own).block ∙ (ap (λ y. block_of (geometry v.fixed.shape v.claims) y 64) same_place ∙ place.block)
+
+              index_one : l.index ≡ 1
+              index_one = let a = sym (word_number v at.sound l.block l.index l.word) ∙ (q ∙ ap (λ C. 8 * header_in v.fixed.shape v.claims C + 1) same_block) in omega (arith, a)
+
       same_bits : (q : Place) (b : ℕ) (r : Bool) → is_recorded v.log.records q ≡ r → change_so_far then [] q b ≡ change_so_far v [] q b
       same_bits q b true e = let d = at.recorded q e in
           let same : picture then.fixed.shape then.claims q b ≡ picture v.fixed.shape v.claims q b = ap (λ o. cond (is_pictured q) (option_map (λ x. bit x b) o) None) (values (word_of v.fixed.shape q) d.value d.known ∙ sym d.known) in

@@ -23,10 +23,11 @@ use Rattle.pm_crash.specs.SimFacts.{is_begun}
 use Rattle.pm_crash.specs.Sim.{SameBits, Sim, lists_of, sees_at}
 use Rattle.pm_crash.proofs.Simulation.{sim_stays}
 use Rattle.pm_lock.specs.Holding.{IsHeldAs}
+use Rattle.pm_undo.specs.Ranges.{block_bytes}
 use Rattle.pm_undo.specs.Working.{IsStanding, IsWorking, Note, noted, AreNotes}
 use Rattle.pm_undo.proofs.Notes as notes
 use Rattle.pm_call.specs.At.{AreLists, IsAt, IsDataOf, MaySet, entries_so_far}
-use Rattle.pm_call.specs.Held.{AreHeld, HasObject, IsHeld, IsObjectWord, has_line, line_of}
+use Rattle.pm_call.specs.Held.{AreHeld, HasObject, IsHeld, IsObjectWord, SizesFit, has_line, line_of}
 use Rattle.pm_call.proofs.KnownObjects.{size_known}
 use Rattle.pm_call.proofs.Frames.{header_so, noting, noting_grows}
 
@@ -78,6 +79,12 @@ module _ (v : View) (ns : List Note) (changes : List Undrained) (calls : ℕ) (l
         (ap (λ fi. fi c) (notes.first_same v.fixed.shape ns v.claims) ∙ t.0, ap (λ cl. cl c) class_so ∙ t.1);
   }
 
+  -- sizes fit where they are what they were
+  pub bytes_so : (B : Block) → block_bytes next B ≡ block_bytes v B
+  bytes_so (Small c i) = λ j. 64 * class_so j c
+  bytes_so (Big f) = λ j. 4096 * notes.span_same v.fixed.shape ns v.claims j f
+  bytes_so Rattle.pm_view.specs.Places.Root = refl
+
   pub held_so : (locks : List HeldLock) → AreHeld v locks → AreHeld next locks
   held_so locks all = all_map (IsHeld v) (IsHeld next) locks one all
     where
@@ -113,6 +120,7 @@ pub record Keeps (s : Standing) (ns : List Note) (changes : List Undrained) (cal
   pub each : AreNotes s.view.fixed.shape s.view.claims ns
   pub working : IsWorking (noting s.view ns changes calls log)
   pub unbumped : log.bumped ≡ false
+  pub fit : SizesFit (noting s.view ns changes calls log)
   pub seal : value_in (noting s.view ns changes calls log) (word_of_seal s.view.fixed.shape s.view.fixed.lane) ≡ Some 0
   pub sizes : (a : SetWord) → MaySet s a → size_seen (noting s.view ns changes calls log) a.id.off ≡ size_seen s.view a.id.off
   pub recorded : (p : Place) → is_recorded log.records p ≡ true → IsDataOf (noting s.view ns changes calls log) p
@@ -145,6 +153,11 @@ module _ (v : View) (call actions published : List Told) where
 
   sound_told : IsSound v → IsSound told
   sound_told s = record { small = s.small; some = s.some; zone = s.zone; huge = s.huge }
+
+  sizes_told : SizesFit v → SizesFit told
+  sizes_told f (Small c i) x = f (Small c i) x
+  sizes_told f (Big h) x = f (Big h) x
+  sizes_told f Rattle.pm_view.specs.Places.Root x = f Rattle.pm_view.specs.Places.Root x
 
   held_told : (locks : List HeldLock) → AreHeld v locks → AreHeld told locks
   held_told locks all = all_map (IsHeld v) (IsHeld told) locks (λ l h. record {
@@ -210,6 +223,7 @@ module _ (s : Standing) (level : ℕ) (at : IsAt s level) (ns : List Note) (chan
     some = some;
     most = most;
     sound = sound_told noted_view call actions published (sound_so s.view ns changes calls log k.each at.working.unmaking at.sound);
+    sizes = sizes_told noted_view call actions published k.fit;
     sealed = k.seal;
     number = record { seen = at.number.seen; told = at.number.told; below = at.number.below; none = at.number.none };
     held = held_told noted_view call actions published s.locks (held_so s.view ns changes calls log k.each at.working.unmaking s.locks at.held);

@@ -24,7 +24,7 @@ use Rattle.pm_crash.specs.SimFacts.{is_begun}
 use Rattle.pm_undo.specs.Records.{kept_by}
 use Rattle.pm_undo.specs.Spans as spans
 use Rattle.pm_undo.specs.Working.{IsWorking}
-use Rattle.pm_call.specs.Held.{AreHeld, is_in_locks}
+use Rattle.pm_call.specs.Held.{AreHeld, SizesFit, is_in_locks}
 
 -- the entries of the blocks that the call made and freed so far: none, as long as no call of a transaction makes or frees a block
 abbrev pub entries_so_far : Standing → List Entry
@@ -83,6 +83,7 @@ pub record IsAt (s : Standing) (level : ℕ) : Type 0 where
   pub some : 1 ≤ level
   pub most : level ≤ 64
   pub sound : IsSound s.view
+  pub sizes : SizesFit s.view
   pub sealed : value_in s.view (word_of_seal s.view.fixed.shape s.view.fixed.lane) ≡ Some 0
   pub number : MayTakeNumber s.view
   pub held : AreHeld s.view s.locks
