@@ -3,3 +3,4 @@ pub mod ObjectWords
 pub mod KnownObjects
 pub mod Noting
 pub mod Looking
+pub mod RangeRefusals

@@ -4,3 +4,4 @@ pub mod Ranges
 pub mod Plans
 pub mod Did
 pub mod GivenUp
+pub mod RangeLaws
