@@ -4,4 +4,5 @@ pub mod Ranges
 pub mod Plans
 pub mod Did
 pub mod GivenUp
+pub mod Reading
 pub mod RangeLaws
