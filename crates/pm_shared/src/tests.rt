@@ -1,5 +1,5 @@
 ghost use Rattle.std.specs.Prelude.{◌≡◌, true, false, [], IfOk};
-ghost use Rattle.pm_shared.specs.Bare.{IsBare};
+ghost use Rattle.pm_shared.specs.Bare.{BeginsBare};
 ghost use Rattle.pm_shared.specs.Openings.{pool_of};
 ghost use Rattle.pm_shared.specs.TestLanes.{Rests};
 
@@ -20,7 +20,7 @@ const LINE: u64 = 100;
 
 /// What lanes begin on in a pool of two lanes and one zone that has no object.
 fn beginning(alloc: Global) -> Result<Beginning, Fail>
-    ensures { IfOk result (λ b. IsBare b × (b.lanes ≡ 2)) }
+    ensures { IfOk result (λ b. BeginsBare b × (b.lanes ≡ 2)) }
 {
     let shape = Shape::new(2, 1)?;
     let mut words = vec![in alloc; 0; 35840]?;
