@@ -20,14 +20,15 @@ use Rattle.pm_view.specs.View.{View, Constants}
 use Rattle.pm_view.specs.Views.{after}
 use Rattle.pm_world.specs.Bare.{IsBare, IsUntaken}
 use Rattle.pm_world.specs.Lawful.{Allowed}
-use Rattle.pm_world.specs.Solo.{meets_standing}
+use Rattle.pm_world.specs.InWorld.{InWorld}
+use Rattle.pm_world.specs.Solo.{meets_standing, grants_allowed}
 use Rattle.pm_world.specs.SoloLanes.{StandsAs}
 use Rattle.pm_world.specs.SoloWorld.{memory_of}
 use Rattle.pm_world.specs.TestLanes.{first_lane, first_view}
 use Rattle.pm_world.specs.Opens.{OpensIdle}
 use Rattle.pm_world.specs.World.{Opening}
 use Rattle.pm_world.proofs.Bare.{bare_opens}
-use Rattle.pm_world.proofs.FirstLooks.{looked}
+use Rattle.pm_world.proofs.FirstLooks.{looked, looks_first}
 use Rattle.pm_world.proofs.SoloStands.{opened_stands, opened_starts}
 
 zeros_long : length {A = ℕ} (replicate 34816 0) ≡ 34816
@@ -197,6 +198,16 @@ module _ (sh : Shape) (n : ℕ) where
       whole = (refl, refl);
     };
   }
+
+  -- the look tells the generation
+  pub begins : (w x : ℕ) → w ≡ word_of_generation sh 0 → (m looked_ opened_ : Solo) → StandsAs m (first_view sh)
+      → Made Allowed (StandsAs m) (StandsAs looked_) (Load w x)
+      → ((v : View) → StandsAs m v → Allowed v (Load w x) → InWorld v w x)
+      → Made Allowed (StandsAs looked_) (StandsAs opened_) (NumberSeen n) → StandsAs opened_ began
+  begins w x at m looked_ opened_ st made world next = let lane = sh.lanes_from in
+      let first = looks_first StandsAs Allowed grants_allowed m looked_ sh 0 w x (first_lane sh) 1
+      (record { made = made; world = world }) at refl (record { shape = refl; lane = omega (arith, lane); seen = st }) in
+      (next (looked (first_lane sh) 1) first.1 refl).0
 
   module _ (w : ℕ) (at : w ≡ word_of_generation sh 0) (m : Solo) where
     pub can_store : StandsAs m began → CanStep m (Store w 2)
