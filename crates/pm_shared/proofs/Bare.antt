@@ -1,144 +1,20 @@
 -- Lanes may begin on the words of a pool without objects.
-use Rattle.std.proofs.Common.{◌≡◌, ℕ, ◌+◌, ◌*◌, ◌/◌, ◌%◌, ◌<◌, ◌≤◌, Bool, true, false, not, cond, nat_lt, ◌==◌, ◌&&◌, ◌||◌, List, [], ◌∷◌, ◌++◌, slice_index, get_or, Option, None, Some, refl, sym, ap, ◌∙◌, arith, eq-eqb}
-use Rattle.std.proofs.lemmas.Bool.{both_ways, and_parts, ltb-true}
-use Rattle.std.proofs.lemmas.List.Concat.{flat_map-cons}
-use Rattle.std.proofs.lemmas.List.Folds.{list_any_none}
-use Rattle.std.proofs.lemmas.Nat.Bits.{bit_at-zero, bit_at_ones}
-use Rattle.std.specs.List.{flat_map, list_any, range_with_len}
-use Rattle.std.specs.Option.{option_map}
-use Rattle.pm_image.proofs.Firsts.{none_passes}
-use Rattle.pm_image.specs.Blocks.{blocks, chunk_blocks, blocks_in, class_in, descriptor_word, chunk_word}
-use Rattle.pm_image.specs.declared.fault.ImageFault.TheVariants as fault
-use Rattle.pm_image.specs.HeapFaults.{bad_chunk, is_described, chunk_fault, bad_bitmap, is_bad_bitmap, bitmap_fault, block_fault, link_fault, bad_root, root_fault, heap_fault}
-use Rattle.pm_layout.specs.Areas.{word_of_generation, word_of_seal, line_of_slot}
-use Rattle.pm_layout.specs.Chunks.{words_of, chunks_of, page_of_chunk, word_of_descriptor}
-use Rattle.pm_record.specs.Undo.{undo_of, is_record, undo_in}
-use Rattle.pm_record.specs.declared.undo.Undo.{Undo}
-use Rattle.pm_view.specs.Claims.{is_run, is_huge}
-use Rattle.pm_view.specs.Places.{Block, Small, Big, Root, in_span}
-use Rattle.pm_world.specs.Lanes.{is_occupancy}
-use Rattle.pm_world.specs.Logs.{slot_list}
-use Rattle.pm_world.specs.Memory.{bit, occupancy_bit}
-use Rattle.pm_world.specs.Opens.{IsRetired, descriptor, takes, is_in_huge}
-use Rattle.pm_shared.specs.Bare.{IsBare}
+use Rattle.std.proofs.Common.{slice_index, sym, subst}
+use Rattle.pm_world.proofs.Bare.{bare_retired, bare_whole, bare_taken}
+use Rattle.pm_world.specs.Opens.{IsRetired}
+use Rattle.pm_shared.specs.Bare.{BeginsBare}
 use Rattle.pm_shared.specs.declared.rule.Beginning.{Beginning}
-use Rattle.pm_shared.specs.Openings.{CanBegin, opening_of, generation_of}
+use Rattle.pm_shared.specs.Openings.{CanBegin, opening_of}
 
-none_in : class_in 0 ≡ None
-unfolding class_in
-none_in = refl
-
-flat_none : {X A : Type 0} (f : X → List A) → ((x : X) → f x ≡ []) → (xs : List X) → flat_map f xs ≡ []
-flat_none f none [] = refl
-flat_none f none (x ∷ xs) = flat_map-cons f x xs ∙ (ap (λ ys. ys ++ flat_map f xs) (none x) ∙ flat_none f none xs)
-
--- ---- THE HEAP of words whose descriptors and root word are 0
-module _ (w : ℕ → ℕ) (lanes zones : ℕ) (zero_ : (c : ℕ) → w (descriptor_word lanes c) ≡ 0) (root : w 64 ≡ 0) where
-  class_none : (c : ℕ) → class_in (w (descriptor_word lanes c)) ≡ None
-  class_none c = ap class_in (zero_ c) ∙ none_in
-
-  no_bad_chunk : (c : ℕ) → bad_chunk w lanes c ≡ false
-  unfolding bad_chunk
-  no_bad_chunk c = ap not (ap (is_described w (descriptor_word lanes c) c) (class_none c) ∙ eq-eqb (w (descriptor_word lanes c)) 0 (zero_ c))
-
-  no_chunk_fault : chunk_fault w lanes zones ≡ None
-  unfolding chunk_fault
-  no_chunk_fault = ap (option_map _) (none_passes (bad_chunk w lanes) (64 * zones) (λ c l. no_bad_chunk c))
-
-  no_bad_bitmap : (c : ℕ) → bad_bitmap w lanes c ≡ false
-  unfolding bad_bitmap
-  no_bad_bitmap c = ap (λ k. is_bad_bitmap k (w (chunk_word lanes c))) (class_none c)
-
-  no_bitmap_fault : bitmap_fault w lanes zones ≡ None
-  unfolding bitmap_fault
-  no_bitmap_fault = ap (option_map _) (none_passes (bad_bitmap w lanes) (64 * zones) (λ c l. no_bad_bitmap c))
-
-  no_chunk_blocks : (c : ℕ) → chunk_blocks w lanes c ≡ []
-  unfolding chunk_blocks
-  no_chunk_blocks c = ap (λ k. blocks_in k (8 * chunk_word lanes c) (w (chunk_word lanes c))) (class_none c)
-
-  no_blocks : blocks w lanes zones ≡ []
-  unfolding blocks
-  no_blocks = flat_none (chunk_blocks w lanes) no_chunk_blocks (range_with_len 0 (64 * zones))
-
-  no_block_fault : block_fault w [] ≡ None
-  unfolding block_fault
-  no_block_fault = refl
-
-  no_link_fault : link_fault w [] ≡ None
-  unfolding link_fault
-  no_link_fault = refl
-
-  no_root_fault : root_fault w [] ≡ None
-  unfolding root_fault bad_root
-  no_root_fault = ap (λ t. cond (cond t false true) (Some (fault.Root (w 64))) None) (eq-eqb (w 64) 0 root)
-
-  pub no_heap_fault : heap_fault w lanes zones ≡ None
-  unfolding heap_fault
-  no_heap_fault =
-      ap (λ f. Rattle.std.specs.Option.option_or f (Rattle.std.specs.Option.option_or (bitmap_fault w lanes zones) (Rattle.std.specs.Option.option_or (block_fault w (blocks w lanes zones)) (Rattle.std.specs.Option.option_or (link_fault w (blocks w lanes zones)) (root_fault w (blocks w lanes zones)))))) no_chunk_fault
-      ∙ (ap (λ f. Rattle.std.specs.Option.option_or f (Rattle.std.specs.Option.option_or (block_fault w (blocks w lanes zones)) (Rattle.std.specs.Option.option_or (link_fault w (blocks w lanes zones)) (root_fault w (blocks w lanes zones))))) no_bitmap_fault
-      ∙ (ap (λ bs. Rattle.std.specs.Option.option_or (block_fault w bs) (Rattle.std.specs.Option.option_or (link_fault w bs) (root_fault w bs))) no_blocks
-      ∙ (ap (λ f. Rattle.std.specs.Option.option_or f (Rattle.std.specs.Option.option_or (link_fault w []) (root_fault w []))) no_block_fault ∙ (ap (λ f. Rattle.std.specs.Option.option_or f (root_fault w [])) no_link_fault ∙ no_root_fault))))
-
-module _ (b : Beginning) (bare : IsBare b) where
-  -- words of no lane's generation
-  late : (w : ℕ) → 512 + 1024 * b.shape.lanes ≤ w → slice_index b.words.items w ≡ 0
-  late w l = bare.zero_ w (λ lane few same. absurd (omega arith))
-
-  root : slice_index b.words.items 64 ≡ 0
-  root = bare.zero_ 64 (λ lane few same. absurd (omega arith))
-
-  in_area : (lane i : ℕ) → lane < b.shape.lanes → 1 ≤ i → i < 1024 → slice_index b.words.items (word_of_generation b.shape lane + i) ≡ 0
-  in_area lane i few some most = bare.zero_ (word_of_generation b.shape lane + i) (λ other l same. absurd (omega arith))
-
-  no_descriptor : (c : ℕ) → descriptor (opening_of b) c ≡ 0
-  no_descriptor c = late (word_of_descriptor b.shape c) (omega arith)
-
-  record_first : (slot : List ℕ) (u : Undo) → undo_of slot ≡ Some u → u.generation ≡ slice_index slot 0
-  record_first slot u e = go (is_record slot) e
-    where
-      value : Undo → Option Undo → Undo
-      value d None = d
-      value d (Some y) = y
-
-      go : (t : Bool) → cond t (Some (undo_in slot)) None ≡ Some u → u.generation ≡ slice_index slot 0
-      go true e = ap (λ (o : Option Undo). (value u o).generation) (sym e)
-      go false e = absurd (both_ways false refl (ap has e))
-        where
-          has : Option Undo → Bool
-          has None = false
-          has (Some y) = true
-
-  retired : (lane : ℕ) → lane < b.shape.lanes → IsRetired (opening_of b) lane (generation_of b lane)
-  retired lane few = let one = bare.first lane few in record {
-    stored = refl;
-    first = omega (arith, one);
-    last = omega (arith, one);
-    unsealed = ap (slice_index b.words.items) (let q : word_of_seal b.shape lane ≡ word_of_generation b.shape lane + 1 = omega arith in q) ∙ in_area lane 1 few (omega arith) (omega arith);
-    stale = λ j u l e. let g = record_first (slot_list (λ i. slice_index b.words.items (8 * line_of_slot b.shape lane j + i))) u e in
-        let z : slice_index b.words.items (8 * line_of_slot b.shape lane j + 0) ≡ 0 = ap (slice_index b.words.items) (let q : 8 * line_of_slot b.shape lane j + 0 ≡ word_of_generation b.shape lane + (136 + 8 * j) = omega arith in q) ∙ in_area lane (136 + 8 * j) few (omega arith) (omega arith) in
-        omega (arith, g, z, one);
-  }
-
-  taken : (a : Block) → is_occupancy b.shape a ≡ true → occupancy_bit b.shape (slice_index b.runs.items) (slice_index b.zones.items) a ≡ takes (opening_of b) a
-  taken (Small c i) h = let t = and_parts (nat_lt c (chunks_of b.shape)) (nat_lt i 64) h in let inc = ltb-true c (chunks_of b.shape) t.0 in let ini = ltb-true i 64 t.1 in
-      ap (λ x. bit x i) (bare.full (page_of_chunk b.shape c) (omega arith)) ∙ (eq-eqb _ 1 (bit_at_ones 64 i ini)
-      ∙ sym (ap (λ d. not (is_run d && nat_lt i (Rattle.pm_layout.specs.Sizes.blocks_of (d / 256))) || bit (slice_index b.words.items (Rattle.pm_layout.specs.Chunks.word_of_chunk b.shape c)) i) (no_descriptor c)))
-  taken (Big c) h = ap (λ x. bit x (c % 64)) (bare.free (c / 64)) ∙ (ap (λ x. x == 1) (bit_at-zero (c % 64))
-      ∙ sym (ap (λ d. is_run d || is_in_huge (opening_of b) c) (no_descriptor c) ∙ list_any_none (λ f. is_huge (descriptor (opening_of b) f) && in_span f (descriptor (opening_of b) f / 256) c) (range_with_len 0 (chunks_of b.shape))
-      (λ i f l. let at : ℕ = get_or (range_with_len 0 (chunks_of b.shape)) i f in ap (λ d. is_huge d && in_span at (descriptor (opening_of b) at / 256) c) (no_descriptor at))))
-  taken Root h = absurd (both_ways false refl h)
-
-  pub can_begin : CanBegin b
-  can_begin = record {
-    some_lanes = bare.some_lanes;
-    most_lanes = bare.most_lanes;
-    size = bare.size;
-    small = bare.small;
-    whole = no_heap_fault (slice_index b.words.items) b.shape.lanes b.shape.zones (λ c. late (descriptor_word b.shape.lanes c) (omega arith)) root;
-    retired = retired;
-    runs = bare.runs;
-    zones = bare.zones;
-    taken = taken;
-  }
+pub can_begin : (b : Beginning) → BeginsBare b → CanBegin b
+can_begin b bare = record {
+  some_lanes = bare.words.some_lanes;
+  most_lanes = bare.words.most_lanes;
+  size = bare.words.size;
+  small = bare.words.small;
+  whole = bare_whole (opening_of b) bare.words;
+  retired = λ lane few. subst (IsRetired (opening_of b) lane) (sym (bare.words.first lane few)) (bare_retired (opening_of b) bare.words lane few);
+  runs = bare.runs;
+  zones = bare.zones;
+  taken = bare_taken (opening_of b) bare.words (slice_index b.runs.items) (slice_index b.zones.items) bare.untaken;
+}

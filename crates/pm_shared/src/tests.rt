@@ -1,5 +1,5 @@
 ghost use Rattle.std.specs.Prelude.{◌≡◌, true, false, [], IfOk};
-ghost use Rattle.pm_shared.specs.Bare.{IsBare};
+ghost use Rattle.pm_shared.specs.Bare.{BeginsBare};
 ghost use Rattle.pm_shared.specs.Openings.{pool_of};
 ghost use Rattle.pm_shared.specs.TestLanes.{Rests};
 
@@ -7,6 +7,7 @@ use super::*;
 use pm_layout::Shape;
 use pm_memory::LaneSync;
 use pm_objects::Stops;
+use pm_world::Lane;
 use std::alloc::Global;
 use std::marker::Brand;
 use std::sync::Wait;
@@ -20,7 +21,7 @@ const LINE: u64 = 100;
 
 /// What lanes begin on in a pool of two lanes and one zone that has no object.
 fn beginning(alloc: Global) -> Result<Beginning, Fail>
-    ensures { IfOk result (λ b. IsBare b × (b.lanes ≡ 2)) }
+    ensures { IfOk result (λ b. BeginsBare b × (b.lanes ≡ 2)) }
 {
     let shape = Shape::new(2, 1)?;
     let mut words = vec![in alloc; 0; 35840]?;
@@ -140,5 +141,31 @@ fn two_lanes_take_turns(rt: HostRuntime) -> Result<(), Fail> {
         }
     }
     assert!(rt; !stray);
+    Ok(())
+}
+
+/// The generation that the pool's first lane finds before its first call.
+fn first_generation<N: TableName>(
+    alloc: Global,
+    memory: SharedMem,
+    pool: PoolSeat,
+) -> Result<u64, Fail>
+    requires name { memory.table.shared.table_id ≡ N.table }
+    requires table { pool.table_id ≡ N.table }
+    requires lanes { memory.table.shared.key.lanes ≡ 2 }
+    requires pool { pool.me ≡ pool_of memory.table.shared.key 0 [] }
+{
+    let mut pool = pool;
+    let seat = memory.split::<N>(alloc, &mut pool, 0)?;
+    let lane = Lane::new(alloc, seat, 7, memory.shape)?;
+    Ok(lane.log.generation)
+}
+
+/// A lane over a seat looks at its generation and its seal before its first call.
+#[test]
+fn a_lane_begins(rt: HostRuntime) -> Result<(), Fail> {
+    let (memory, pool) = SharedMem::new(rt.alloc(), beginning(rt.alloc())?)?;
+    let generation = first_generation::<Brand>(rt.alloc(), memory, pool)?;
+    assert_eq!(rt; generation, 1);
     Ok(())
 }

@@ -5,13 +5,14 @@ use Rattle.std.proofs.lemmas.List.Concat.{flat_map-cons}
 use Rattle.std.proofs.lemmas.List.Folds.{list_any_none}
 use Rattle.std.proofs.lemmas.Nat.Bits.{bit_at-zero, bit_at_ones}
 use Rattle.std.specs.List.{flat_map, list_any, range_with_len}
-use Rattle.std.specs.Option.{option_map}
+use Rattle.std.specs.Option.{option_map, option_or}
 use Rattle.pm_image.proofs.Firsts.{none_passes}
 use Rattle.pm_image.specs.Blocks.{blocks, chunk_blocks, blocks_in, class_in, descriptor_word, chunk_word}
 use Rattle.pm_image.specs.declared.fault.ImageFault.TheVariants as fault
 use Rattle.pm_image.specs.HeapFaults.{bad_chunk, is_described, chunk_fault, bad_bitmap, is_bad_bitmap, bitmap_fault, block_fault, link_fault, bad_root, root_fault, heap_fault}
 use Rattle.pm_layout.specs.Areas.{word_of_generation, word_of_seal, line_of_slot}
-use Rattle.pm_layout.specs.Chunks.{words_of, chunks_of, page_of_chunk, word_of_descriptor}
+use Rattle.pm_layout.specs.Chunks.{words_of, chunks_of, page_of_chunk, word_of_chunk, word_of_descriptor}
+use Rattle.pm_layout.specs.Sizes.{blocks_of}
 use Rattle.pm_record.specs.Undo.{undo_of, is_record, undo_in}
 use Rattle.pm_record.specs.declared.undo.Undo.{Undo}
 use Rattle.pm_view.specs.Claims.{is_run, is_huge}
@@ -31,6 +32,9 @@ none_in = refl
 flat_none : {X A : Type 0} (f : X → List A) → ((x : X) → f x ≡ []) → (xs : List X) → flat_map f xs ≡ []
 flat_none f none [] = refl
 flat_none f none (x ∷ xs) = flat_map-cons f x xs ∙ (ap (λ ys. ys ++ flat_map f xs) (none x) ∙ flat_none f none xs)
+
+or_none : {A : Type 0} (f rest : Option A) → f ≡ None → rest ≡ None → option_or f rest ≡ None
+or_none f rest none others = ap (λ g. option_or g rest) none ∙ others
 
 -- ---- THE HEAP of words whose descriptors and root word are 0
 module _ (w : ℕ → ℕ) (lanes zones : ℕ) (zero_ : (c : ℕ) → w (descriptor_word lanes c) ≡ 0) (root : w 64 ≡ 0) where
@@ -75,11 +79,8 @@ module _ (w : ℕ → ℕ) (lanes zones : ℕ) (zero_ : (c : ℕ) → w (descrip
 
   pub no_heap_fault : heap_fault w lanes zones ≡ None
   unfolding heap_fault
-  no_heap_fault =
-      ap (λ f. Rattle.std.specs.Option.option_or f (Rattle.std.specs.Option.option_or (bitmap_fault w lanes zones) (Rattle.std.specs.Option.option_or (block_fault w (blocks w lanes zones)) (Rattle.std.specs.Option.option_or (link_fault w (blocks w lanes zones)) (root_fault w (blocks w lanes zones)))))) no_chunk_fault
-      ∙ (ap (λ f. Rattle.std.specs.Option.option_or f (Rattle.std.specs.Option.option_or (block_fault w (blocks w lanes zones)) (Rattle.std.specs.Option.option_or (link_fault w (blocks w lanes zones)) (root_fault w (blocks w lanes zones))))) no_bitmap_fault
-      ∙ (ap (λ bs. Rattle.std.specs.Option.option_or (block_fault w bs) (Rattle.std.specs.Option.option_or (link_fault w bs) (root_fault w bs))) no_blocks
-      ∙ (ap (λ f. Rattle.std.specs.Option.option_or f (Rattle.std.specs.Option.option_or (link_fault w []) (root_fault w []))) no_block_fault ∙ (ap (λ f. Rattle.std.specs.Option.option_or f (root_fault w [])) no_link_fault ∙ no_root_fault))))
+  no_heap_fault = or_none _ _ no_chunk_fault (or_none _ _ no_bitmap_fault (or_none _ _ (ap (block_fault w) no_blocks ∙ no_block_fault)
+      (or_none _ _ (ap (link_fault w) no_blocks ∙ no_link_fault) (ap (root_fault w) no_blocks ∙ no_root_fault))))
 
 module _ (o : Opening) (bare : IsBare o) where
   -- words of no lane's generation
@@ -89,7 +90,8 @@ module _ (o : Opening) (bare : IsBare o) where
   root : slice_index o.words 64 ≡ 0
   root = bare.zero_ 64 (λ lane few same. absurd (omega arith))
 
-  in_area : (lane i : ℕ) → lane < o.shape.lanes → 1 ≤ i → i < 1024 → slice_index o.words (word_of_generation o.shape lane + i) ≡ 0
+  in_area : (lane i : ℕ) → lane < o.shape.lanes → 1 ≤ i → i < 1024
+      → slice_index o.words (word_of_generation o.shape lane + i) ≡ 0
   in_area lane i few some most = bare.zero_ (word_of_generation o.shape lane + i) (λ other l same. absurd (omega arith))
 
   no_descriptor : (c : ℕ) → descriptor o c ≡ 0
@@ -110,27 +112,40 @@ module _ (o : Opening) (bare : IsBare o) where
           has None = false
           has (Some y) = true
 
+  seal_at : (lane : ℕ) → word_of_seal o.shape lane ≡ word_of_generation o.shape lane + 1
+  seal_at lane = omega arith
+
+  slot_at : (lane j : ℕ) → 8 * line_of_slot o.shape lane j + 0 ≡ word_of_generation o.shape lane + (136 + 8 * j)
+  slot_at lane j = omega arith
+
   pub bare_retired : (lane : ℕ) → lane < o.shape.lanes → IsRetired o lane 1
   bare_retired lane few = record {
     stored = bare.first lane few;
     first = omega arith;
     last = omega arith;
-    unsealed = ap (slice_index o.words) (let q : word_of_seal o.shape lane ≡ word_of_generation o.shape lane + 1 = omega arith in q) ∙ in_area lane 1 few (omega arith) (omega arith);
+    unsealed = ap (slice_index o.words) (seal_at lane) ∙ in_area lane 1 few (omega arith) (omega arith);
     stale = λ j u l e. let g = record_first (slot_list (λ i. slice_index o.words (8 * line_of_slot o.shape lane j + i))) u e in
-        let z : slice_index o.words (8 * line_of_slot o.shape lane j + 0) ≡ 0 = ap (slice_index o.words) (let q : 8 * line_of_slot o.shape lane j + 0 ≡ word_of_generation o.shape lane + (136 + 8 * j) = omega arith in q) ∙ in_area lane (136 + 8 * j) few (omega arith) (omega arith) in
-        omega (arith, g, z);
+        let z = ap (slice_index o.words) (slot_at lane j) ∙ in_area lane (136 + 8 * j) few (omega arith) (omega arith) in omega (arith, g, z);
   }
 
   pub bare_whole : heap_fault (slice_index o.words) o.shape.lanes o.shape.zones ≡ None
   bare_whole = no_heap_fault (slice_index o.words) o.shape.lanes o.shape.zones (λ c. late (descriptor_word o.shape.lanes c) (omega arith)) root
 
-  pub bare_taken : (run zone : ℕ → ℕ) → IsUntaken o.shape run zone → (a : Block) → is_occupancy o.shape a ≡ true → occupancy_bit o.shape run zone a ≡ takes o a
-  bare_taken run zone un (Small c i) h = let t = and_parts (nat_lt c (chunks_of o.shape)) (nat_lt i 64) h in let inc = ltb-true c (chunks_of o.shape) t.0 in let ini = ltb-true i 64 t.1 in
-      ap (λ x. bit x i) (un.full (page_of_chunk o.shape c) (omega arith)) ∙ (eq-eqb _ 1 (bit_at_ones 64 i ini)
-      ∙ sym (ap (λ d. not (is_run d && nat_lt i (Rattle.pm_layout.specs.Sizes.blocks_of (d / 256))) || bit (slice_index o.words (Rattle.pm_layout.specs.Chunks.word_of_chunk o.shape c)) i) (no_descriptor c)))
-  bare_taken run zone un (Big c) h = ap (λ x. bit x (c % 64)) (un.free (c / 64)) ∙ (ap (λ x. x == 1) (bit_at-zero (c % 64))
-      ∙ sym (ap (λ d. is_run d || is_in_huge o c) (no_descriptor c) ∙ list_any_none (λ f. is_huge (descriptor o f) && in_span f (descriptor o f / 256) c) (range_with_len 0 (chunks_of o.shape))
-      (λ i f l. let at : ℕ = get_or (range_with_len 0 (chunks_of o.shape)) i f in ap (λ d. is_huge d && in_span at (descriptor o at / 256) c) (no_descriptor at))))
+  -- no chunk is a run, nor in a huge block
+  takes_page : (c i : ℕ) → takes o (Small c i) ≡ true
+  takes_page c i = ap (λ d. not (is_run d && nat_lt i (blocks_of (d / 256))) || bit (slice_index o.words (word_of_chunk o.shape c)) i) (no_descriptor c)
+
+  takes_no_chunk : (c : ℕ) → takes o (Big c) ≡ false
+  takes_no_chunk c = ap (λ d. is_run d || is_in_huge o c) (no_descriptor c)
+      ∙ list_any_none (λ f. is_huge (descriptor o f) && in_span f (descriptor o f / 256) c) (range_with_len 0 (chunks_of o.shape))
+      (λ i f l. let at : ℕ = get_or (range_with_len 0 (chunks_of o.shape)) i f in ap (λ d. is_huge d && in_span at (descriptor o at / 256) c) (no_descriptor at))
+
+  pub bare_taken : (run zone : ℕ → ℕ) → IsUntaken o.shape run zone → (a : Block) → is_occupancy o.shape a ≡ true
+      → occupancy_bit o.shape run zone a ≡ takes o a
+  bare_taken run zone un (Small c i) h = let t = and_parts (nat_lt c (chunks_of o.shape)) (nat_lt i 64) h in
+      let inside = ltb-true c (chunks_of o.shape) t.0 in let below = ltb-true i 64 t.1 in
+      ap (λ x. bit x i) (un.full (page_of_chunk o.shape c) (omega arith)) ∙ (eq-eqb _ 1 (bit_at_ones 64 i below) ∙ sym (takes_page c i))
+  bare_taken run zone un (Big c) h = ap (λ x. bit x (c % 64)) (un.free (c / 64)) ∙ (ap (λ x. x == 1) (bit_at-zero (c % 64)) ∙ sym (takes_no_chunk c))
   bare_taken run zone un Root h = absurd (both_ways false refl h)
 
 pub bare_opens : BareOpens

@@ -1,5 +1,7 @@
 -- Lane 0 over its memory: what the memory's calls are to it, in whatever world the memory stands.
-use Rattle.std.proofs.Common.{◌≡◌, ◌↔◌, ℕ, ◌<◌, Bool, true, false, IsTrue, slice_index, bit_and, bit_or, Option, Result, Ok, Err, IfOk, OnOk, OnErr, refl, sym, ap, ◌∙◌, subst, arith}
+use Rattle.std.proofs.Common.{◌≡◌, ◌↔◌, ℕ, ◌<◌, Bool, true, false, IsTrue, slice_index, bit_and}
+use Rattle.std.proofs.Common.{bit_or, Option, Result, Ok, Err, IfOk, OnOk, OnErr, refl, sym, ap}
+use Rattle.std.proofs.Common.{◌∙◌, subst, arith}
 use Rattle.std.proofs.lemmas.Bool.{both_ways}
 use Rattle.std.specs.Bool.{OnTrue, OnFalse}
 use Rattle.pm_layout.specs.Chunks.{words_of}
@@ -14,8 +16,9 @@ use Rattle.pm_view.specs.Counts.{is_counted}
 use Rattle.pm_view.specs.Steps.{Step}
 use Rattle.pm_view.specs.Steps.Step.{Occupy, SetStop, Tell}
 use Rattle.pm_view.specs.View.{View}
+use Rattle.pm_view.specs.Views.{after}
 use Rattle.pm_world.specs.InWorld.{InWorld}
-use Rattle.pm_world.specs.Lawful.{Allowed}
+use Rattle.pm_world.specs.Lawful.{Allowed, IsLawful}
 use Rattle.pm_world.specs.SoloLanes.{Stands, StandsAs}
 use Rattle.pm_world.specs.SoloWorld.{memory_of}
 use Rattle.pm_world.proofs.SoloStands.{stands_after}
@@ -28,29 +31,44 @@ module _ (m now new : Solo) (same : now ≡ m) where
   pub can_now : (s : Step) → CanStep m s → CanStep now s
   can_now s can = subst (λ n. CanStep n s) (sym same) can
 
+  after_step : (s : Step) {v : View} (st : StandsAs m v) → IsLawful v s → Calls s now new → Sees new (after v s)
+      → StandsAs new (after v s)
+  after_step s {v} st law is sees =
+      (st.0, stands_after s st.0 now new v (subst (λ n. Stands st.0 n v) (sym same) st.1) law is sees)
+
   -- a call that is not counted
-  pub stood : (s : Step) → is_counted s ≡ false → Calls s now new → Made AnyStep (Sees now) (Sees new) s → Made Allowed (StandsAs m) (StandsAs new) s
-  stood s plain is made v st may = let a = made v (seen_now v st) tt in
-      ((st.0, stands_after s st.0 now new v (subst (λ n. Stands st.0 n v) (sym same) st.1) (record { allowed = may; due = λ c. absurd (both_ways (is_counted s) plain c) }) is a.0), a.1)
+  pub stood : (s : Step) → is_counted s ≡ false → Calls s now new → Made AnyStep (Sees now) (Sees new) s
+      → Made Allowed (StandsAs m) (StandsAs new) s
+  stood s plain is made v st may = let a = made v (seen_now v st) tt in let none = both_ways (is_counted s) plain in
+      (after_step s st (record { allowed = may; due = λ c. absurd (none c) }) is a.0, a.1)
 
   -- and one that is, or the stop word in its place
-  pub stood_or_stopped : {T : Type 0} (s : T → Step) (r : Result T Stopped) → MadeOrStopped AnyStep (Sees now) (Sees new) s r → IfOk r (λ x. Calls (s x) now new) → OnErr r (new ≡ says_stopped now) → MadeOrStopped Allowed (StandsAs m) (StandsAs new) s r
+  pub stood_or_stopped : {T : Type 0} (s : T → Step) (r : Result T Stopped)
+      → MadeOrStopped AnyStep (Sees now) (Sees new) s r
+      → IfOk r (λ x. Calls (s x) now new) → OnErr r (new ≡ says_stopped now)
+      → MadeOrStopped Allowed (StandsAs m) (StandsAs new) s r
   stood_or_stopped s (Ok x) made is said = λ v st may. let a = made v (seen_now v st) tt in
-      ((st.0, stands_after (s x) st.0 now new v (subst (λ n. Stands st.0 n v) (sym same) st.1) (record { allowed = may; due = λ c. a.2 }) is a.0), a.1, a.2)
+      (after_step (s x) st (record { allowed = may; due = λ c. a.2 }) is a.0, a.1, a.2)
   stood_or_stopped s (Err e) made is said = λ v st. let a = made v (seen_now v st) in
-      ((st.0, stands_after SetStop st.0 now new v (subst (λ n. Stands st.0 n v) (sym same) st.1) (record { allowed = a.1; due = λ c. absurd (both_ways false refl c) }) said a.0), a.1)
+      (after_step SetStop st (record { allowed = a.1; due = λ c. absurd (both_ways false refl c) }) said a.0, a.1)
 
 -- a call with a reply did what it does with that one
-pub with_reply : {T : Type 0} (P : Type 0) (Q : T → Type 0) (r : Result T Stopped) → OnOk r P → IfOk r Q → IfOk r (λ x. P × Q x)
+pub with_reply : {T : Type 0} (P : Type 0) (Q : T → Type 0) (r : Result T Stopped)
+    → OnOk r P → IfOk r Q → IfOk r (λ x. P × Q x)
 with_reply P Q (Ok x) p q = (p, q)
 with_reply P Q (Err e) p q = tt
 
-pub occupy_calls : (old new : Solo) (at : Occ) (bits : ℕ) (won : Bool) → (IsTrue won ↔ (bit_and (occ_in old at) bits ≡ 0)) → OnTrue won (new ≡ with_occ old at (bit_or (occ_in old at) bits)) → OnFalse won (new ≡ old) → Calls (Occupy at bits won) old new
+pub occupy_calls : (old new : Solo) (at : Occ) (bits : ℕ) (won : Bool)
+    → (IsTrue won ↔ (bit_and (occ_in old at) bits ≡ 0))
+    → OnTrue won (new ≡ with_occ old at (bit_or (occ_in old at) bits))
+    → OnFalse won (new ≡ old) → Calls (Occupy at bits won) old new
 occupy_calls old new at bits true free done same = (done, free.0 refl)
-occupy_calls old new at bits false free done same = (same, λ z. absurd (both_ways false refl (free.1 z)))
+occupy_calls old new at bits false free done same =
+    (same, λ z. absurd (both_ways false refl (free.1 z)))
 
 -- an operation is told with no call of the memory
-pub tell_made : (m : Solo) (operation : Operation) (reply : Option Value) → Made AnyStep (Sees m) (Sees m) (Tell operation reply)
+pub tell_made : (m : Solo) (operation : Operation) (reply : Option Value)
+    → Made AnyStep (Sees m) (Sees m) (Tell operation reply)
 tell_made m operation reply v s _ = (
   record {
     fixed = s.fixed;
@@ -67,7 +85,8 @@ tell_made m operation reply v s _ = (
 )
 
 -- each view of the lane is one of a world, in which the words are the memory's
-pub in_world : (m : Solo) (v : View) (w x : ℕ) → StandsAs m v → w < words_of v.fixed.shape → x ≡ slice_index m.words w → InWorld v w x
+pub in_world : (m : Solo) (v : View) (w x : ℕ) → StandsAs m v
+    → w < words_of v.fixed.shape → x ≡ slice_index m.words w → InWorld v w x
 in_world m v w x st inside found = let some : 0 < st.0.lanes = let l = st.1.world.some_lanes in omega arith in record {
   opening = st.0;
   memory = memory_of m;

@@ -1,37 +1,53 @@
--- What the crate's tests do: lane 0 over the words of a pool of one lane and one zone without objects looks at its generation, takes a line's lock and gives
--- it back, and opens a call.
-use Rattle.std.proofs.Common.{◌≡◌, ◌≢◌, ℕ, ◌+◌, ◌*◌, ◌/◌, ◌<◌, ◌≤◌, ⊎_elim, Bool, true, List, length, Some, replicate, slice_index, set, refl, ap, ◌∙◌, subst, arith, length-set, get_or-set_same, get_or-set_other}
-use Rattle.std.proofs.lemmas.Bool.{cases_eq, cases_lt}
+-- What the crate's tests do: lane 0 over the words of a pool of one lane and one zone without
+-- objects takes a line's lock and gives it back, looks at its generation and opens a call; and in
+-- an open call it stores its next generation, flushes the line and drains it.
+use Rattle.std.proofs.Common.{◌≡◌, ◌≢◌, ℕ, ◌+◌, ◌*◌, ◌/◌, ◌<◌, ◌≤◌, ⊎_elim, Bool, true, List}
+use Rattle.std.proofs.Common.{length, Some, replicate, slice_index, set, refl, ap, ◌∙◌, subst}
+use Rattle.std.proofs.Common.{false, None, is_none, Result, Ok, Err, sym}
+use Rattle.std.proofs.Common.{arith, length-set, get_or-set_same, get_or-set_other}
+use Rattle.std.proofs.lemmas.Bool.{both_ways, cases_eq, cases_lt}
 use Rattle.std.proofs.lemmas.List.{get_or-replicate, get_or_past, length-replicate}
 use Rattle.pm_layout.specs.declared.shape.Shape.{Shape}
 use Rattle.pm_layout.specs.Areas.{word_of_generation}
 use Rattle.pm_layout.specs.Chunks.{words_of}
-use Rattle.pm_memory.specs.Runs.{Made}
+use Rattle.pm_memory.specs.Runs.{Made, MadeOrStopped}
+use Rattle.pm_memory.specs.declared.lane_mem.Stopped.{Stopped}
 use Rattle.pm_memory.specs.Solo.{Solo, CanStep, opened_with}
-use Rattle.pm_view.specs.Steps.Step.{Load, TakeWrite, Give, NumberSeen}
+use Rattle.pm_view.specs.Counts.{IsAtStop}
+use Rattle.pm_view.specs.Steps.{Step}
+use Rattle.pm_view.specs.Steps.Step.{Load, Store, Flush, Drain, TakeWrite, Give, NumberSeen}
 use Rattle.pm_view.specs.View.{View, Constants}
 use Rattle.pm_view.specs.Views.{after}
 use Rattle.pm_world.specs.Bare.{IsBare, IsUntaken}
 use Rattle.pm_world.specs.Lawful.{Allowed}
-use Rattle.pm_world.specs.Solo.{meets_standing}
+use Rattle.pm_world.specs.InWorld.{InWorld}
+use Rattle.pm_world.specs.Solo.{meets_standing, grants_allowed}
 use Rattle.pm_world.specs.SoloLanes.{StandsAs}
 use Rattle.pm_world.specs.SoloWorld.{memory_of}
 use Rattle.pm_world.specs.TestLanes.{first_lane, first_view}
+use Rattle.pm_world.specs.Opens.{OpensIdle}
 use Rattle.pm_world.specs.World.{Opening}
 use Rattle.pm_world.proofs.Bare.{bare_opens}
+use Rattle.pm_world.proofs.FirstLooks.{looked, looks_first}
 use Rattle.pm_world.proofs.SoloStands.{opened_stands, opened_starts}
+
+zeros_long : length {A = ℕ} (replicate 34816 0) ≡ 34816
+zeros_long = length-replicate {A = ℕ} 34816 0
 
 -- the words are 0, but for one
 module _ (words : List ℕ) (are : words ≡ set (replicate 34816 0) 512 1) where
   other : (w : ℕ) → w ≢ 512 → slice_index words w ≡ 0
-  other w a = ap (λ (ws : List ℕ). slice_index ws w) are ∙ (get_or-set_other (replicate 34816 0) 512 w 1 0 (λ e. a e)
-      ∙ ⊎_elim (λ (l : w < 34816). get_or-replicate 34816 w 0 0 l) (λ (l : 34816 ≤ w). get_or_past (replicate 34816 0) w 0 (let q = length-replicate {A = ℕ} 34816 0 in omega (arith, q, l))) (cases_lt w 34816))
+  other w a = ap (λ (ws : List ℕ). slice_index ws w) are ∙ (get_or-set_other (replicate 34816 0) 512 w 1 0 (λ e. a e) ∙ ⊎_elim
+      (λ (l : w < 34816). get_or-replicate 34816 w 0 0 l)
+      (λ (l : 34816 ≤ w). get_or_past (replicate 34816 0) w 0 (let q = zeros_long in omega (arith, q, l)))
+      (cases_lt w 34816))
 
   long : length words ≡ 34816
-  long = ap length are ∙ (length-set {A = ℕ} (replicate 34816 0) 512 1 ∙ length-replicate {A = ℕ} 34816 0)
+  long = ap length are ∙ (length-set {A = ℕ} (replicate 34816 0) 512 1 ∙ zeros_long)
 
   at_512 : slice_index words 512 ≡ 1
-  at_512 = ap (λ (ws : List ℕ). slice_index ws 512) are ∙ get_or-set_same (replicate 34816 0) 512 1 0 (let q = length-replicate {A = ℕ} 34816 0 in omega (arith, q))
+  at_512 = ap (λ (ws : List ℕ). slice_index ws 512) are
+      ∙ get_or-set_same (replicate 34816 0) 512 1 0 (let q = zeros_long in omega (arith, q))
 
   module _ (sh : Shape) (lanes : sh.lanes ≡ 1) (zones : sh.zones ≡ 1) where
     bare : IsBare (record { shape = sh; lanes = 1; words = words })
@@ -40,19 +56,17 @@ module _ (words : List ℕ) (are : words ≡ set (replicate 34816 0) 512 1) wher
       most_lanes = omega (arith, lanes);
       size = long ∙ omega (arith, lanes, zones);
       small = λ w. ⊎_elim
-          (λ (e : w ≡ 512). let q : slice_index words w ≡ 1 = ap (slice_index words) e ∙ at_512 in omega (arith, q))
+          (λ (e : w ≡ 512). let q = ap (slice_index words) e ∙ at_512 in omega (arith, q))
           (λ (a : w ≢ 512). let q = other w a in omega (arith, q)) (cases_eq w 512);
-      first = λ lane few. ap (slice_index words) (let q : 512 + 1024 * lane ≡ 512 = omega (arith, few, lanes) in q) ∙ at_512;
+      first = λ lane few. ap (slice_index words)
+          (let q : 512 + 1024 * lane ≡ 512 = omega (arith, few, lanes) in q) ∙ at_512;
       zero_ = λ w none. other w (λ e. none 0 (omega (arith, lanes)) (omega (arith, e)));
     }
 
     -- LANE 0 STANDS IN THE WORLD that they open
-    pub bare_stands : (runs free : List ℕ) → runs ≡ replicate 68 18446744073709551615 → free ≡ replicate 32 0 → StandsAs (opened_with words (Some 3) runs free) (first_view sh)
-    bare_stands runs free full clear = (
-      o,
-      opened_stands o fixed (λ k. 1) runs free refl refl refl (ap length full ∙ (length-replicate {A = ℕ} 68 18446744073709551615 ∙ let l = long in omega (arith, l))) (ap length clear ∙ length-replicate {A = ℕ} 32 0)
-          (bare_opens o (memory_of (opened_with words (fixed 0).stop runs free)) fixed bare untaken (opened_starts o fixed (fixed 0).stop runs free refl (λ k. refl) (λ k. refl) (λ k. refl))),
-    )
+    pub bare_stands : (runs free : List ℕ) → runs ≡ replicate 68 18446744073709551615 → free ≡ replicate 32 0
+        → StandsAs (opened_with words (Some 3) runs free) (first_view sh)
+    bare_stands runs free full clear = (o, opened_stands o fixed (λ k. 1) runs free refl refl refl pages count opens)
       where
         o : Opening
         o = record { shape = sh; lanes = 1; words = words }
@@ -60,11 +74,25 @@ module _ (words : List ℕ) (are : words ≡ set (replicate 34816 0) 512 1) wher
         fixed : ℕ → Constants
         fixed k = record (first_lane sh) { lane = k }
 
+        pages : length runs ≡ length words / 512
+        pages = let l = long in ap length full ∙ (length-replicate {A = ℕ} 68 18446744073709551615 ∙ omega (arith, l))
+
+        count : length free ≡ 32
+        count = ap length clear ∙ length-replicate {A = ℕ} 32 0
+
         untaken : IsUntaken sh (slice_index runs) (slice_index free)
         untaken = record {
-          full = λ page l. ap (λ (ws : List ℕ). slice_index ws page) full ∙ get_or-replicate 68 page 18446744073709551615 0 (omega (arith, l, lanes, zones));
-          free = λ zone. ap (λ (ws : List ℕ). slice_index ws zone) clear ∙ ⊎_elim (λ (l : zone < 32). get_or-replicate 32 zone 0 0 l) (λ (l : 32 ≤ zone). get_or_past (replicate 32 0) zone 0 (let q = length-replicate {A = ℕ} 32 0 in omega (arith, q, l))) (cases_lt zone 32);
+          full = λ page l. ap (λ (ws : List ℕ). slice_index ws page) full
+              ∙ get_or-replicate 68 page 18446744073709551615 0 (omega (arith, l, lanes, zones));
+          free = λ zone. ap (λ (ws : List ℕ). slice_index ws zone) clear ∙ ⊎_elim
+              (λ (l : zone < 32). get_or-replicate 32 zone 0 0 l)
+              (λ (l : 32 ≤ zone). get_or_past (replicate 32 0) zone 0 (let q = length-replicate {A = ℕ} 32 0 in omega (arith, q, l)))
+              (cases_lt zone 32);
         }
+
+        opens : OpensIdle o (memory_of (opened_with words (Some 3) runs free)) fixed (λ k. 1)
+        opens = bare_opens o (memory_of (opened_with words (Some 3) runs free)) fixed bare untaken
+            (opened_starts o fixed (Some 3) runs free refl (λ k. refl) (λ k. refl) (λ k. refl))
 
 -- ---- ITS STEPS: a lock is taken and given back, the generation is looked at, and a call is opened
 module _ (sh : Shape) where
@@ -97,14 +125,110 @@ module _ (sh : Shape) where
     can_see w x at st = meets_standing m gave_lock (Load w x) st (may_see w x at)
 
     module _ (new : Solo) where
-      pub took : (won : Bool) → StandsAs m (first_view sh) → Made Allowed (StandsAs m) (StandsAs new) (TakeWrite 100 won) → StandsAs new took_lock
-      took won st made = let t = made (first_view sh) st (may_take won) in subst (λ b. StandsAs new (after (first_view sh) (TakeWrite 100 b))) (t.1 refl) t.0
+      pub took : (won : Bool) → StandsAs m (first_view sh)
+          → Made Allowed (StandsAs m) (StandsAs new) (TakeWrite 100 won) → StandsAs new took_lock
+      took won st made = let t = made (first_view sh) st (may_take won) in
+          subst (λ b. StandsAs new (after (first_view sh) (TakeWrite 100 b))) (t.1 refl) t.0
 
       pub gave : StandsAs m took_lock → Made Allowed (StandsAs m) (StandsAs new) (Give 100) → StandsAs new gave_lock
       gave st made = (made took_lock st may_give).0
 
-      pub saw : (w x : ℕ) → w ≡ word_of_generation sh 0 → StandsAs m gave_lock → Made Allowed (StandsAs m) (StandsAs new) (Load w x) → StandsAs new (after gave_lock (Load w x))
+      pub saw : (w x : ℕ) → w ≡ word_of_generation sh 0 → StandsAs m gave_lock
+          → Made Allowed (StandsAs m) (StandsAs new) (Load w x) → StandsAs new (after gave_lock (Load w x))
       saw w x at st made = (made gave_lock st (may_see w x at)).0
 
-      pub opened : (w x n : ℕ) → StandsAs m (after gave_lock (Load w x)) → Made Allowed (StandsAs m) (StandsAs new) (NumberSeen n) → StandsAs new (after (after gave_lock (Load w x)) (NumberSeen n))
+      pub opened : (w x n : ℕ) → StandsAs m (after gave_lock (Load w x))
+          → Made Allowed (StandsAs m) (StandsAs new) (NumberSeen n)
+          → StandsAs new (after (after gave_lock (Load w x)) (NumberSeen n))
       opened w x n st made = (made (after gave_lock (Load w x)) st refl).0
+
+-- ---- A COUNTED CALL is made where the lane is not at its stop number
+pub went_on : {T : Type 0} (m new : Solo) (v : View) (s : Step) (r : Result T Stopped)
+    → MadeOrStopped Allowed (StandsAs m) (StandsAs new) (λ _. s) r
+    → StandsAs m v → Allowed v s → (IsAtStop v → ⊥) → StandsAs new (after v s)
+went_on m new v s (Ok x) made st may on = (made v st may).0
+went_on m new v s (Err e) made st may on = absurd (on (made v st).1)
+
+-- the lane of an open call stores its next generation, flushes the line and drains it
+module _ (sh : Shape) (n : ℕ) where
+  abbrev pub began : View
+  began = after (looked (first_lane sh) 1) (NumberSeen n)
+
+  abbrev pub stored : View
+  stored = after began (Store 512 2)
+
+  abbrev pub flushed : View
+  flushed = after stored (Flush 64)
+
+  abbrev pub drained : View
+  drained = after flushed Drain
+
+  in_words : 512 < words_of sh
+  in_words = let a = sh.lanes_from in omega (arith, a)
+
+  no_record : (x : ℕ) → None ≡ Some x → ⊥
+  no_record x e = both_ways false refl (ap is_none (sym e))
+
+  pub may_store : Allowed began (Store 512 2)
+  may_store = record {
+    inside = in_words;
+    room = omega arith;
+    small = omega arith;
+    fits = record {
+      ends = record { next = refl; known = refl; below = omega arith; drained = refl; unentered = refl };
+      restored = λ p x b e. absurd (no_record x e);
+      whole = (refl, refl);
+    };
+  }
+
+  pub may_flush : Allowed stored (Flush 64)
+  may_flush = (0, _, omega arith, refl, (refl, refl))
+
+  pub may_drain : Allowed flushed Drain
+  may_drain = (0, _, omega arith, refl, refl)
+
+  pub may_store_again : Allowed drained (Store 512 3)
+  may_store_again = record {
+    inside = in_words;
+    room = omega arith;
+    small = omega arith;
+    fits = record {
+      ends = record { next = refl; known = refl; below = omega arith; drained = refl; unentered = refl };
+      restored = λ p x b e. absurd (no_record x e);
+      whole = (refl, refl);
+    };
+  }
+
+  -- the look tells the generation
+  pub begins : (w x : ℕ) → w ≡ word_of_generation sh 0 → (m looked_ opened_ : Solo) → StandsAs m (first_view sh)
+      → Made Allowed (StandsAs m) (StandsAs looked_) (Load w x)
+      → ((v : View) → StandsAs m v → Allowed v (Load w x) → InWorld v w x)
+      → Made Allowed (StandsAs looked_) (StandsAs opened_) (NumberSeen n) → StandsAs opened_ began
+  begins w x at m looked_ opened_ st made world next = let lane = sh.lanes_from in
+      let first = looks_first StandsAs Allowed grants_allowed m looked_ sh 0 w x (first_lane sh) 1
+      (record { made = made; world = world }) at refl (record { shape = refl; lane = omega (arith, lane); seen = st }) in
+      (next (looked (first_lane sh) 1) first.1 refl).0
+
+  module _ (w : ℕ) (at : w ≡ word_of_generation sh 0) (m : Solo) where
+    pub can_store : StandsAs m began → CanStep m (Store w 2)
+    can_store st = meets_standing m began (Store w 2) st (subst (λ y. Allowed began (Store y 2)) (sym at) may_store)
+
+    pub can_flush : StandsAs m stored → CanStep m (Flush 64)
+    can_flush st = meets_standing m stored (Flush 64) st may_flush
+
+    pub can_drain : StandsAs m flushed → CanStep m Drain
+    can_drain st = meets_standing m flushed Drain st may_drain
+
+    pub can_store_again : StandsAs m drained → CanStep m (Store w 3)
+    can_store_again st = meets_standing m drained (Store w 3) st (subst (λ y. Allowed drained (Store y 3)) (sym at) may_store_again)
+
+    module _ {T : Type 0} (new : Solo) (r : Result T Stopped) where
+      pub did_store : StandsAs m began → MadeOrStopped Allowed (StandsAs m) (StandsAs new) (λ _. Store w 2) r → StandsAs new stored
+      did_store st made = subst (λ y. StandsAs new (after began (Store y 2))) at
+          (went_on m new began (Store w 2) r made st (subst (λ y. Allowed began (Store y 2)) (sym at) may_store) (λ stops. absurd (omega (arith, stops))))
+
+      pub did_flush : StandsAs m stored → MadeOrStopped Allowed (StandsAs m) (StandsAs new) (λ _. Flush 64) r → StandsAs new flushed
+      did_flush st made = went_on m new stored (Flush 64) r made st may_flush (λ stops. absurd (omega (arith, stops)))
+
+      pub did_drain : StandsAs m flushed → MadeOrStopped Allowed (StandsAs m) (StandsAs new) (λ _. Drain) r → StandsAs new drained
+      did_drain st made = went_on m new flushed Drain r made st may_drain (λ stops. absurd (omega (arith, stops)))

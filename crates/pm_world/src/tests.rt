@@ -9,7 +9,7 @@ ghost use Rattle.pm_world.specs.TestLanes.{first_view};
 
 use super::*;
 use pm_layout::Shape;
-use pm_memory::{LaneMem, LaneSync, SoloMem};
+use pm_memory::{LaneMem, LaneSync, SoloMem, Stopped};
 use pm_objects::Oid;
 use pm_view::Occ;
 use std::alloc::Global;
@@ -76,6 +76,30 @@ fn a_lane_steps_on_its_memory(rt: HostRuntime) -> Result<(), Fail> {
     let left = lane.survive(rt.alloc(), 0)?;
     assert_eq!(rt; left.len(), 34816);
     assert_eq!(rt; left[512], 1);
+    Ok(())
+}
+
+/// The lane of an open call stores its next generation, flushes the line and drains it: a power
+/// failure that keeps nothing takes the store back until then. A fourth counted call says that the
+/// lane stopped.
+#[test]
+fn a_drained_store_survives(rt: HostRuntime) -> Result<(), Fail> {
+    let shape = Shape::new(1, 1)?;
+    let generation = shape.word_of_generation(0);
+    let mut lane = bare_lane(rt.alloc(), shape)?;
+    lane.see(generation);
+    lane.number_seen();
+    let stored = lane.store(generation, 2);
+    let flushed = lane.flush(64);
+    let before = lane.survive(rt.alloc(), 0)?;
+    let drained = lane.drain();
+    let after = lane.survive(rt.alloc(), 0)?;
+    let stopped = lane.store(generation, 3);
+    assert_eq!(rt; [stored, flushed, drained], [Ok(()), Ok(()), Ok(())]);
+    assert_eq!(rt; [before.len(), after.len()], [34816, 34816]);
+    assert_eq!(rt; [before[512], after[512]], [1, 2]);
+    assert_eq!(rt; stopped, Err(Stopped));
+    assert_eq!(rt; lane.calls(), 3);
     Ok(())
 }
 

@@ -6,5 +6,10 @@ pub new-requires-2 : goal.new-requires-2
 new-requires-2 g c = (
   first_lane c.in_ok-shape.shape,
   1,
-  record { shape = refl; lane = let l = c.in_ok-shape.shape.lanes_from in omega (arith, l); seen = c.in_ok-memory.ensures },
+  record {
+    shape = refl;
+    lane = let l = c.in_ok-shape.shape.lanes_from in omega (arith, l);
+    seen =
+        c.in_ok-memory.ensures;
+  },
 )
