@@ -6,10 +6,14 @@ pub mod EmptyRuns
 pub mod Spelling
 pub mod OpeningBits
 pub mod KeptBits
+pub mod RootClaims
+pub mod Roots
 pub mod Precede
 pub mod Onward
 pub mod Replaying
 pub mod RunClasses
+pub mod RootSteps
+pub mod RootHistory
 pub mod ImageDescriptors
 pub mod Fresh
 pub mod SmallWords
@@ -53,3 +57,4 @@ pub mod FreeBlocks
 pub mod SimAllocs
 pub mod SimCommits
 pub mod Telling
+pub mod SimRoots

@@ -26,6 +26,7 @@ use Rattle.pm_world.proofs.Frame.{found_has, mine_own, own_has, owns_apart, sees
 use Rattle.pm_world.proofs.Geometry.{live_same}
 use Rattle.pm_world.proofs.WordPlaces.{page_apart}
 use Rattle.pm_crash.specs.Footprints.{KeepsDecided, MayPrecede, bit_before, geometry_of, has_found, has_own, is_of_object, is_run_to, kept_bits}
+use Rattle.pm_crash.specs.Roots.{RootsAreSeen}
 use Rattle.pm_crash.specs.Spelled.{has_blocks}
 use Rattle.pm_crash.proofs.KeptBits as kept
 use Rattle.pm_crash.proofs.Spelling.{some_block}
@@ -113,7 +114,8 @@ is_chunk_block (Big f) = true
 is_chunk_block Root = false
 
 module _ (o : Opening) (mem : Memory) (views : Views) (g : Past) (x : World o mem views g) (k : ℕ)
-    (ink : k < o.lanes) (is_open : (views k).log.phase ≡ Open) (keep : ℕ → Bool) (d : KeepsDecided g keep) where
+    (ink : k < o.lanes) (is_open : (views k).log.phase ≡ Open) (keep : ℕ → Bool) (d : KeepsDecided g keep)
+    (sees_root : RootsAreSeen (views k).fixed.shape (views k).claims (kept_bits o g keep g.length)) where
   abbrev v : View
   v = views k
 
@@ -353,4 +355,5 @@ module _ (o : Opening) (mem : Memory) (views : Views) (g : Past) (x : World o me
     known = known_so;
     apart = λ B C line t a c. lines_apart B C line (subst (λ s. OwnHas s h (geometry_of v) B line) sh_is a)
         (subst (λ s. AllocatedHas s K (record { first = λ c. c; class = g.geo.class }) C line) sh_is c);
+    roots = sees_root;
   }

@@ -57,6 +57,7 @@ may_agree classes v kept s x = record {
       (or_cases (has_found v (Rattle.pm_view.specs.Places.Small c i)) (is_kept_block v kept (Rattle.pm_view.specs.Places.Small c i)) t));
   known = x.known;
   apart = λ B C line o a c. x.apart B C line (kept_is_own v kept B o) a c;
+  roots = x.roots;
 }
 
 -- what was told is a run of the model

@@ -69,6 +69,10 @@ module _ (v next : View) (kept kept' : Bool) (keeps : KeepsEntries v next) (g : 
         x.known p b y (sees_so next s p b ∙ (g.sees p b t').0) (same_object p b t' o) (g.knows p b y t' e);
     apart = λ B C line o a c. x.apart B C line (g.own B o) (g.lines B line o a)
         (subst (λ (f : Constants). AllocatedHas f.shape s (record { first = λ d. d; class = classes }) C line) (sym keeps.fixed) c);
+    roots = record {
+      same = λ l n t e. x.roots.same l n (g.roots l n t) e;
+      other = λ l n t e. x.roots.other l n (g.roots l n t) e;
+    };
   }
 
 -- ---- THE BITS STAY

@@ -139,6 +139,7 @@ tells_grow v op reply kept = record {
   sees = λ p b t. (t, same_place v op reply p);
   recorded = λ p t. t;
   knows = λ p b y t e. e;
+  roots = λ l n t. t;
 }
 
 -- ---- steps that teach nothing of bits
@@ -163,6 +164,7 @@ sim_is_kept v entries changes calls occupancy zones seen sim =
       sees = λ p b t. (t, still_place v changes calls occupancy zones seen p);
       recorded = λ p t. t;
       knows = λ p b y t e. e;
+      roots = λ l n t. t;
     })
     (λ p b. inl refl)
 

@@ -1,5 +1,6 @@
 pub mod Held
 pub mod Spelled
+pub mod Roots
 pub mod Footprints
 pub mod Calls
 pub mod Replayed
@@ -22,6 +23,7 @@ pub mod Sim
 pub mod Looked
 pub mod SimFacts
 pub mod SimOps
+pub mod SimRoots
 pub mod SimBlocks
 pub mod SimAllocs
 pub mod SimCommits

@@ -31,6 +31,7 @@ use Rattle.pm_crash.specs.Calls.{pending_after, pending_of, pending_with, told_b
 use Rattle.pm_crash.specs.Footprints.{MayPrecedeBut, bit_before, geometry_of, has_found, has_own}
 use Rattle.pm_crash.specs.Objects.{is_allocated, lines_of}
 use Rattle.pm_crash.specs.OpenRuns.{AreReplies, after_told, no_pool, on_pool}
+use Rattle.pm_crash.specs.Roots.{saw_root}
 use Rattle.pm_crash.specs.Scenes.{IsScene}
 use Rattle.pm_crash.specs.Spelled.{Holds, words_by}
 
@@ -146,6 +147,8 @@ pub record Grows (v : View) (kept : Bool) (next : View) (kept' : Bool) : Type 0 
       → is_recorded next.log.records p ≡ true
   pub knows : (p : Place) (b : ℕ) (y : Bool) → sees_at v p b ≡ true → bit_before v p b ≡ Some y
       → bit_before next p b ≡ Some y
+  pub roots : (line value : ℕ) → saw_root v.fixed.shape v.claims line value ≡ true
+      → saw_root next.fixed.shape next.claims line value ≡ true
 
 -- THE BITS AS THE CALL HAS MADE THEM STAY: each is changed alike, or is recorded now and as it was
 pub record IsAsBefore (next : View) (p : Place) (b : ℕ) (y : Bool) : Type 0 where

@@ -1,5 +1,6 @@
 ghost use Rattle.pm_crash.specs.Sim.{SimBegins, SimGoesOn, SimIsKept, SimStays, TellsGrow};
 ghost use Rattle.pm_crash.specs.SimOps.{NoRootIsAsked, SimAborts, SimExtends, SimRefuses, SimWrites};
+ghost use Rattle.pm_crash.specs.SimRoots.{RootIsKnown};
 ghost use Rattle.pm_crash.specs.SimAllocs.{SimAllocates, SimFrees, SimPublishes, SimReserves};
 ghost use Rattle.pm_crash.specs.SimCommits.{SimCommits};
 ghost use Rattle.pm_crash.specs.SimFacts.{SimsAreFacts};
@@ -35,12 +36,14 @@ pub fn operations_follow_the_model()
 
 /// A law: the first refusal of each operation of a transaction is the model's, by the lane's lists and
 /// by what it looked at; and so are the bytes that it reads. Two transactions of the same lists are
-/// refused alike where what an operation looks at is the same. No code runs.
+/// refused alike where what an operation looks at is the same. A lane that saw the root word under an
+/// object's lock knows whether the object is the root. No code runs.
 pub fn first_refusals_are_the_models()
     ensures refusal { RefusalIs }
     ensures reads { ReadIs }
     ensures looks { RefusalsLook }
     ensures root { NoRootIsAsked }
+    ensures root_known { RootIsKnown }
 {}
 
 /// A law: a transaction that is over, and has the entries of the blocks that it made and freed in its
