@@ -58,3 +58,4 @@ pub mod SimAllocs
 pub mod SimCommits
 pub mod Telling
 pub mod SimRoots
+pub mod Growing

@@ -34,7 +34,7 @@ use Rattle.pm_crash.proofs.Spelling.{some_block}
 -- ---- LINES AND THEIR BLOCKS
 
 -- so many chunks from one on are as many as others, where both have the same chunks
-same_span : (f n m : ℕ) → ((c : ℕ) → in_span f n c ≡ in_span f m c) → n ≡ m
+pub same_span : (f n m : ℕ) → ((c : ℕ) → in_span f n c ≡ in_span f m c) → n ≡ m
 same_span f n m h = ⊎_elim (λ (l : n < m). absurd (over_ n m l h))
     (λ (l : m ≤ n). ⊎_elim (λ (k : m < n). absurd (over_ m n k (λ c. sym (h c)))) (λ (k : n ≤ m). omega arith)
     (Rattle.std.proofs.lemmas.Bool.cases_lt m n)) (Rattle.std.proofs.lemmas.Bool.cases_lt n m)
@@ -89,7 +89,7 @@ big_has sh g f c line e none a = let l = line - line_of_chunk sh c in (
 )
 
 -- a drained record covers what it is of
-logged_recorded : (sh : Shape) (lane : ℕ) (changes : List Undrained) (j : ℕ) (records : List Recorded) (p : Place)
+pub logged_recorded : (sh : Shape) (lane : ℕ) (changes : List Undrained) (j : ℕ) (records : List Recorded) (p : Place)
     → is_logged_from sh lane changes j records p ≡ true → is_recorded records p ≡ true
 logged_recorded sh lane changes j [] p e = e
 logged_recorded sh lane changes j (r ∷ t) p e = ⊎_elim
@@ -114,8 +114,7 @@ is_chunk_block (Big f) = true
 is_chunk_block Root = false
 
 module _ (o : Opening) (mem : Memory) (views : Views) (g : Past) (x : World o mem views g) (k : ℕ)
-    (ink : k < o.lanes) (is_open : (views k).log.phase ≡ Open) (keep : ℕ → Bool) (d : KeepsDecided g keep)
-    (sees_root : RootsAreSeen (views k).fixed.shape (views k).claims (kept_bits o g keep g.length)) where
+    (ink : k < o.lanes) (is_open : (views k).log.phase ≡ Open) (keep : ℕ → Bool) (d : KeepsDecided g keep) where
   abbrev v : View
   v = views k
 
@@ -312,7 +311,7 @@ module _ (o : Opening) (mem : Memory) (views : Views) (g : Past) (x : World o me
   unapplied : (p : Place) (b : ℕ) → given (Rattle.pm_world.specs.Lanes.left v.log.phase p b) ≡ false
   unapplied p b = ap (λ ph. given (Rattle.pm_world.specs.Lanes.left ph p b)) is_open
 
-  as_in_memory : (p : Place) (b : ℕ) → sees g.geo S h p b ≡ true → live S g.geo g.runs p ≡ true
+  pub as_in_memory : (p : Place) (b : ℕ) → sees g.geo S h p b ≡ true → live S g.geo g.runs p ≡ true
       → is_recorded v.log.records p ≡ false → read (cells_of o.shape mem).pool p b ≡ S p b
   as_in_memory p b t l e = ⊎_elim
       (λ (y : owns g.geo S h p b ≡ true). ((fit k).bits p b y).0 l (unapplied p b) (unlogged p e))
@@ -345,8 +344,9 @@ module _ (o : Opening) (mem : Memory) (views : Views) (g : Past) (x : World o me
           ∙ (fit k).picture p b (sees_real p b t) y pic
 
   -- SO THESE BITS MAY PRECEDE THE CALL
-  pub precedes : MayPrecede g.geo.class (views k) (kept_bits o g keep g.length)
-  precedes = record {
+  pub precedes : RootsAreSeen (views k).fixed.shape (views k).claims (kept_bits o g keep g.length)
+      → MayPrecede g.geo.class (views k) (kept_bits o g keep g.length)
+  precedes sees_root = record {
     found = found_there;
     spans = found_spans;
     whole = found_whole;

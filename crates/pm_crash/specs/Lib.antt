@@ -24,6 +24,7 @@ pub mod Looked
 pub mod SimFacts
 pub mod SimOps
 pub mod SimRoots
+pub mod SimSteps
 pub mod SimBlocks
 pub mod SimAllocs
 pub mod SimCommits
