@@ -90,6 +90,20 @@ module _ (o : Opening) (old mem : Memory) (views new : Views) (g g' : Past) (k :
         let q : g'.geo.first c ≡ f = eqb-true (g'.geo.first c) f (b ∙ (s ∙ (sym a ∙ eq-eqb (g.geo.first c) f (sym e)))) in
         fit'.hold.first c (found_has (sight_of next).hold (Big (g'.geo.first c)) (subst (λ y. has_found next (Big y) ≡ true) (sym q) (founds (Big f) t))) ∙ q
 
+    -- and none of its chunks is a run
+    pub huge_no_run : (c i : ℕ) → has_found (views k) (Big (first (views k).fixed.shape (views k).claims c)) ≡ true → (has_found next (Small c i) || has_own next (Small c i)) ≡ true → ⊥
+    huge_no_run c i t t' =
+        let f : ℕ = first (views k).fixed.shape (views k).claims c in
+        let a = x.bits.geo.shape f (fit.hold.found (Big f) t).2 c in
+        let b = x'.bits.geo.shape f (fit'.hold.found (Big f) (founds (Big f) t)).2 c in
+        let s : spans (settled_words o g' (Descr f)) f c ≡ spans (settled_words o g (Descr f)) f c = λ i. spans (same i (Descr f)) f c in
+        let q : g'.geo.first c ≡ f = eqb-true (g'.geo.first c) f (b ∙ (s ∙ (sym a ∙ eq-eqb (g.geo.first c) f (sym (first_is c t))))) in
+        let none = x'.bits.geo.huge c (subst (λ n. there (settled_words o g') (Big n) ≡ true) (sym q) (fit'.hold.found (Big f) (founds (Big f) t)).2) in
+        both_ways (g'.runs c) none (⊎_elim
+        (λ (d : has_found next (Small c i) ≡ true). (and_parts (g'.runs c) (nat_lt i (blocks_of (g'.geo.class c))) (fit'.hold.found (Small c i) d).1).0)
+        (λ (m : has_own next (Small c i) ≡ true). (and_parts (g'.runs c) (nat_lt i (blocks_of (g'.geo.class c))) (fit'.hold.mine (Small c i) m).1).0)
+        (or_cases (has_found next (Small c i)) (has_own next (Small c i)) t'))
+
     pub sees_on : (holds (views k).claims 0 ≡ true → holds next.claims 0 ≡ true) → (p : Place) (b : ℕ) → sees_at (views k) p b ≡ true
         → (sees_at next p b ≡ true) × IsSamePlace (views k) next p
     sees_on root (InRun c u) b t =
@@ -108,7 +122,7 @@ module _ (o : Opening) (old mem : Memory) (views new : Views) (g g' : Past) (k :
         (found_spans : (f : ℕ) → has_found (views k) (Big f) ≡ true → span next.fixed.shape next.claims f ≡ span (views k).fixed.shape (views k).claims f)
         (own_spans : (f : ℕ) → is_kept_block (views k) kept (Big f) ≡ true → span next.fixed.shape next.claims f ≡ span (views k).fixed.shape (views k).claims f)
         (calls : blocks_kept kept next ≡ blocks_kept kept (views k)) where
-      kept_own : (B : Block) → is_kept_block (views k) kept B ≡ true → has_own (views k) B ≡ true
+      pub kept_own : (B : Block) → is_kept_block (views k) kept B ≡ true → has_own (views k) B ≡ true
       kept_own B t = (and_parts (has_own (views k) B) (list_any (λ (b : Placed). b.off == known_offset (views k) B) (blocks_kept kept (views k))) t).0
 
       known_class : (c i : ℕ) → (has_found (views k) (Small c i) || is_kept_block (views k) kept (Small c i)) ≡ true → class next.claims c ≡ class (views k).claims c

@@ -59,3 +59,5 @@ pub mod SimCommits
 pub mod Telling
 pub mod SimRoots
 pub mod Growing
+pub mod StepKnows
+pub mod SimSteps

@@ -131,7 +131,7 @@ module _ (o : Opening) (id : ℕ) (views new : Views) (g g' : Past) (w : IsOnwar
 
 -- ---- STEPS OTHER THAN THE DRAW
 
-stored_calls : (ph : Phase) (q : Part) (n : ℕ) (g : Past)
+pub stored_calls : (ph : Phase) (q : Part) (n : ℕ) (g : Past)
     → ((past_stored ph q n g).drew ≡ g.drew) × ((past_stored ph q n g).length ≡ g.length)
     × ((past_stored ph q n g).decided ≡ g.decided)
 stored_calls Open GenerationPart n g = (refl, refl, refl)

@@ -260,7 +260,7 @@ module _ (o : Opening) (mem : Memory) (views : Views) (g : Past) (x : World o me
   found_block p b t = block_so o.shape (cells_of o.shape mem) S (Flies (ghost_of g) k) (ghost_of g) x.bits.geo k v
       v.log.phase (fit k) p b (found_has h (block_of (geometry_of v) p b) t)
 
-  sees_real : (p : Place) (b : ℕ) → Sees p b → sees g.geo S h p b ≡ true
+  pub sees_real : (p : Place) (b : ℕ) → Sees p b → sees g.geo S h p b ≡ true
   sees_real (InRun c w) b t = subst (λ B. h.found B ≡ true) (found_block (InRun c w) b t) t
   sees_real (InHuge c w) b t = subst (λ B. h.found B ≡ true) (found_block (InHuge c w) b t) t
   sees_real (Descr c) b t = subst (λ B. h.found B ≡ true) (found_block (Descr c) b t) t

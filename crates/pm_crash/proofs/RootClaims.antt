@@ -108,7 +108,7 @@ knows_root sh w y t line x P s new old = ⊎_elim
     (or_cases ((w == 64) && ((y == x) && (holds t line && not (locked t 0)))) (saw_root sh t line x) s)
 
 -- A LOCK UNDER WHICH THE WORD WAS SEEN IS HELD
-held_by : (a b c d : Bool) → (a ≡ true → c ≡ true) → (b ≡ true → d ≡ true) → (a || b) ≡ true → (c || d) ≡ true
+pub held_by : (a b c d : Bool) → (a ≡ true → c ≡ true) → (b ≡ true → d ≡ true) → (a || b) ≡ true → (c || d) ≡ true
 held_by a b c d f h e = ⊎_elim (λ (t : a ≡ true). or_left c d (f t)) (λ (t : b ≡ true). or_right c d (h t)) (or_cases a b e)
 
 pub saw_held : (sh : Shape) (t : List Claim) (line x : ℕ) → saw_root sh t line x ≡ true → holds t line ≡ true

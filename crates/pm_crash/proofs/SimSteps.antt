@@ -1,0 +1,282 @@
+-- EACH STEP OF AN OPEN CALL leaves the lane that makes it knowing no less.
+use Rattle.std.proofs.Common.{◌≡◌, ◌≢◌, ◌⊎◌, inl, inr, ⊎_elim, ℕ, zero, suc, ◌+◌, ◌*◌, ◌<◌, ◌/◌, ◌==◌, ◌&&◌, ◌||◌, not, Bool, true, false, cond, List, [], ◌∷◌, ◌++◌, length, Option, None, Some, refl, sym, ap, ◌∙◌, subst, arith, eq-eqb, ne_eqb}
+use Rattle.std.specs.Option.{option_map}
+use Rattle.std.specs.List.{list_any}
+use Rattle.pm_model.specs.Blocks.{Block as Placed}
+use Rattle.std.proofs.lemmas.Bool.{and_from, and_parts, both_ways, cases_Bool, cases_eq, cond-false, cond-true, eqb-true, false_from_ne_true, leb-true, ltb-true, or_cases, or_left, or_right}
+use Rattle.pm_layout.specs.declared.shape.Shape.{Shape}
+use Rattle.pm_layout.specs.Chunks.{word_of_chunk}
+use Rattle.pm_view.specs.declared.occ.Occ.{Occ}
+use Rattle.pm_view.specs.declared.occ.Occ.TheVariants.{Run, Zone}
+use Rattle.pm_view.specs.Bits.{all_bits}
+use Rattle.pm_view.specs.Changes.{Undrained, drained, flushed}
+use Rattle.pm_view.specs.Claims.{Claim, Took, Raised, Gave, SawDescriptor, SawBitmap, Reserved, Released, Marked, Drained, Knows, becomes, block_at, class, first, found, header_in, holds, is_among, is_block_of, is_new, is_new_by, locked, making, mine, passes, pictured, reads, shown_by_bitmap, shown_by_descriptor, span}
+use Rattle.pm_view.specs.Log.{Phase, Open, Log, log_drained, log_stored, old_of, recorded, with_pair, with_slot}
+use Rattle.pm_view.specs.Parts.{Part, GenerationPart, SealPart, EntryPart, SlotPart, RootPart, DescriptorPart, ChunkPart, OtherPart}
+use Rattle.pm_view.specs.Places.{Place, InRun, InHuge, Descr, RootWord, Block, Small, Big, Root, is_data, part, word_of}
+use Rattle.pm_view.specs.Steps.{Step}
+use Rattle.pm_view.specs.Steps.Step.{Load, Store, Or, And, Flush, Drain, TakeWrite, TakeRead, Raise, Give, ZoneTry, ZoneGive, Occupied, Occupy, Vacate, Draw, NumberSeen, StopSeen, SetStop, Tell}
+use Rattle.pm_view.specs.View.{Seen, View}
+use Rattle.pm_view.specs.Views.{after, begun, changed, claims_drained, decided_by, drained_to, learned, log_left, marked_by, part_in, seen_by, with_seen}
+use Rattle.pm_world.specs.States.{there}
+use Rattle.pm_world.specs.Sights.{is_pictured, is_recorded, picture}
+use Rattle.pm_world.specs.Lawful.{ChangeFits, StoreFits}
+use Rattle.pm_world.specs.Memory.{Memory, PoolWord, bit}
+use Rattle.pm_world.specs.Course.{past_after, past_decided, past_drained, past_made, past_stored}
+use Rattle.pm_world.specs.World.{Opening, Views, Past, World, ghost_of, origin, settled_words}
+use Rattle.pm_world.proofs.BlockLines.{classes_stay}
+use Rattle.pm_world.proofs.EveryStep.{every_step}
+use Rattle.pm_world.proofs.Looks.{passed}
+use Rattle.pm_world.proofs.Recording.{recorded_more}
+use Rattle.pm_crash.specs.Footprints.{bit_before, has_found, has_own}
+use Rattle.pm_crash.specs.Roots.{saw_root}
+use Rattle.pm_crash.specs.Sim.{Grows, IsSamePlace, blocks_kept, is_kept_block, known_offset, sees_at}
+use Rattle.pm_crash.specs.SimSteps.{GivesUpNothing, IsStep, StepsGrow, StepsKeepSims, goes_on, is_generation}
+use Rattle.pm_crash.proofs.Growing as growing
+use Rattle.pm_crash.proofs.Onward.{stored_calls}
+use Rattle.pm_crash.proofs.RootClaims.{held_by, marked_alike, saw_held, seen_alike}
+use Rattle.pm_crash.proofs.Simulation.{sim_stays}
+use Rattle.pm_crash.proofs.StepKnows as known
+use Rattle.pm_crash.proofs.Telling.{still_place}
+
+-- ---- THE SETTLED WORDS STAY, in an open call
+
+stored_same : (o : Opening) (ph : Phase) (q : Part) (n : ℕ) (g : Past) → settled_words o (past_stored ph q n g) ≡ settled_words o g
+stored_same o ph q n g = let c = stored_calls ph q n g in
+    λ i. Rattle.pm_world.specs.States.replay (c.2 i) (origin o) (λ m. Rattle.pm_world.specs.Sights.call_in (c.0 i m)) (c.1 i)
+
+drained_same : (o : Opening) (g : Past) (v : View) (left : List Undrained) → v.log.phase ≡ Open → settled_words o (past_drained g v left) ≡ settled_words o g
+drained_same o g v (u ∷ left) e = refl
+drained_same o g v [] e = ap (λ ph. settled_words o (past_decided ph v (past_made g v []))) e
+
+same_settled : (o : Opening) (g : Past) (v : View) (s : Step) → v.log.phase ≡ Open → goes_on v s ≡ true → settled_words o (past_after g v s) ≡ settled_words o g
+same_settled o g v (Store w n) e u = stored_same o v.log.phase (part_in v w) n g
+same_settled o g v Drain e u = drained_same o g v (drained v.changes) e
+same_settled o g v (Draw n) e u = absurd (both_ways false refl u)
+same_settled o g v (Occupy at bits true) e u = refl
+same_settled o g v (Occupy at bits false) e u = refl
+same_settled o g v (Load w found) e u = refl
+same_settled o g v (Or w bits found) e u = refl
+same_settled o g v (And w bits found) e u = refl
+same_settled o g v (Flush line) e u = refl
+same_settled o g v (TakeWrite line won) e u = refl
+same_settled o g v (TakeRead line won) e u = refl
+same_settled o g v (Raise line won) e u = refl
+same_settled o g v (Give line) e u = refl
+same_settled o g v (ZoneTry zone won) e u = refl
+same_settled o g v (ZoneGive zone) e u = refl
+same_settled o g v (Occupied at found) e u = refl
+same_settled o g v (Vacate at bits) e u = refl
+same_settled o g v (NumberSeen n) e u = refl
+same_settled o g v (StopSeen set) e u = refl
+same_settled o g v SetStop e u = refl
+same_settled o g v (Tell operation reply) e u = absurd (both_ways false refl u)
+
+-- ---- STEPS THAT TEACH NOTHING
+
+pub still : (v : View) (kept : Bool) (changes : List Undrained) (calls : ℕ) (occupancy : List Seen) (zones : List ℕ) (seen : List Step)
+    → Grows v kept (record v { changes = changes; calls = calls; occupancy = occupancy; zones = zones; seen = seen }) kept
+still v kept changes calls occupancy zones seen = record {
+  found = λ B t. t;
+  spans = λ f t. refl;
+  class = λ c i t. refl;
+  own = λ B t. t;
+  lines = λ B line t y. y;
+  sees = λ p b t. (t, still_place v changes calls occupancy zones seen p);
+  recorded = λ p t. t;
+  knows = λ p b y t e. e;
+  roots = λ l n t. t;
+}
+
+quiet : (v : View) (kept : Bool) → Grows v kept v kept
+quiet v kept = still v kept v.changes v.calls v.occupancy v.zones v.seen
+
+kept_own : (v : View) (kept : Bool) (B : Block) → is_kept_block v kept B ≡ true → has_own v B ≡ true
+kept_own v kept B m = (and_parts (has_own v B) (list_any (λ (b : Placed). b.off == known_offset v B) (blocks_kept kept v)) m).0
+
+-- ---- A STEP OF A WORLD
+module _ (o : Opening) (old mem : Memory) (views new : Views) (g : Past) (k : ℕ) (kept : Bool) (s : Step) (y : IsStep o old mem views new g k s) where
+  abbrev v : View
+  v = views k
+
+  abbrev sh : Shape
+  sh = (views k).fixed.shape
+
+  abbrev t : List Claim
+  t = (views k).claims
+
+  x' : World o mem new (past_after g (views k) s)
+  x' = (every_step s o old mem views new g k y.world y.runs y.lawful y.moves y.turn).0
+
+  -- ALL THAT IT KNOWS, after a step that comes to this view
+  module _ (next : View) (is : after (views k) s ≡ next) (fixed : next.fixed ≡ (views k).fixed)
+      (founds : (B : Block) → has_found (views k) B ≡ true → has_found next B ≡ true) where
+    here : new k ≡ next
+    here = y.turn.here ∙ is
+
+    same : settled_words o (past_after g (views k) s) ≡ settled_words o g
+    same = same_settled o g (views k) s y.is_open y.goes
+
+    classes : (c : ℕ) → g.runs c ≡ true → (past_after g (views k) s).geo.class c ≡ g.geo.class c
+    classes = classes_stay o old views g y.world k s y.lawful
+
+    apart : (B : Block) → has_found next B ≡ true → has_own next B ≡ true → ⊥
+    apart = growing.found_own o old mem views new g (past_after g (views k) s) k y.world x' y.runs next here fixed same classes
+
+    found_class : (c i : ℕ) → has_found (views k) (Small c i) ≡ true → class next.claims c ≡ class (views k).claims c
+    found_class = growing.found_class o old mem views new g (past_after g (views k) s) k y.world x' y.runs next here fixed same classes founds
+
+    found_first : (c : ℕ) → has_found (views k) (Big (first (views k).fixed.shape (views k).claims c)) ≡ true
+        → first next.fixed.shape next.claims c ≡ first (views k).fixed.shape (views k).claims c
+    found_first = growing.found_first o old mem views new g (past_after g (views k) s) k y.world x' y.runs next here fixed same classes founds
+
+    -- a chunk of a huge block that it found is no run
+    no_run : (c i : ℕ) → has_found (views k) (Big (first (views k).fixed.shape (views k).claims c)) ≡ true → (has_found next (Small c i) || has_own next (Small c i)) ≡ true → ⊥
+    no_run = growing.huge_no_run o old mem views new g (past_after g (views k) s) k y.world x' y.runs next here fixed same classes founds
+
+    grown : ((B : Block) → is_kept_block (views k) kept B ≡ true → has_own next B ≡ true)
+        → ((f : ℕ) → has_found (views k) (Big f) ≡ true → span next.fixed.shape next.claims f ≡ span (views k).fixed.shape (views k).claims f)
+        → ((f : ℕ) → is_kept_block (views k) kept (Big f) ≡ true → span next.fixed.shape next.claims f ≡ span (views k).fixed.shape (views k).claims f)
+        → blocks_kept kept next ≡ blocks_kept kept (views k)
+        → (holds (views k).claims 0 ≡ true → holds next.claims 0 ≡ true)
+        → ((p : Place) → is_recorded (views k).log.records p ≡ true → is_recorded next.log.records p ≡ true)
+        → ((p : Place) (b : ℕ) (y : Bool) → sees_at (views k) p b ≡ true → bit_before (views k) p b ≡ Some y → bit_before next p b ≡ Some y)
+        → ((line value : ℕ) → saw_root (views k).fixed.shape (views k).claims line value ≡ true → saw_root next.fixed.shape next.claims line value ≡ true)
+        → Grows (views k) kept next kept
+    grown owns found_spans own_spans calls = growing.grown o old mem views new g (past_after g (views k) s) k y.world x' y.runs next here fixed same classes founds kept owns found_spans own_spans calls
+
+    -- ---- WHAT IS FORGOTTEN is of blocks that come to be its own, or are found
+    unforgot : (t' : List Claim) → ((c : ℕ) → class t' c ≡ class next.claims c) → ((c : ℕ) → first (views k).fixed.shape t' c ≡ first next.fixed.shape next.claims c)
+        → (P : Block → Bool) → ((B : Block) → P B ≡ true → (has_found next B || has_own next B) ≡ true) → ((B : Block) → P B ≡ true → has_found (views k) B ≡ true → ⊥) → P Root ≡ false
+        → (p : Place) (b : ℕ) → sees_at (views k) p b ≡ true → is_pictured p ≡ true → passes P (block_at (views k).fixed.shape t' (word_of (views k).fixed.shape p)) ≡ false
+    unforgot t' cl fs P comes was root (InRun c u) b t q = false_from_ne_true (passes P (block_at (views k).fixed.shape t' (word_of_chunk (views k).fixed.shape c + u))) (λ e.
+        let z = and_parts (is_data (InRun c u)) (Rattle.std.proofs.Common.nat_lt u 512) q in
+        let i : ℕ = part (class (views k).claims c) u b in
+        let same_class : class t' c ≡ class (views k).claims c = cl c ∙ found_class c i t in
+        let r = known.run_class o old views g y.world k y.runs y.is_open c i t in
+        ⊎_elim
+        (λ (a : (class t' c ≡ 0) × (P (Big (first (views k).fixed.shape t' c)) ≡ true)). let q : suc r.0 ≡ 0 = sym r.1 ∙ (sym same_class ∙ a.0) in absurd (omega arith))
+        (λ (a : (n : ℕ) × (class t' c ≡ suc n) × (P (Small c (part (class t' c) u 64)) ≡ true)).
+        was (Small c i) (subst (λ j. P (Small c j) ≡ true) (ap (λ n. part n u 64) same_class ∙ sym (known.data_part (class (views k).claims c) u b (leb-true 8 u z.0))) a.2) t)
+        (passed (views k).fixed.shape t' c u (ltb-true u 512 z.1) P e).1)
+    unforgot t' cl fs P comes was root (InHuge c u) b t q = false_from_ne_true (passes P (block_at (views k).fixed.shape t' (word_of_chunk (views k).fixed.shape c + u))) (λ e.
+        ⊎_elim
+        (λ (a : (class t' c ≡ 0) × (P (Big (first (views k).fixed.shape t' c)) ≡ true)).
+        was (Big (first (views k).fixed.shape (views k).claims c)) (subst (λ j. P (Big j) ≡ true) (fs c ∙ found_first c t) a.1) t)
+        (λ (a : (n : ℕ) × (class t' c ≡ suc n) × (P (Small c (part (class t' c) u 64)) ≡ true)).
+        no_run c (part (class t' c) u 64) t (comes (Small c (part (class t' c) u 64)) a.2))
+        (passed (views k).fixed.shape t' c u (ltb-true u 512 q) P e).1)
+    unforgot t' cl fs P comes was root (Descr c) b t q = absurd (both_ways false refl q)
+    unforgot t' cl fs P comes was root RootWord b t q = root
+
+  -- ---- LOCKS
+
+  -- what is pictured but for the root word, where line 0 is taken
+  took_pic : (m : ℕ) (write : Bool) → holds (views k).claims m ≡ false → (p : Place) (b : ℕ) (z : Bool) → sees_at (views k) p b ≡ true
+      → picture (views k).fixed.shape (views k).claims p b ≡ Some z → picture (views k).fixed.shape (Took m write ∷ (views k).claims) p b ≡ Some z
+  took_pic m write free p b z t e =
+      known.pictured_alike (views k).fixed.shape (views k).claims (Took m write ∷ (views k).claims) p b
+      (ap (λ q. cond q None (pictured (views k).fixed.shape (views k).claims (word_of (views k).fixed.shape p)))
+      (false_from_ne_true ((m == 0) && (word_of (views k).fixed.shape p == 64)) (λ q.
+      let a = and_parts (m == 0) (word_of (views k).fixed.shape p == 64) q in
+      other p t (known.of_pictured (views k).fixed.shape (views k).claims p b z e).0 (eqb-true m 0 a.0) (eqb-true (word_of (views k).fixed.shape p) 64 a.1))))
+      ∙ e
+    where
+      other : (p : Place) → sees_at (views k) p b ≡ true → is_pictured p ≡ true → m ≡ 0 → word_of (views k).fixed.shape p ≡ 64 → ⊥
+      other (InRun c u) t i e w = omega arith
+      other (InHuge c u) t i e w = omega arith
+      other (Descr c) t i e w = both_ways false refl i
+      other RootWord t i e w = both_ways (holds (views k).claims 0) (ap (holds (views k).claims) (sym e) ∙ free) t
+
+  took : (m : ℕ) (write : Bool) → after (views k) s ≡ record (views k) { claims = Took m write ∷ (views k).claims; seen = s ∷ (views k).seen }
+      → holds (views k).claims m ≡ false → Grows (views k) kept (record (views k) { claims = Took m write ∷ (views k).claims; seen = s ∷ (views k).seen }) kept
+  took m write is free = let w : View = record (views k) { claims = Took m write ∷ (views k).claims; seen = s ∷ (views k).seen } in
+      grown w is refl (λ B f. f) (kept_own (views k) kept) (λ f e. refl) (λ f e. refl) refl
+      (λ h. held_by (locked (views k).claims 0) (reads (views k).claims 0) (locked (Took m write ∷ (views k).claims) 0) (reads (Took m write ∷ (views k).claims) 0)
+      (λ e. or_right (write && (m == 0)) (locked (views k).claims 0) e) (λ e. or_right (not write && (m == 0)) (reads (views k).claims 0) e) h)
+      (λ p e. e)
+      (known.knows_on (views k) w refl (λ p b z t bare e. took_pic m write free p b z t e))
+      (λ line x r. and_from (not (m == line)) (saw_root (views k).fixed.shape (views k).claims line x)
+      (ap not (false_from_ne_true (m == line) (λ e. both_ways (holds (views k).claims m) free
+      (subst (λ l. holds (views k).claims l ≡ true) (sym (eqb-true m line e)) (saw_held (views k).fixed.shape (views k).claims line x r))))) r)
+
+  raised : (m : ℕ) → after (views k) s ≡ record (views k) { claims = Raised m ∷ (views k).claims; seen = s ∷ (views k).seen }
+      → Grows (views k) kept (record (views k) { claims = Raised m ∷ (views k).claims; seen = s ∷ (views k).seen }) kept
+  raised m is = let w : View = record (views k) { claims = Raised m ∷ (views k).claims; seen = s ∷ (views k).seen } in
+      grown w is refl (λ B f. f) (kept_own (views k) kept) (λ f e. refl) (λ f e. refl) refl
+      (λ h. ⊎_elim
+      (λ (e : (m == 0) ≡ true). or_left (locked (Raised m ∷ (views k).claims) 0) (reads (Raised m ∷ (views k).claims) 0) (or_left (m == 0) (locked (views k).claims 0) e))
+      (λ (e : (m == 0) ≡ false). held_by (locked (views k).claims 0) (reads (views k).claims 0) (locked (Raised m ∷ (views k).claims) 0) (reads (Raised m ∷ (views k).claims) 0)
+      (λ q. or_right (m == 0) (locked (views k).claims 0) q) (λ q. and_from (not (m == 0)) (reads (views k).claims 0) (ap not e) q) h)
+      (cases_Bool (m == 0)))
+      (λ p e. e) (known.knows_on (views k) w refl (λ p b z t bare e. e)) (λ line x r. r)
+
+  gave : (m : ℕ) → after (views k) s ≡ record (views k) { claims = Gave m ∷ (views k).claims }
+      → ((B : Block) → has_found (views k) B ≡ true → header_in (views k).fixed.shape (views k).claims B ≢ m)
+      → m ≢ 0 → ((value : ℕ) → saw_root (views k).fixed.shape (views k).claims m value ≡ false)
+      → Grows (views k) kept (record (views k) { claims = Gave m ∷ (views k).claims }) kept
+  gave m is none some unseen = let w : View = record (views k) { claims = Gave m ∷ (views k).claims } in
+      grown w is refl
+      (λ B f. and_from (not (m == header_in (views k).fixed.shape (views k).claims B)) (has_found (views k) B)
+      (ap not (ne_eqb m (header_in (views k).fixed.shape (views k).claims B) (λ e. none B f (sym e)))) f)
+      (kept_own (views k) kept) (λ f e. refl) (λ f e. refl) refl
+      (λ h. held_by (locked (views k).claims 0) (reads (views k).claims 0) (locked (Gave m ∷ (views k).claims) 0) (reads (Gave m ∷ (views k).claims) 0)
+      (λ e. and_from (not (m == 0)) (locked (views k).claims 0) (ap not (ne_eqb m 0 some)) e) (λ e. and_from (not (m == 0)) (reads (views k).claims 0) (ap not (ne_eqb m 0 some)) e) h)
+      (λ p e. e) (known.knows_on (views k) w refl (λ p b z t bare e. e))
+      (λ line x r. and_from (not (m == line)) (saw_root (views k).fixed.shape (views k).claims line x)
+      (ap not (false_from_ne_true (m == line) (λ e. both_ways (saw_root (views k).fixed.shape (views k).claims m x) (unseen x)
+      (subst (λ l. saw_root (views k).fixed.shape (views k).claims l x ≡ true) (sym (eqb-true m line e)) r)))) r)
+
+  -- ---- OCCUPANCY BITS
+
+  vacated_ : (at : Occ) (bits : ℕ) (occupancy : List Seen) → after (views k) s ≡ record (views k) { claims = Released at bits ∷ (views k).claims; occupancy = occupancy }
+      → ((B : Block) → is_kept_block (views k) kept B ≡ true → is_among (views k).fixed.shape at bits B ≡ false)
+      → Grows (views k) kept (record (views k) { claims = Released at bits ∷ (views k).claims; occupancy = occupancy }) kept
+  vacated_ at bits occupancy is stay = let w : View = record (views k) { claims = Released at bits ∷ (views k).claims; occupancy = occupancy } in
+      grown w is refl (λ B f. f)
+      (λ B m. and_from (not (is_among (views k).fixed.shape at bits B)) (has_own (views k) B) (ap not (stay B m)) (kept_own (views k) kept B m))
+      (λ f e. refl) (λ f e. refl) refl (λ h. h) (λ p e. e) (known.knows_on (views k) w refl (λ p b z t bare e. e)) (λ line x r. r)
+
+  occupied_ : (at : Occ) (bits : ℕ) (occupancy : List Seen)
+      → after (views k) s ≡ record (views k) { claims = Reserved at bits ∷ (views k).claims; occupancy = occupancy; seen = s ∷ (views k).seen }
+      → ((f : ℕ) → is_kept_block (views k) kept (Big f) ≡ true → is_block_of (views k).fixed.shape at bits (Big f) ≡ false)
+      → Grows (views k) kept (record (views k) { claims = Reserved at bits ∷ (views k).claims; occupancy = occupancy; seen = s ∷ (views k).seen }) kept
+  occupied_ at bits occupancy is stay =
+      let w : View = record (views k) { claims = Reserved at bits ∷ (views k).claims; occupancy = occupancy; seen = s ∷ (views k).seen } in
+      let other : (B : Block) → has_found (views k) B ≡ true → is_block_of (views k).fixed.shape at bits B ≡ false =
+      λ B f. false_from_ne_true (is_block_of (views k).fixed.shape at bits B) (λ e. apart w is refl (λ B f. f) B f (or_left (is_block_of (views k).fixed.shape at bits B) (has_own (views k) B) e)) in
+      grown w is refl (λ B f. f) (λ B m. or_right (is_block_of (views k).fixed.shape at bits B) (has_own (views k) B) (kept_own (views k) kept B m))
+      (λ f e. ap (λ q. cond q (Rattle.pm_view.specs.Claims.ones 64 bits) (span (views k).fixed.shape (views k).claims f)) (other (Big f) e))
+      (λ f e. ap (λ q. cond q (Rattle.pm_view.specs.Claims.ones 64 bits) (span (views k).fixed.shape (views k).claims f)) (stay f e))
+      refl (λ h. h) (λ p e. e)
+      (known.knows_on (views k) w refl (λ p b z t bare e.
+      known.pictured_alike (views k).fixed.shape (views k).claims (Reserved at bits ∷ (views k).claims) p b
+      (ap (λ q. cond q None (pictured (views k).fixed.shape (views k).claims (word_of (views k).fixed.shape p)))
+      (unforgot w is refl (λ B f. f) (Reserved at bits ∷ (views k).claims) (λ c. refl) (λ c. refl)
+      (λ B. is_block_of (views k).fixed.shape at bits B && not (mine (views k).fixed.shape (views k).claims B))
+      (λ B q. or_right (has_found (views k) B) (is_block_of (views k).fixed.shape at bits B || has_own (views k) B)
+      (or_left (is_block_of (views k).fixed.shape at bits B) (has_own (views k) B) (and_parts (is_block_of (views k).fixed.shape at bits B) (not (mine (views k).fixed.shape (views k).claims B)) q).0))
+      (λ B q f. both_ways (is_block_of (views k).fixed.shape at bits B) (other B f) (and_parts (is_block_of (views k).fixed.shape at bits B) (not (mine (views k).fixed.shape (views k).claims B)) q).0)
+      (no_root_block at) p b t (known.of_pictured (views k).fixed.shape (views k).claims p b z e).0))
+      ∙ e))
+      (λ line x r. r)
+    where
+      no_root_block : (at : Occ) → (is_block_of (views k).fixed.shape at bits Root && not (mine (views k).fixed.shape (views k).claims Root)) ≡ false
+      no_root_block (Run place) = refl
+      no_root_block (Zone zone) = refl
+
+  -- ---- DRAINS
+
+  drained_ : (left : List Undrained) (calls : ℕ) (log : Log) → log.records ≡ (views k).log.records
+      → after (views k) s ≡ record (views k) { claims = Drained left ∷ (views k).claims; changes = left; calls = calls; log = log }
+      → ((c : ℕ) → is_kept_block (views k) kept (Big c) ≡ true → making (views k).fixed.shape (views k).claims c ≡ false)
+      → Grows (views k) kept (record (views k) { claims = Drained left ∷ (views k).claims; changes = left; calls = calls; log = log }) kept
+  drained_ left calls log same is stay = let w : View = record (views k) { claims = Drained left ∷ (views k).claims; changes = left; calls = calls; log = log } in
+      grown w is refl (λ B f. f) own_ (λ f e. refl) (λ f e. refl) refl (λ h. h) (λ p e. ap (λ rs. is_recorded rs p) same ∙ e)
+      (known.knows_on (views k) w same (λ p b z t bare e. e)) (λ line x r. r)
+    where
+      own_ : (B : Block) → is_kept_block (views k) kept B ≡ true → mine (views k).fixed.shape (Drained left ∷ (views k).claims) B ≡ true
+      own_ (Small c i) m = or_right _ (has_own (views k) (Small c i)) (kept_own (views k) kept (Small c i) m)
+      own_ (Big c) m = and_from (not (becomes (views k).fixed.shape left (views k).claims c)) (has_own (views k) (Big c))
+          (ap (λ q. not (q && not (Rattle.pm_view.specs.Changes.is_dirty left (Rattle.pm_layout.specs.Chunks.word_of_descriptor (views k).fixed.shape c)))) (stay c m)) (kept_own (views k) kept (Big c) m)
+      own_ Root m = kept_own (views k) kept Root m
