@@ -1,28 +1,22 @@
 -- A LANE THAT KNOWS NO LESS after a step, by its claims before and after and by the world at both: the
 -- blocks that it found and has are of the same class and chunks, so each place is of the same block.
-use Rattle.std.proofs.Common.{◌≡◌, ◌≢◌, ◌⊎◌, inl, inr, ⊎_elim, ℕ, zero, suc, ◌+◌, ◌*◌, ◌/◌, ◌%◌, ◌<◌, ◌≤◌, ◌==◌, ◌&&◌, ◌||◌, nat_le, nat_lt, not, Bool, true, false, cond, List, [], ◌∷◌, Option, None, Some, refl, sym, ap, ◌∙◌, subst, arith, eq-eqb}
-use Rattle.std.specs.Option.{option_map}
+use Rattle.std.proofs.Common.{◌≡◌, ⊎_elim, ℕ, zero, suc, ◌+◌, ◌*◌, ◌<◌, ◌==◌, ◌||◌, nat_lt, Bool, true, Some, refl, sym, ap, ◌∙◌, subst, arith, eq-eqb}
 use Rattle.std.specs.List.{list_any}
-use Rattle.std.proofs.lemmas.Bool.{and_from, and_parts, both_ways, cases_Bool, cases_lt, cond-true, cond-false, eqb-true, false_from_ne_true, lt-ltb, ltb-true, or_cases, or_left, or_right}
-use Rattle.pm_layout.specs.declared.shape.Shape.{Shape}
+use Rattle.std.proofs.lemmas.Bool.{and_from, and_parts, both_ways, eqb-true, or_cases, or_left, or_right}
 use Rattle.pm_layout.specs.Chunks.{chunks_of, word_of_chunk}
 use Rattle.pm_layout.specs.Sizes.{blocks_of}
 use Rattle.pm_model.specs.Blocks.{Block as Placed}
-use Rattle.pm_view.specs.Claims.{Claim, block_at, class, first, found, holds, mine, passes, pictured, span}
-use Rattle.pm_view.specs.Entries.{first_of_two}
-use Rattle.pm_view.specs.Log.{Open, old_of}
-use Rattle.pm_view.specs.Places.{Place, InRun, InHuge, Descr, RootWord, Block, Small, Big, Root, in_span, is_data, part, word_of}
+use Rattle.pm_view.specs.Claims.{class, first, holds, span}
+use Rattle.pm_view.specs.Places.{Place, InRun, InHuge, Descr, RootWord, Block, Small, Big, Root, in_span, part}
 use Rattle.pm_view.specs.View.{Constants, View}
-use Rattle.pm_world.specs.States.{State, spans, there}
-use Rattle.pm_world.specs.Sights.{is_pictured, is_recorded, picture, sight_of}
-use Rattle.pm_world.specs.Lanes.{Flies, SightFits, has, own}
-use Rattle.pm_world.specs.Memory.{Memory, bit, cells_of}
+use Rattle.pm_world.specs.States.{spans, there}
+use Rattle.pm_world.specs.Sights.{is_recorded, sight_of}
+use Rattle.pm_world.specs.Lanes.{Flies, SightFits, has}
+use Rattle.pm_world.specs.Memory.{Memory, cells_of}
 use Rattle.pm_world.specs.BlockLines.{IsInSmall, IsLineOf, OwnHas}
 use Rattle.pm_world.specs.World.{Opening, Views, Past, World, ghost_of, settled_words}
 use Rattle.pm_world.proofs.BlocksKnown.{first_so}
-use Rattle.pm_world.proofs.Finds.{some_lane}
 use Rattle.pm_world.proofs.Frame.{found_has, mine_own, own_has}
-use Rattle.pm_world.proofs.Looks.{passed}
 use Rattle.pm_crash.specs.Footprints.{bit_before, geometry_of, has_found, has_own}
 use Rattle.pm_crash.specs.Roots.{saw_root}
 use Rattle.pm_crash.specs.Sim.{Grows, IsSamePlace, blocks_kept, is_kept_block, known_offset, sees_at}

@@ -1,15 +1,15 @@
 -- WHAT A LANE KNOWS OF WORDS of blocks that it found: which steps leave it, and that a load finds it.
 use Rattle.std.proofs.Common.{◌≡◌, ◌≢◌, ◌⊎◌, inl, inr, ⊎_elim, ℕ, zero, suc, ◌+◌, ◌-◌, ◌*◌, ◌/◌, ◌%◌, ◌<◌, ◌≤◌, ◌==◌, ◌&&◌, ◌||◌, nat_le, nat_lt, not, Bool, true, false, cond, List, [], ◌∷◌, ◌++◌, length, take, Option, None, Some, refl, sym, ap, ◌∙◌, subst, arith, ne_eqb}
-use Rattle.std.specs.Prelude.{slice_index, unwrap_or}
+use Rattle.std.specs.Prelude.{unwrap_or}
 use Rattle.std.specs.Option.{option_map}
-use Rattle.std.proofs.lemmas.Bool.{and_from, and_parts, both_ways, cases_Bool, cases_lt, cond-false, cond-true, eqb-true, false_from_ne_true, leb-true, lt-ltb, ltb-true, or_cases, or_left, or_right}
+use Rattle.std.proofs.lemmas.Bool.{and_from, and_parts, both_ways, cases_lt, cond-false, cond-true, eqb-true, false_from_ne_true, leb-true, lt-ltb, ltb-true}
 use Rattle.pm_layout.specs.declared.shape.Shape.{Shape}
 use Rattle.pm_layout.specs.Areas.{line_of_slot, redo_entries, undo_slots, word_of_entry, word_of_generation, word_of_seal}
 use Rattle.pm_layout.specs.Chunks.{chunks_of, word_of_chunk}
-use Rattle.pm_view.specs.Claims.{Claim, block_at, class, first, holds, mine, passes, pictured}
+use Rattle.pm_view.specs.Claims.{Claim, class, first, pictured}
 use Rattle.pm_view.specs.Entries.{first_of_two}
 use Rattle.pm_view.specs.Founds.{knows}
-use Rattle.pm_view.specs.Log.{Open, Recorded, Log, old_in, old_of, place_at, recorded, with_slot}
+use Rattle.pm_view.specs.Log.{Open, Recorded, old_in, old_of, place_at, recorded}
 use Rattle.pm_view.specs.Parts.{Part, GenerationPart, SealPart, EntryPart, SlotPart, RootPart, DescriptorPart, ChunkPart, OtherPart, chunk_place, is_entry_word, is_slot_word, part_of, place_in, pool_part}
 use Rattle.pm_view.specs.Places.{Place, InRun, InHuge, Descr, RootWord, Block, Small, Big, Root, in_span, is_data, is_place, part, place_after, word_of}
 use Rattle.pm_view.specs.View.{View}
@@ -22,12 +22,10 @@ use Rattle.pm_world.specs.Logs.{spelled}
 use Rattle.pm_world.specs.Memory.{Memory, PoolWord, bit, cells_of}
 use Rattle.pm_world.specs.World.{Opening, Views, Past, World, ghost_of, settled_words}
 use Rattle.pm_world.proofs.BlocksKnown.{first_so}
-use Rattle.pm_world.proofs.Finds.{some_lane}
-use Rattle.pm_world.proofs.Frame.{found_has, mine_own}
-use Rattle.pm_world.proofs.Looks.{passed}
-use Rattle.pm_world.proofs.Recording.{old_cases, old_in_at, old_in_is, place_is, recorded_more}
+use Rattle.pm_world.proofs.Frame.{found_has}
+use Rattle.pm_world.proofs.Recording.{old_cases, old_in_at, old_in_is, place_is}
 use Rattle.pm_world.proofs.WordPlaces.{chunk_part, no_part}
-use Rattle.pm_crash.specs.Footprints.{bit_before, geometry_of, has_found, has_own, kept_bits}
+use Rattle.pm_crash.specs.Footprints.{bit_before, has_found, has_own, kept_bits}
 use Rattle.pm_crash.specs.Sim.{sees_at}
 use Rattle.pm_crash.proofs.Precede as precede
 use Rattle.pm_crash.proofs.RootClaims.{root_part}
@@ -67,6 +65,35 @@ knows_on v next same pic p b y t e = by (old_of v.log.records p) refl
     by None q = ap (λ z. Before z next p b) (ap (λ rs. old_of rs p) same ∙ q)
         ∙ pic p b y t (ap given q) (sym (ap (λ z. Before z v p b) q) ∙ e)
     by (Some n) q = ap (λ z. Before z next p b) (ap (λ rs. old_of rs p) same ∙ q) ∙ (sym (ap (λ z. Before z v p b) q) ∙ e)
+
+-- or one record more has what is pictured
+more_first : (d a c : Option ℕ) (n : ℕ) → (a ≡ Some n → c ≡ Some n) → first_of_two d a ≡ Some n → first_of_two d c ≡ Some n
+more_first None a c n f e = f e
+more_first (Some m) a c n f e = e
+
+old_first : (rs : List Recorded) (r : Recorded) (p : Place) (n : ℕ) → old_of rs p ≡ Some n → old_of (rs ++ r ∷ []) p ≡ Some n
+old_first [] r p n e = absurd (Rattle.std.proofs.lemmas.Option.none-some n e)
+old_first (q ∷ rs) r p n e = more_first (old_in q p) (old_of rs p) (old_of (rs ++ r ∷ []) p) n (λ h. old_first rs r p n h) e
+
+pub knows_more : (v next : View) (r : Recorded) → next.log.records ≡ v.log.records ++ r ∷ []
+    → ((p : Place) (b : ℕ) (y : Bool) → sees_at v p b ≡ true → is_recorded v.log.records p ≡ false → picture v.fixed.shape v.claims p b ≡ Some y
+    → picture next.fixed.shape next.claims p b ≡ Some y)
+    → ((p : Place) (b : ℕ) (y : Bool) (z : ℕ) → picture v.fixed.shape v.claims p b ≡ Some y → old_in r p ≡ Some z → bit z b ≡ y)
+    → (p : Place) (b : ℕ) (y : Bool) → sees_at v p b ≡ true → bit_before v p b ≡ Some y → bit_before next p b ≡ Some y
+knows_more v next r more pic has p b y t e = by (old_of v.log.records p) refl
+  where
+    also : old_of v.log.records p ≡ None → (d : Option ℕ) → old_of (v.log.records ++ r ∷ []) p ≡ d → picture v.fixed.shape v.claims p b ≡ Some y → Before d next p b ≡ Some y
+    also q None s e = pic p b y t (ap given q) e
+    also q (Some z) s e = ⊎_elim
+        (λ (m : old_of v.log.records p ≡ Some z). absurd (Rattle.std.proofs.lemmas.Option.none-some z (sym q ∙ m)))
+        (λ (m : old_in r p ≡ Some z). ap (λ n. Some n) (has p b y z e m))
+        (old_cases v.log.records r p z s)
+
+    by : (d : Option ℕ) → old_of v.log.records p ≡ d → bit_before next p b ≡ Some y
+    by None q = ap (λ rs. Before (old_of rs p) next p b) more
+        ∙ also q (old_of (v.log.records ++ r ∷ []) p) refl (sym (ap (λ z. Before z v p b) q) ∙ e)
+    by (Some n) q = ap (λ rs. Before (old_of rs p) next p b) more
+        ∙ (ap (λ z. Before z next p b) (old_first v.log.records r p n q) ∙ (sym (ap (λ z. Before z v p b) q) ∙ e))
 
 -- ---- WORDS OF CHUNKS are no lane's own area's
 

@@ -1,6 +1,8 @@
 ghost use Rattle.pm_crash.specs.Sim.{SimBegins, SimGoesOn, SimIsKept, SimStays, TellsGrow};
 ghost use Rattle.pm_crash.specs.SimOps.{NoRootIsAsked, SimAborts, SimExtends, SimRefuses, SimWrites};
 ghost use Rattle.pm_crash.specs.SimRoots.{RootIsKnown};
+ghost use Rattle.pm_crash.specs.SimSteps.{StepsGrow, StepsKeepSims};
+ghost use Rattle.pm_view.specs.Steps.{Step};
 ghost use Rattle.pm_crash.specs.SimAllocs.{SimAllocates, SimFrees, SimPublishes, SimReserves};
 ghost use Rattle.pm_crash.specs.SimCommits.{SimCommits};
 ghost use Rattle.pm_crash.specs.SimFacts.{SimsAreFacts};
@@ -17,6 +19,14 @@ pub fn a_lane_follows_the_model()
     ensures goes_on { SimGoesOn }
     ensures tells { TellsGrow }
     ensures kept { SimIsKept }
+{}
+
+/// A law: after each lawful step of an open call, whatever other lanes do, its lane knows no less of the
+/// bits before the call, where the step gives up nothing that the call rests on; and the lane follows the
+/// model still where the step leaves the bits as the call has made them. No code runs.
+pub fn steps_of_a_call_keep_what_is_known()
+    ensures grow { (step : Step) → StepsGrow step }
+    ensures sims { (step : Step) → StepsKeepSims step }
 {}
 
 /// A law: what each operation owes has no bits in it. Operations on the lane's lists, those that are

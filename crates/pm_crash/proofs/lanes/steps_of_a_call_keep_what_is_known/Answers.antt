@@ -1,0 +1,8 @@
+use Rattle.pm_crash.proofs.SimSteps.{steps_grow, steps_keep_sims}
+use Rattle.pm_crash.proofs.lanes.steps_of_a_call_keep_what_is_known.Goals as goal
+
+pub returns-clause-grow : goal.returns-clause-grow
+returns-clause-grow c = steps_grow
+
+pub returns-clause-sims : goal.returns-clause-sims
+returns-clause-sims c = steps_keep_sims
