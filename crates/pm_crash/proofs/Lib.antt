@@ -61,3 +61,4 @@ pub mod SimRoots
 pub mod Growing
 pub mod StepKnows
 pub mod SimSteps
+pub mod SimOutside

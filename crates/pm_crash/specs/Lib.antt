@@ -22,6 +22,7 @@ pub mod Looks
 pub mod Sim
 pub mod Looked
 pub mod SimFacts
+pub mod SimOutside
 pub mod SimOps
 pub mod SimRoots
 pub mod SimSteps
