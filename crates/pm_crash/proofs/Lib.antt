@@ -46,6 +46,7 @@ pub mod OwnEntries
 pub mod KnownWords
 pub mod Looked
 pub mod OpenPools
+pub mod SimHeap
 pub mod SimFacts
 pub mod SimOps
 pub mod SceneMoves
