@@ -63,3 +63,4 @@ pub mod Growing
 pub mod StepKnows
 pub mod SimSteps
 pub mod SimOutside
+pub mod SimPublish

@@ -24,7 +24,7 @@ names_line (suc n) off line at e =
     or_left (suc n / 64 - 1 == line) false (eq-eqb (suc n / 64 - 1) line (omega arith))
 
 module _ (v : View) (classes : ℕ → ℕ) (own : Block → Bool) (s : State) (x : MayPrecedeBut classes v own s) (value off : ℕ) where
-  same_root : SawRoot v value off → is_root (root_told (number (s RootWord))) off ≡ is_root (root_told value) off
+  pub same_root : SawRoot v value off → is_root (root_told (number (s RootWord))) off ≡ is_root (root_told value) off
   same_root saw = ⊎_elim
       (λ (y : (line : ℕ) × (off ≡ 64 * line + 64) × (saw_root v.fixed.shape v.claims line value ≡ true)).
       ⊎_elim

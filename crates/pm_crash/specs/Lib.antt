@@ -29,3 +29,4 @@ pub mod SimSteps
 pub mod SimBlocks
 pub mod SimAllocs
 pub mod SimCommits
+pub mod SimPublish
