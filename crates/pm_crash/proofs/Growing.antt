@@ -1,6 +1,6 @@
 -- A LANE THAT KNOWS NO LESS after a step, by its claims before and after and by the world at both: the
 -- blocks that it found and has are of the same class and chunks, so each place is of the same block.
-use Rattle.std.proofs.Common.{◌≡◌, ⊎_elim, ℕ, zero, suc, ◌+◌, ◌*◌, ◌<◌, ◌==◌, ◌||◌, nat_lt, Bool, true, Some, refl, sym, ap, ◌∙◌, subst, arith, eq-eqb}
+use Rattle.std.proofs.Common.{◌≡◌, ◌⊎◌, ⊎_elim, ℕ, zero, suc, ◌+◌, ◌*◌, ◌<◌, ◌==◌, ◌||◌, nat_lt, Bool, true, Some, refl, sym, ap, ◌∙◌, subst, arith, eq-eqb}
 use Rattle.std.specs.List.{list_any}
 use Rattle.std.proofs.lemmas.Bool.{and_from, and_parts, both_ways, eqb-true, or_cases, or_left, or_right}
 use Rattle.pm_layout.specs.Chunks.{chunks_of, word_of_chunk}
@@ -19,7 +19,7 @@ use Rattle.pm_world.proofs.BlocksKnown.{first_so}
 use Rattle.pm_world.proofs.Frame.{found_has, mine_own, own_has}
 use Rattle.pm_crash.specs.Footprints.{bit_before, geometry_of, has_found, has_own}
 use Rattle.pm_crash.specs.Roots.{saw_root}
-use Rattle.pm_crash.specs.Sim.{Grows, IsSamePlace, blocks_kept, is_kept_block, known_offset, sees_at}
+use Rattle.pm_crash.specs.Sim.{Grows, IsInObject, IsSamePlace, blocks_kept, is_kept_block, known_offset, sees_at}
 
 module _ (o : Opening) (old mem : Memory) (views new : Views) (g g' : Past) (k : ℕ) (x : World o old views g) (x' : World o mem new g')
     (ink : k < o.lanes) (next : View) (here : new k ≡ next) (fixed : next.fixed ≡ (views k).fixed)
@@ -158,7 +158,7 @@ module _ (o : Opening) (old mem : Memory) (views new : Views) (g g' : Past) (k :
       lines_on Root line m a = record { mine = owns Root m; has = a.has }
 
       pub grown : (holds (views k).claims 0 ≡ true → holds next.claims 0 ≡ true)
-          → ((p : Place) → is_recorded (views k).log.records p ≡ true → is_recorded next.log.records p ≡ true)
+          → ((p : Place) (b : ℕ) → sees_at (views k) p b ≡ true → is_recorded (views k).log.records p ≡ true → (is_recorded next.log.records p ≡ true) ⊎ IsInObject next p)
           → ((p : Place) (b : ℕ) (y : Bool) → sees_at (views k) p b ≡ true → bit_before (views k) p b ≡ Some y → bit_before next p b ≡ Some y)
           → ((line value : ℕ) → saw_root (views k).fixed.shape (views k).claims line value ≡ true → saw_root next.fixed.shape next.claims line value ≡ true)
           → Grows (views k) kept next kept

@@ -10,7 +10,7 @@ use Rattle.pm_view.specs.declared.occ.Occ.{Occ}
 use Rattle.pm_view.specs.declared.occ.Occ.TheVariants.{Run, Zone}
 use Rattle.pm_view.specs.Changes.{Undrained, drained, flushed}
 use Rattle.pm_view.specs.Claims.{Claim, Took, Raised, Gave, SawDescriptor, SawBitmap, Reserved, Released, Marked, Drained, Knows, becomes, block_at, class, first, found, header_in, holds, is_among, is_block_of, is_new, is_new_by, locked, making, mine, passes, pictured, reads, shown_by_bitmap, shown_by_descriptor, span}
-use Rattle.pm_view.specs.Log.{Phase, Open, Log, log_drained, log_stored, recorded, with_pair}
+use Rattle.pm_view.specs.Log.{Phase, Open, Voiding, Log, log_drained, log_stored, old_of, recorded, with_pair}
 use Rattle.pm_view.specs.Parts.{Part, GenerationPart, SealPart, EntryPart, SlotPart, RootPart, DescriptorPart, ChunkPart, OtherPart}
 use Rattle.pm_view.specs.Places.{Place, InRun, InHuge, Descr, RootWord, Block, Small, Big, Root, is_data, part, word_of}
 use Rattle.pm_view.specs.Steps.{Step}
@@ -18,9 +18,11 @@ use Rattle.pm_view.specs.Steps.Step.{Load, Store, Or, And, Flush, Drain, TakeWri
 use Rattle.pm_view.specs.View.{Seen, View}
 use Rattle.pm_view.specs.Views.{after, begun, changed, claims_drained, decided_by, drained_to, learned, log_left, marked_by, part_in, seen_by, with_seen}
 use Rattle.pm_world.specs.States.{there}
-use Rattle.pm_world.specs.Sights.{is_pictured, is_recorded, picture}
+use Rattle.pm_world.specs.Sights.{is_pictured, is_recorded, picture, sight_of}
 use Rattle.pm_world.specs.Lawful.{ChangeFits, StoreFits}
 use Rattle.pm_world.specs.Memory.{Memory, PoolWord, bit}
+use Rattle.pm_world.specs.Logs.{AreRestored, PhaseFits}
+use Rattle.pm_view.specs.Entries.{first_of_two}
 use Rattle.pm_world.specs.Course.{past_after, past_decided, past_drained, past_made, past_stored}
 use Rattle.pm_world.specs.World.{Opening, Views, Past, World, origin, settled_words}
 use Rattle.pm_world.proofs.BlockLines.{classes_stay}
@@ -29,8 +31,8 @@ use Rattle.pm_world.proofs.Looks.{passed}
 use Rattle.pm_world.proofs.Recording.{recorded_more}
 use Rattle.pm_crash.specs.Footprints.{bit_before, has_found, has_own}
 use Rattle.pm_crash.specs.Roots.{saw_root}
-use Rattle.pm_crash.specs.Sim.{Grows, IsSamePlace, blocks_kept, is_kept_block, known_offset, sees_at}
-use Rattle.pm_crash.specs.SimSteps.{IsStep, StepsGrow, StepsKeepSims, goes_on, is_generation}
+use Rattle.pm_crash.specs.Sim.{Grows, IsInObject, blocks_kept, is_kept_block, known_offset, sees_at}
+use Rattle.pm_crash.specs.SimSteps.{GivesUpNothing, IsStep, IsVoiding, StepsGrow, StepsKeepSims, VoidingGrows, goes_on}
 use Rattle.pm_crash.proofs.Growing as growing
 use Rattle.pm_crash.proofs.Onward.{stored_calls}
 use Rattle.pm_crash.proofs.RootClaims.{held_by, saw_held}
@@ -82,7 +84,7 @@ still v kept changes calls occupancy zones seen = record {
   own = λ B t. t;
   lines = λ B line t y. y;
   sees = λ p b t. (t, still_place v changes calls occupancy zones seen p);
-  recorded = λ p t. t;
+  recorded = λ p b s t. inl t;
   knows = λ p b y t e. e;
   roots = λ l n t. t;
 }
@@ -142,7 +144,8 @@ module _ (o : Opening) (old mem : Memory) (views new : Views) (g : Past) (k : �
         → ((p : Place) (b : ℕ) (y : Bool) → sees_at (views k) p b ≡ true → bit_before (views k) p b ≡ Some y → bit_before next p b ≡ Some y)
         → ((line value : ℕ) → saw_root (views k).fixed.shape (views k).claims line value ≡ true → saw_root next.fixed.shape next.claims line value ≡ true)
         → Grows (views k) kept next kept
-    grown owns found_spans own_spans calls = growing.grown o old mem views new g (past_after g (views k) s) k yy.world x' yy.runs next here fixed same classes founds kept owns found_spans own_spans calls
+    grown owns found_spans own_spans calls root recorded = growing.grown o old mem views new g (past_after g (views k) s) k yy.world x' yy.runs next here fixed same classes founds kept owns found_spans own_spans calls root
+        (λ p b t r. inl (recorded p r))
 
     -- ---- WHAT IS FORGOTTEN is of blocks that come to be its own, or are found
     unforgot : (t' : List Claim) → ((c : ℕ) → class t' c ≡ class next.claims c) → ((c : ℕ) → first (views k).fixed.shape t' c ≡ first next.fixed.shape next.claims c)
@@ -413,26 +416,26 @@ module _ (o : Opening) (old mem : Memory) (views new : Views) (g : Past) (k : �
     Slotted q = cond q (record (views k).log { records = (views k).log.records ++ recorded (views k).fixed.shape (class (views k).claims) ((views k).log.slot ++ n ∷ []) ∷ []; slot = [] })
         (record (views k).log { slot = (views k).log.slot ++ n ∷ [] })
 
-    store_by : (part : Part) → StoreFits (views k) w n Open part → is_generation part ≡ false
+    store_by : (part : Part) → StoreFits (views k) w n Open part
         → after (views k) s ≡ At part (log_stored (views k).fixed.shape (class (views k).claims) Open part n (views k).log)
         → Grows (views k) kept (At part (log_stored (views k).fixed.shape (class (views k).claims) Open part n (views k).log)) kept
-    store_by GenerationPart f u is = absurd (both_ways true u refl)
-    store_by SlotPart f u is = by (length ((views k).log.slot ++ n ∷ []) == 8) refl is
+    store_by GenerationPart f is = plain_store w n may (views k).claims unmarked changes calls (log_stored (views k).fixed.shape (class (views k).claims) Open GenerationPart n (views k).log) is refl
+    store_by SlotPart f is = by (length ((views k).log.slot ++ n ∷ []) == 8) refl is
       where
         by : (q : Bool) → (length ((views k).log.slot ++ n ∷ []) == 8) ≡ q → after (views k) s ≡ At SlotPart (Slotted q) → Grows (views k) kept (At SlotPart (Slotted q)) kept
         by true e is = record_store w n may (views k).claims unmarked changes calls (Slotted true) is f (eqb-true (length ((views k).log.slot ++ n ∷ [])) 8 e) refl
         by false e is = plain_store w n may (views k).claims unmarked changes calls (Slotted false) is refl
-    store_by EntryPart f u is = by (views k).log.pair is
+    store_by EntryPart f is = by (views k).log.pair is
       where
         by : (pair : List ℕ) → after (views k) s ≡ At EntryPart (with_pair (views k).fixed.shape (class (views k).claims) pair n (views k).log)
             → Grows (views k) kept (At EntryPart (with_pair (views k).fixed.shape (class (views k).claims) pair n (views k).log)) kept
         by [] is = plain_store w n may (views k).claims unmarked changes calls (with_pair (views k).fixed.shape (class (views k).claims) [] n (views k).log) is refl
         by (head ∷ rest) is = plain_store w n may (views k).claims unmarked changes calls (with_pair (views k).fixed.shape (class (views k).claims) (head ∷ rest) n (views k).log) is refl
-    store_by (DescriptorPart c) f u is = plain_store w n may (Marked c (n / 256) ∷ (views k).claims) (marks (DescriptorPart c) n) changes calls (views k).log is refl
-    store_by (ChunkPart c i) f u is = plain_store w n may (views k).claims unmarked changes calls (views k).log is refl
-    store_by SealPart f u is = plain_store w n may (views k).claims unmarked changes calls (views k).log is refl
-    store_by RootPart f u is = plain_store w n may (views k).claims unmarked changes calls (views k).log is refl
-    store_by OtherPart f u is = plain_store w n may (views k).claims unmarked changes calls (views k).log is refl
+    store_by (DescriptorPart c) f is = plain_store w n may (Marked c (n / 256) ∷ (views k).claims) (marks (DescriptorPart c) n) changes calls (views k).log is refl
+    store_by (ChunkPart c i) f is = plain_store w n may (views k).claims unmarked changes calls (views k).log is refl
+    store_by SealPart f is = plain_store w n may (views k).claims unmarked changes calls (views k).log is refl
+    store_by RootPart f is = plain_store w n may (views k).claims unmarked changes calls (views k).log is refl
+    store_by OtherPart f is = plain_store w n may (views k).claims unmarked changes calls (views k).log is refl
 
 -- ---- EVERY STEP
 
@@ -441,10 +444,6 @@ no_change v how w bits part e f = subst (λ ph. ChangeFits v how w bits ph part)
 
 same_view : (v a b : View) (kept : Bool) → a ≡ b → Grows v kept b kept → Grows v kept a kept
 same_view v a b kept e = subst (λ z. Grows v kept z kept) (sym e)
-
-none_of : (q : Bool) → not q ≡ true → q ≡ false
-none_of true e = sym e
-none_of false e = refl
 
 pub steps_grow : (s : Step) → StepsGrow s
 steps_grow (Load w found) o old mem views new g k kept y u =
@@ -464,7 +463,7 @@ steps_grow (Store w n) o old mem views new g k kept y u =
     let is : after (views k) (Store w n) ≡ stored Open = ap stored y.is_open in
     same_view (views k) (after (views k) (Store w n)) (stored Open) kept is
     (store_by o old mem views new g k kept (Store w n) y w n y.lawful.allowed changes ((views k).calls + 1) part
-    (subst (λ ph. StoreFits (views k) w n ph part) y.is_open y.lawful.allowed.fits) (none_of (is_generation part) y.goes) is)
+    (subst (λ ph. StoreFits (views k) w n ph part) y.is_open y.lawful.allowed.fits) is)
 steps_grow (Or w bits found) o old mem views new g k kept y u = absurd (no_change (views k) _ w bits (part_in (views k) w) y.is_open y.lawful.allowed.fits)
 steps_grow (And w bits found) o old mem views new g k kept y u = absurd (no_change (views k) _ w bits (part_in (views k) w) y.is_open y.lawful.allowed.fits)
 steps_grow (Flush line) o old mem views new g k kept y u = still (views k) kept (flushed line (views k).changes) ((views k).calls + 1) (views k).occupancy (views k).zones (views k).seen
@@ -503,6 +502,61 @@ steps_grow (NumberSeen n) o old mem views new g k kept y u = subst (λ ph. Grows
 steps_grow (StopSeen set) o old mem views new g k kept y u = still (views k) kept (views k).changes (views k).calls (views k).occupancy (views k).zones (StopSeen set ∷ (views k).seen)
 steps_grow SetStop o old mem views new g k kept y u = quiet (views k) kept
 steps_grow (Tell operation reply) o old mem views new g k kept y u = absurd (both_ways false refl y.goes)
+
+-- ---- AN ABORT'S DRAIN
+
+voided_same : (o : Opening) (g : Past) (v : View) (left : List Undrained) → v.log.phase ≡ Voiding → settled_words o (past_drained g v left) ≡ settled_words o g
+voided_same o g v (u ∷ left) e = refl
+voided_same o g v [] e = ap (λ ph. settled_words o (past_decided ph v (past_made g v []))) e
+
+module _ (o : Opening) (old mem : Memory) (views new : Views) (g : Past) (k : ℕ) (kept : Bool) (y : IsVoiding o old mem views new g k) (u : GivesUpNothing (views k) kept Drain) where
+  -- the view then, where these changes are left
+  abbrev Left : List Undrained → Log → View
+  Left left log = record (views k) { claims = Drained left ∷ (views k).claims; changes = left; calls = (views k).calls + 1; log = log }
+
+  grown_to : (left : List Undrained) (log : Log) → after (views k) Drain ≡ Left left log
+      → ((p : Place) (b : ℕ) → sees_at (views k) p b ≡ true → is_recorded (views k).log.records p ≡ true → (is_recorded log.records p ≡ true) ⊎ IsInObject (Left left log) p)
+      → ((p : Place) (b : ℕ) (z : Bool) → sees_at (views k) p b ≡ true → bit_before (views k) p b ≡ Some z → bit_before (Left left log) p b ≡ Some z)
+      → Grows (views k) kept (after (views k) Drain) kept
+  grown_to left log is recorded knows = same_view (views k) (after (views k) Drain) (Left left log) kept is
+      (growing.grown o old mem views new g (past_after g (views k) Drain) k y.world
+      (every_step Drain o old mem views new g k y.world y.runs y.lawful y.moves y.turn).0 y.runs (Left left log) (y.turn.here ∙ is) refl
+      (voided_same o g (views k) (drained (views k).changes) y.voids) (classes_stay o old views g y.world k Drain y.lawful) (λ B f. f) kept own_
+      (λ f e. refl) (λ f e. refl) refl (λ h. h) recorded knows (λ line x r. r))
+    where
+      own_ : (B : Block) → is_kept_block (views k) kept B ≡ true → mine (views k).fixed.shape (Drained left ∷ (views k).claims) B ≡ true
+      own_ (Small c i) m = or_right _ (has_own (views k) (Small c i)) (kept_own (views k) kept (Small c i) m)
+      own_ (Big c) m = and_from (not (becomes (views k).fixed.shape left (views k).claims c)) (has_own (views k) (Big c))
+          (ap (λ q. not (q && not (Rattle.pm_view.specs.Changes.is_dirty left (Rattle.pm_layout.specs.Chunks.word_of_descriptor (views k).fixed.shape c)))) (u c m)) (kept_own (views k) kept (Big c) m)
+      own_ Root m = kept_own (views k) kept Root m
+
+  -- recorded words are restored
+  restored : (p : Place) (b : ℕ) (z : Bool) → bit_before (views k) p b ≡ Some z → picture (views k).fixed.shape (views k).claims p b ≡ Some z
+  restored p b z e = by (old_of (views k).log.records p) refl e
+    where
+      fits : AreRestored (picture (views k).fixed.shape (views k).claims) (views k).log.records
+      fits = (subst (PhaseFits o.shape k (sight_of (views k)).picture (views k).log (views k).changes) y.voids (y.world.each_lane k y.runs).log.phase).3
+
+      by : (d : Option ℕ) → old_of (views k).log.records p ≡ d → first_of_two (option_map (λ n. bit n b) d) (picture (views k).fixed.shape (views k).claims p b) ≡ Some z
+          → picture (views k).fixed.shape (views k).claims p b ≡ Some z
+      by None q e = e
+      by (Some n) q e = fits p n b q ∙ e
+
+  voided : (left : List Undrained) → after (views k) Drain ≡ drained_to (views k) left → Grows (views k) kept (after (views k) Drain) kept
+  voided (c ∷ left) is = grown_to (c ∷ left) (views k).log is (λ p b s r. inl r) (λ p b z s e. e)
+  voided [] is =
+      let drains : Phase → View = λ ph. record (views k) {
+        claims = decided_by ph (views k).log.entries (Drained [] ∷ (views k).claims);
+        changes = [];
+        calls = (views k).calls + 1;
+        log = log_drained ph (views k).log;
+      } in
+      let so : after (views k) Drain ≡ drains Voiding = is ∙ ap drains y.voids in
+      grown_to [] (log_drained Voiding (views k).log) so (λ p b s r. inr (subst (λ (w : View). IsInObject w p) so (y.objects p b s r)))
+      (λ p b z s e. restored p b z e)
+
+pub voiding_grows : VoidingGrows
+voiding_grows o old mem views new g k kept y u = voided o old mem views new g k kept y u (drained (views k).changes) refl
 
 -- ---- SO THE SIMULATION GOES ON
 
