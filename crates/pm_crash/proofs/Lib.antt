@@ -6,10 +6,14 @@ pub mod EmptyRuns
 pub mod Spelling
 pub mod OpeningBits
 pub mod KeptBits
+pub mod RootClaims
+pub mod Roots
 pub mod Precede
 pub mod Onward
 pub mod Replaying
 pub mod RunClasses
+pub mod RootSteps
+pub mod RootHistory
 pub mod ImageDescriptors
 pub mod Fresh
 pub mod SmallWords
@@ -42,6 +46,7 @@ pub mod OwnEntries
 pub mod KnownWords
 pub mod Looked
 pub mod OpenPools
+pub mod SimHeap
 pub mod SimFacts
 pub mod EntryFacts
 pub mod SimOps
@@ -55,3 +60,9 @@ pub mod FreeBlocks
 pub mod SimAllocs
 pub mod SimCommits
 pub mod Telling
+pub mod SimRoots
+pub mod Growing
+pub mod StepKnows
+pub mod SimSteps
+pub mod SimOutside
+pub mod SimPublish

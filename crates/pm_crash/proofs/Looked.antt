@@ -34,16 +34,21 @@ use Rattle.pm_crash.proofs.OwnEntries.{huge_now, object_now, run_inside, same_cl
 use Rattle.pm_crash.proofs.SceneSteps.{scenes_are_read}
 
 -- what is asked of an item alone
-listed_in : Option Item → Bool
+pub listed_in : Option Item → Bool
 listed_in o = option_map_or (λ (head : ℕ). true) (option_map_or (λ (i : Item). i.list) o None) false
     || leb 1 (length (option_map_or (λ (i : Item). i.members) o []))
 
-seen_unlisted : (o : Option ℕ) → listed_in (option_map (λ n. new_item 0 n None) o) ≡ false
+pub seen_unlisted : (o : Option ℕ) → listed_in (option_map (λ n. new_item 0 n None) o) ≡ false
 unfolding listed_in
 seen_unlisted None = refl
 seen_unlisted (Some n) = refl
 
-seen_size : (o : Option ℕ) (n : ℕ) → o ≡ Some n → length (option_map_or (λ (i : Item). i.bytes) (option_map (λ n. new_item 0 n None) o) []) ≡ n
+-- nothing that was looked at is in a list
+pub seen_is_unlisted : (v : View) (off : ℕ) → is_listed (items_seen v) off ≡ false
+unfolding listed_in
+seen_is_unlisted v off = seen_unlisted (size_seen v off)
+
+pub seen_size : (o : Option ℕ) (n : ℕ) → o ≡ Some n → length (option_map_or (λ (i : Item). i.bytes) (option_map (λ n. new_item 0 n None) o) []) ≡ n
 seen_size o n e = ap (λ (p : Option ℕ). length (option_map_or (λ (i : Item). i.bytes) (option_map (λ n. new_item 0 n None) p) [])) e ∙ length-replicate n 0
 
 module _ (v : View) (entries : List Entry) (kept : Bool) (classes : ℕ → ℕ) (s : State) (header : Header) (pool : PoolView)
@@ -91,7 +96,7 @@ module _ (v : View) (entries : List Entry) (kept : Bool) (classes : ℕ → ℕ)
   size_so off k = ap (λ (o : Option Item). length (option_map_or (λ (i : Item). i.bytes) o [])) (item_so k.block off k.object k.at)
       ∙ (length-bytes_in w (lies k.block) ∙ size_word k)
 
-  unlisted : (off : ℕ) → is_listed copy off ≡ false
+  pub unlisted : (off : ℕ) → is_listed copy off ≡ false
   unfolding listed_in
   unlisted off = by (copy off) refl
     where

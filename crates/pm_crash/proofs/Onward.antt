@@ -1,6 +1,6 @@
 -- FOOTPRINTS STAND: as a world opens, by a draw for its own call, and by every other step, since the
 -- calls stay, what is decided grows, and runs stay of their class.
-use Rattle.std.proofs.Common.{◌≡◌, ◌≢◌, inl, ⊎_elim, ℕ, zero, suc, ◌+◌, ◌*◌, ◌/◌, ◌%◌, ◌^◌, ◌<◌, ◌≤◌, nat_lt, ◌==◌, Bool, true, false, cond, List, [], ◌∷◌, Option, None, Some, refl, sym, ap, ◌∙◌, subst, arith}
+use Rattle.std.proofs.Common.{◌≡◌, ◌≢◌, inl, ⊎_elim, ℕ, zero, suc, ◌+◌, ◌*◌, ◌/◌, ◌%◌, ◌^◌, ◌<◌, ◌≤◌, nat_lt, ◌==◌, ◌||◌, not, Bool, true, false, cond, List, [], ◌∷◌, Option, None, Some, refl, sym, ap, ◌∙◌, subst, arith}
 use Rattle.std.specs.Prelude.{slice_index}
 use Rattle.std.proofs.lemmas.Bool.{and_from, and_parts, both_ways, cases_Bool, cases_eq, cond-true, eqb-true, false_from_ne_true, or_cases}
 use Rattle.pm_layout.specs.Chunks.{word_of_descriptor}
@@ -9,7 +9,7 @@ use Rattle.pm_view.specs.Changes.{Undrained, drained}
 use Rattle.pm_view.specs.Claims.{is_run}
 use Rattle.pm_view.specs.Entries.{first_of_two, latest, redos}
 use Rattle.pm_view.specs.Parts.{Part, GenerationPart, SealPart, EntryPart, SlotPart, RootPart, DescriptorPart, ChunkPart, OtherPart}
-use Rattle.pm_view.specs.Log.{Phase, Idle, Open, Drawn, Sealing, Applying, Clearing, Retiring, Voiding, phase_drawn}
+use Rattle.pm_view.specs.Log.{Phase, Idle, Open, Drawn, Sealing, Applying, Clearing, Retiring, Voiding, is_early, phase_drawn}
 use Rattle.pm_view.specs.Places.{Place, InRun, Descr, Block, Small, Big, Root, header, is_place}
 use Rattle.pm_view.specs.Steps.{Step}
 use Rattle.pm_view.specs.Steps.Step.{Load, Store, Or, And, Flush, Drain, TakeWrite, TakeRead, Raise, Give, ZoneTry, ZoneGive, Occupied, Occupy, Vacate, Draw, NumberSeen, StopSeen, SetStop, Tell}
@@ -31,7 +31,10 @@ use Rattle.pm_world.proofs.Frame.{maker_no_run}
 use Rattle.pm_world.proofs.Replays.{put1_here, put1_else, replay_same}
 use Rattle.pm_crash.specs.Footprints.{Footprints, KeepsDecided, MayPrecede, has_found, has_own, kept_bits}
 use Rattle.pm_crash.specs.Laws.{FootprintsBegin, KeepsFootprints, RunsKeepFootprints}
+use Rattle.pm_crash.specs.Roots.{HoldsItsRoots, RootsAreSeen, leaves_root, saw_root, sets_root}
 use Rattle.pm_crash.proofs.Precede.{precedes}
+use Rattle.pm_crash.proofs.RootHistory.{SeenKept, draw_holds, draw_sees, load_holds, load_sees_roots, other_holds, other_sees}
+use Rattle.pm_crash.proofs.RootSteps.{bare, is_other, no_entries}
 
 -- a block of a run that stands, in part
 stands : (g : Past) (c i : ℕ) → g.runs c ≡ true → nat_lt i (blocks_of (g.geo.class c)) ≡ true
@@ -55,6 +58,12 @@ still_valid g g' w c i v = let y = and_parts (g.runs c) (nat_lt i (blocks_of (g.
 is_run_of : (g : Past) (c i : ℕ) → valid (ghost_of g) (Small c i) ≡ true → g.runs c ≡ true
 is_run_of g c i v = (and_parts (g.runs c) (nat_lt i (blocks_of (g.geo.class c))) v).0
 
+-- what is so of the root word, of each lane
+abbrev KeepsRoots : Opening → Views → Past → Type 0
+KeepsRoots o views g =
+    ((k : ℕ) → k < o.lanes → HoldsItsRoots (views k).fixed.shape (views k).claims (views k).log)
+    × ((k : ℕ) → k < o.lanes → leaves_root (views k).log ≡ true → SeenKept o g (views k).fixed.shape (views k).claims)
+
 -- a footprint stands with other classes where those of the blocks that it looks at are the same
 precedes_with : (cl cl' : ℕ → ℕ) (v : View) (s : State)
     → ((c i : ℕ) → there s (Small c i) ≡ true → cl' c ≡ cl c)
@@ -72,6 +81,7 @@ precedes_with cl cl' v s there_ own p = record {
       ∙ p.class c i t;
   known = p.known;
   apart = λ B C line o a c. p.apart B C line o a (back C line c);
+  roots = p.roots;
 }
   where
     back : (C : Block) (line : ℕ)
@@ -86,7 +96,7 @@ precedes_with cl cl' v s there_ own p = record {
 
 -- THEY STAND as the ghosts go on
 module _ (o : Opening) (id : ℕ) (views new : Views) (g g' : Past) (w : IsOnward g g')
-    (ids : (k : ℕ) → k < o.lanes → (new k).fixed.pool ≡ id) (fp : Footprints o id views g) where
+    (ids : (k : ℕ) → k < o.lanes → (new k).fixed.pool ≡ id) (roots : KeepsRoots o new g') (fp : Footprints o id views g) where
   abbrev With : (ℕ → View) → ℕ → Past
   With drew length = record g' { drew = drew; length = length }
 
@@ -109,6 +119,10 @@ module _ (o : Opening) (id : ℕ) (views new : Views) (g g' : Past) (w : IsOnwar
         (λ c i t. same_class c i (fp.blocks keep n c i (omega arith) t))
         (λ c i t. same_class c i (fp.own n c i l t))
         (fp.precede keep (λ m k e. d m k (w.decided m e)) n l);
+    holds_roots = roots.0;
+    sees_roots = λ k l e keep d. subst (λ n. RootsAreSeen (new k).fixed.shape (new k).claims (kept_bits o (With g.drew g.length) keep n)) w.length
+        (subst (λ (dr : ℕ → View). RootsAreSeen (new k).fixed.shape (new k).claims (kept_bits o (With dr g.length) keep g'.length)) w.drew
+        (roots.1 k l e keep (λ m i q. d m (subst (λ n. m < n) w.length i) q)));
   }
 
   go_on : Footprints o id new g'
@@ -117,7 +131,7 @@ module _ (o : Opening) (id : ℕ) (views new : Views) (g g' : Past) (w : IsOnwar
 
 -- ---- STEPS OTHER THAN THE DRAW
 
-stored_calls : (ph : Phase) (q : Part) (n : ℕ) (g : Past)
+pub stored_calls : (ph : Phase) (q : Part) (n : ℕ) (g : Past)
     → ((past_stored ph q n g).drew ≡ g.drew) × ((past_stored ph q n g).length ≡ g.length)
     × ((past_stored ph q n g).decided ≡ g.decided)
 stored_calls Open GenerationPart n g = (refl, refl, refl)
@@ -196,7 +210,7 @@ fixed_stays v (Tell operation reply) = refl
 
 module _ (o : Opening) (mem : Memory) (views new : Views) (g : Past) (id k : ℕ) (x : World o mem views g)
     (ink : k < o.lanes) (is_open : (views k).log.phase ≡ Open)
-    (ids : (j : ℕ) → j < o.lanes → (new j).fixed.pool ≡ id) (fp : Footprints o id views g) where
+    (ids : (j : ℕ) → j < o.lanes → (new j).fixed.pool ≡ id) (roots : KeepsRoots o new (past_drawn g (views k))) (fp : Footprints o id views g) where
   abbrev v : View
   v = views k
 
@@ -318,7 +332,10 @@ module _ (o : Opening) (mem : Memory) (views new : Views) (g : Past) (id k : ℕ
         (fp.precede keep (kept_before keep d) n l)))
         (subst (λ (y : View). MayPrecede g.geo.class y (kept_bits o g' keep g.length)) (sym new_call)
         (subst (λ s. MayPrecede g.geo.class v s) (sym (same_bits keep g.length (omega arith)))
-        (precedes o mem views g x k ink is_open keep (kept_before keep d))));
+        (precedes o mem views g x k ink is_open keep (kept_before keep d)
+        (fp.sees_roots k ink (ap (λ ph. is_early ph || not (sets_root (redos v.log.entries))) is_open) keep (kept_before keep d)))));
+    holds_roots = roots.0;
+    sees_roots = roots.1;
   }
 
 -- ---- EVERY KIND OF STEP
@@ -335,69 +352,64 @@ new_ids o views new g id k s t fp j l = ⊎_elim
 abbrev CallsStay : Past → Past → Type 0
 CallsStay g g' = (g'.drew ≡ g.drew) × (g'.length ≡ g.length) × ((m : ℕ) → g.decided m ≡ true → g'.decided m ≡ true)
 
-onward : (s : Step) (o : Opening) (mem : Memory) (views new : Views) (g : Past) (id k : ℕ)
-    → World o mem views g → k < o.lanes → IsLawful (views k) s → Turn views new k (after (views k) s)
-    → CallsStay g (past_after g (views k) s)
+onward : (s : Step) (o : Opening) (old mem : Memory) (views new : Views) (g : Past) (id k : ℕ)
+    → World o old views g → k < o.lanes → IsLawful (views k) s → Turn views new k (after (views k) s)
+    → CallsStay g (past_after g (views k) s) → KeepsRoots o new (past_after g (views k) s)
     → Footprints o id views g → Footprints o id new (past_after g (views k) s)
-onward s o mem views new g id k x ink law t calls fp = go_on o id views new g (past_after g (views k) s)
+onward s o old mem views new g id k x ink law t calls roots fp = go_on o id views new g (past_after g (views k) s)
     (record {
       drew = calls.0;
       length = calls.1;
       decided = calls.2;
       runs = runs_stay g (views k) s;
-      class = classes_stay o mem views g x k s law;
+      class = classes_stay o old views g x k s law;
     })
-    (new_ids o views new g id k s t fp) fp
+    (new_ids o views new g id k s t fp) roots fp
+
+-- a step that is neither a load nor the draw
+others : (s : Step) → is_other s ≡ true → ((g : Past) (v : View) → CallsStay g (past_after g v s)) → KeepsFootprints s
+others s u stay o old mem views new g id k x ink law m t fp =
+    let calls = stay g (views k) in
+    onward s o old mem views new g id k x ink law t calls (
+      other_holds o old mem views new g k x ink fp.holds_roots fp.sees_roots s law t u (past_after g (views k) s) calls.0 calls.1 calls.2,
+      other_sees o old mem views new g k x ink fp.holds_roots fp.sees_roots s law t u (past_after g (views k) s) calls.0 calls.1 calls.2,
+    ) fp
 
 pub goes_on : (s : Step) → KeepsFootprints s
-goes_on (Store w n) o mem views new g id k x ink law t fp =
-    let c = stored_calls (views k).log.phase (part_in (views k) w) n g in
-    onward (Store w n) o mem views new g id k x ink law t (c.0, c.1, λ m e. ap (λ z. z m) c.2 ∙ e) fp
-goes_on Drain o mem views new g id k x ink law t fp =
-    onward Drain o mem views new g id k x ink law t (drained_calls g (views k) (drained (views k).changes)) fp
-goes_on (Draw n) o mem views new g id k x ink law t fp =
-    drawn o mem views new g id k x ink law.allowed.is_open (new_ids o views new g id k (Draw n) t fp) fp (fp.ids k ink)
-goes_on (Occupy at bits true) o mem views new g id k x ink law t fp =
-    onward (Occupy at bits true) o mem views new g id k x ink law t (refl, refl, λ m e. e) fp
-goes_on (Occupy at bits false) o mem views new g id k x ink law t fp =
-    onward (Occupy at bits false) o mem views new g id k x ink law t (refl, refl, λ m e. e) fp
-goes_on (Vacate at bits) o mem views new g id k x ink law t fp =
-    onward (Vacate at bits) o mem views new g id k x ink law t (refl, refl, λ m e. e) fp
-goes_on (Load w found) o mem views new g id k x ink law t fp =
-    onward (Load w found) o mem views new g id k x ink law t (refl, refl, λ m e. e) fp
-goes_on (Or w bits found) o mem views new g id k x ink law t fp =
-    onward (Or w bits found) o mem views new g id k x ink law t (refl, refl, λ m e. e) fp
-goes_on (And w bits found) o mem views new g id k x ink law t fp =
-    onward (And w bits found) o mem views new g id k x ink law t (refl, refl, λ m e. e) fp
-goes_on (Flush line) o mem views new g id k x ink law t fp =
-    onward (Flush line) o mem views new g id k x ink law t (refl, refl, λ m e. e) fp
-goes_on (TakeWrite line won) o mem views new g id k x ink law t fp =
-    onward (TakeWrite line won) o mem views new g id k x ink law t (refl, refl, λ m e. e) fp
-goes_on (TakeRead line won) o mem views new g id k x ink law t fp =
-    onward (TakeRead line won) o mem views new g id k x ink law t (refl, refl, λ m e. e) fp
-goes_on (Raise line won) o mem views new g id k x ink law t fp =
-    onward (Raise line won) o mem views new g id k x ink law t (refl, refl, λ m e. e) fp
-goes_on (Give line) o mem views new g id k x ink law t fp =
-    onward (Give line) o mem views new g id k x ink law t (refl, refl, λ m e. e) fp
-goes_on (ZoneTry zone won) o mem views new g id k x ink law t fp =
-    onward (ZoneTry zone won) o mem views new g id k x ink law t (refl, refl, λ m e. e) fp
-goes_on (ZoneGive zone) o mem views new g id k x ink law t fp =
-    onward (ZoneGive zone) o mem views new g id k x ink law t (refl, refl, λ m e. e) fp
-goes_on (Occupied at found) o mem views new g id k x ink law t fp =
-    onward (Occupied at found) o mem views new g id k x ink law t (refl, refl, λ m e. e) fp
-goes_on (NumberSeen n) o mem views new g id k x ink law t fp =
-    onward (NumberSeen n) o mem views new g id k x ink law t (refl, refl, λ m e. e) fp
-goes_on (StopSeen set) o mem views new g id k x ink law t fp =
-    onward (StopSeen set) o mem views new g id k x ink law t (refl, refl, λ m e. e) fp
-goes_on SetStop o mem views new g id k x ink law t fp =
-    onward SetStop o mem views new g id k x ink law t (refl, refl, λ m e. e) fp
-goes_on (Tell operation reply) o mem views new g id k x ink law t fp =
-    onward (Tell operation reply) o mem views new g id k x ink law t (refl, refl, λ m e. e) fp
+goes_on (Load w found) = λ o old mem views new g id k x ink law m t fp.
+    onward (Load w found) o old mem views new g id k x ink law t (refl, refl, λ m e. e) (
+      load_holds o old mem views new g k x ink fp.holds_roots fp.sees_roots w found law m t,
+      load_sees_roots o old mem views new g k x ink fp.holds_roots fp.sees_roots w found law m t,
+    ) fp
+goes_on (Draw n) = λ o old mem views new g id k x ink law m t fp.
+    drawn o old views new g id k x ink law.allowed.is_open (new_ids o views new g id k (Draw n) t fp) (
+      draw_holds o old mem views new g k x ink fp.holds_roots fp.sees_roots n law m t,
+      draw_sees o old mem views new g k x ink fp.holds_roots fp.sees_roots n law m t,
+    ) fp (fp.ids k ink)
+goes_on (Store w n) = others (Store w n) refl (λ g v. let c = stored_calls v.log.phase (part_in v w) n g in (c.0, c.1, λ m e. ap (λ z. z m) c.2 ∙ e))
+goes_on Drain = others Drain refl (λ g v. drained_calls g v (drained v.changes))
+goes_on (Occupy at bits true) = others (Occupy at bits true) refl (λ g v. (refl, refl, λ m e. e))
+goes_on (Occupy at bits false) = others (Occupy at bits false) refl (λ g v. (refl, refl, λ m e. e))
+goes_on (Vacate at bits) = others (Vacate at bits) refl (λ g v. (refl, refl, λ m e. e))
+goes_on (Or w bits found) = others (Or w bits found) refl (λ g v. (refl, refl, λ m e. e))
+goes_on (And w bits found) = others (And w bits found) refl (λ g v. (refl, refl, λ m e. e))
+goes_on (Flush line) = others (Flush line) refl (λ g v. (refl, refl, λ m e. e))
+goes_on (TakeWrite line won) = others (TakeWrite line won) refl (λ g v. (refl, refl, λ m e. e))
+goes_on (TakeRead line won) = others (TakeRead line won) refl (λ g v. (refl, refl, λ m e. e))
+goes_on (Raise line won) = others (Raise line won) refl (λ g v. (refl, refl, λ m e. e))
+goes_on (Give line) = others (Give line) refl (λ g v. (refl, refl, λ m e. e))
+goes_on (ZoneTry zone won) = others (ZoneTry zone won) refl (λ g v. (refl, refl, λ m e. e))
+goes_on (ZoneGive zone) = others (ZoneGive zone) refl (λ g v. (refl, refl, λ m e. e))
+goes_on (Occupied at found) = others (Occupied at found) refl (λ g v. (refl, refl, λ m e. e))
+goes_on (NumberSeen n) = others (NumberSeen n) refl (λ g v. (refl, refl, λ m e. e))
+goes_on (StopSeen set) = others (StopSeen set) refl (λ g v. (refl, refl, λ m e. e))
+goes_on SetStop = others SetStop refl (λ g v. (refl, refl, λ m e. e))
+goes_on (Tell operation reply) = others (Tell operation reply) refl (λ g v. (refl, refl, λ m e. e))
 
 -- ---- AS A WORLD OPENS
 
 pub begins : FootprintsBegin
-begins o mem views g id x none same ids = record {
+begins o mem views g id x none same ids idle = record {
   ids = ids;
   drawn_ids = λ n l. absurd (omega arith);
   shapes = λ n l. absurd (omega arith);
@@ -409,6 +421,11 @@ begins o mem views g id x none same ids = record {
       settled_valid c i (subst (λ z. there (kept_bits o g keep z) (Small c i) ≡ true) e t);
   own = λ n c i l. absurd (omega arith);
   precede = λ keep d n l. absurd (omega arith);
+  holds_roots = λ k l. bare (views k).fixed.shape (views k).claims (views k).log (no_entries (views k).log.entries (idle k l).1);
+  sees_roots = λ k l e keep d. record {
+    same = λ line y s. absurd (both_ways false refl (sym (ap (λ t. saw_root (views k).fixed.shape t line y) (idle k l).0) ∙ s));
+    other = λ line y s. absurd (both_ways false refl (sym (ap (λ t. saw_root (views k).fixed.shape t line y) (idle k l).0) ∙ s));
+  };
 }
   where
     settled_valid : (c i : ℕ) → there (origin o) (Small c i) ≡ true → valid (ghost_of g) (Small c i) ≡ true
@@ -446,5 +463,5 @@ runs o id (t ∷ rest) old new x r fp =
     let w = subst (λ p. World o next.mem next.views p) (sym led.past)
     (every_step t.step o old.mem next.mem old.views next.views old.past t.lane x led.runs led.lawful led.moves led.view).0 in
     let f = subst (λ p. Footprints o id next.views p) (sym led.past)
-    (goes_on t.step o old.mem old.views next.views old.past id t.lane x led.runs led.lawful led.view fp) in
+    (goes_on t.step o old.mem next.mem old.views next.views old.past id t.lane x led.runs led.lawful led.moves led.view fp) in
     runs o id rest next new w r.2 f

@@ -119,7 +119,7 @@ module _ (r : ℕ) where
   freed_stays off items other y = by_place (off == r) None (items r)
       (λ e. absurd (both_ways (r == off) other (Rattle.std.proofs.lemmas.Bool.eq-eqb r off (sym (Rattle.std.proofs.lemmas.Bool.eqb-true off r e))))) y
 
-  sets_stay : (sets : List SetWord) (items : Items) → Stays items → Stays (all_edited (set_edits sets) items)
+  pub sets_stay : (sets : List SetWord) (items : Items) → Stays items → Stays (all_edited (set_edits sets) items)
   unfolding all_edited
   sets_stay [] items y = y
   sets_stay (a ∷ sets) items y = sets_stay sets (edited (put_into a.id.off a.off (number_bytes a.value)) items) (put_stays a.id.off a.off (number_bytes a.value) items y)
@@ -129,7 +129,7 @@ module _ (r : ℕ) where
   reserved_stay [] items y = y
   reserved_stay (x ∷ rs) items y = reserved_stay rs (edited (made_item x.off (item_reserved x)) items) (made_stays x.off (item_reserved x) items y)
 
-  blocks_stay : (frees : List Oid) (rs : List Reservation) (items : Items) → Each (λ (id : Oid). (r == id.off) ≡ false) frees → Stays items
+  pub blocks_stay : (frees : List Oid) (rs : List Reservation) (items : Items) → Each (λ (id : Oid). (r == id.off) ≡ false) frees → Stays items
       → Stays (all_edited (map (λ (id : Oid). freed_item id.off) frees ++ map (λ (x : Reservation). made_item x.off (item_reserved x)) rs) items)
   unfolding all_edited
   blocks_stay [] rs items none y = reserved_stay rs items y

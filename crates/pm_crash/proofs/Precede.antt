@@ -26,6 +26,7 @@ use Rattle.pm_world.proofs.Frame.{found_has, mine_own, own_has, owns_apart, sees
 use Rattle.pm_world.proofs.Geometry.{live_same}
 use Rattle.pm_world.proofs.WordPlaces.{page_apart}
 use Rattle.pm_crash.specs.Footprints.{KeepsDecided, MayPrecede, bit_before, geometry_of, has_found, has_own, is_of_object, is_run_to, kept_bits}
+use Rattle.pm_crash.specs.Roots.{RootsAreSeen}
 use Rattle.pm_crash.specs.Spelled.{has_blocks}
 use Rattle.pm_crash.proofs.KeptBits as kept
 use Rattle.pm_crash.proofs.Spelling.{some_block}
@@ -33,7 +34,7 @@ use Rattle.pm_crash.proofs.Spelling.{some_block}
 -- ---- LINES AND THEIR BLOCKS
 
 -- so many chunks from one on are as many as others, where both have the same chunks
-same_span : (f n m : ℕ) → ((c : ℕ) → in_span f n c ≡ in_span f m c) → n ≡ m
+pub same_span : (f n m : ℕ) → ((c : ℕ) → in_span f n c ≡ in_span f m c) → n ≡ m
 same_span f n m h = ⊎_elim (λ (l : n < m). absurd (over_ n m l h))
     (λ (l : m ≤ n). ⊎_elim (λ (k : m < n). absurd (over_ m n k (λ c. sym (h c)))) (λ (k : n ≤ m). omega arith)
     (Rattle.std.proofs.lemmas.Bool.cases_lt m n)) (Rattle.std.proofs.lemmas.Bool.cases_lt n m)
@@ -88,7 +89,7 @@ big_has sh g f c line e none a = let l = line - line_of_chunk sh c in (
 )
 
 -- a drained record covers what it is of
-logged_recorded : (sh : Shape) (lane : ℕ) (changes : List Undrained) (j : ℕ) (records : List Recorded) (p : Place)
+pub logged_recorded : (sh : Shape) (lane : ℕ) (changes : List Undrained) (j : ℕ) (records : List Recorded) (p : Place)
     → is_logged_from sh lane changes j records p ≡ true → is_recorded records p ≡ true
 logged_recorded sh lane changes j [] p e = e
 logged_recorded sh lane changes j (r ∷ t) p e = ⊎_elim
@@ -259,7 +260,7 @@ module _ (o : Opening) (mem : Memory) (views : Views) (g : Past) (x : World o me
   found_block p b t = block_so o.shape (cells_of o.shape mem) S (Flies (ghost_of g) k) (ghost_of g) x.bits.geo k v
       v.log.phase (fit k) p b (found_has h (block_of (geometry_of v) p b) t)
 
-  sees_real : (p : Place) (b : ℕ) → Sees p b → sees g.geo S h p b ≡ true
+  pub sees_real : (p : Place) (b : ℕ) → Sees p b → sees g.geo S h p b ≡ true
   sees_real (InRun c w) b t = subst (λ B. h.found B ≡ true) (found_block (InRun c w) b t) t
   sees_real (InHuge c w) b t = subst (λ B. h.found B ≡ true) (found_block (InHuge c w) b t) t
   sees_real (Descr c) b t = subst (λ B. h.found B ≡ true) (found_block (Descr c) b t) t
@@ -310,7 +311,7 @@ module _ (o : Opening) (mem : Memory) (views : Views) (g : Past) (x : World o me
   unapplied : (p : Place) (b : ℕ) → given (Rattle.pm_world.specs.Lanes.left v.log.phase p b) ≡ false
   unapplied p b = ap (λ ph. given (Rattle.pm_world.specs.Lanes.left ph p b)) is_open
 
-  as_in_memory : (p : Place) (b : ℕ) → sees g.geo S h p b ≡ true → live S g.geo g.runs p ≡ true
+  pub as_in_memory : (p : Place) (b : ℕ) → sees g.geo S h p b ≡ true → live S g.geo g.runs p ≡ true
       → is_recorded v.log.records p ≡ false → read (cells_of o.shape mem).pool p b ≡ S p b
   as_in_memory p b t l e = ⊎_elim
       (λ (y : owns g.geo S h p b ≡ true). ((fit k).bits p b y).0 l (unapplied p b) (unlogged p e))
@@ -343,8 +344,9 @@ module _ (o : Opening) (mem : Memory) (views : Views) (g : Past) (x : World o me
           ∙ (fit k).picture p b (sees_real p b t) y pic
 
   -- SO THESE BITS MAY PRECEDE THE CALL
-  pub precedes : MayPrecede g.geo.class (views k) (kept_bits o g keep g.length)
-  precedes = record {
+  pub precedes : RootsAreSeen (views k).fixed.shape (views k).claims (kept_bits o g keep g.length)
+      → MayPrecede g.geo.class (views k) (kept_bits o g keep g.length)
+  precedes sees_root = record {
     found = found_there;
     spans = found_spans;
     whole = found_whole;
@@ -353,4 +355,5 @@ module _ (o : Opening) (mem : Memory) (views : Views) (g : Past) (x : World o me
     known = known_so;
     apart = λ B C line t a c. lines_apart B C line (subst (λ s. OwnHas s h (geometry_of v) B line) sh_is a)
         (subst (λ s. AllocatedHas s K (record { first = λ c. c; class = g.geo.class }) C line) sh_is c);
+    roots = sees_root;
   }

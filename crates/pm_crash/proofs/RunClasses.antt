@@ -39,7 +39,7 @@ abbrev HasClass : ℕ → Type 0
 HasClass x = is_run x ≡ true → 0 < blocks_of (x / 256)
 
 -- an entry that is left to be applied stands as all do
-stands_among : (sh : Shape) (lane : ℕ) (ink : lane < sh.lanes) (done : List Entry) (e : Entry) (todo es : List Entry)
+pub stands_among : (sh : Shape) (lane : ℕ) (ink : lane < sh.lanes) (done : List Entry) (e : Entry) (todo es : List Entry)
     → es ≡ done ++ e ∷ todo → AllStand sh lane ink es → Stands sh lane ink e.place e
 stands_among sh lane ink done e todo es is s = go done (subst (AllStand sh lane ink) is s)
   where

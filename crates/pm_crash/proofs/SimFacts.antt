@@ -2,20 +2,15 @@
 use Rattle.std.proofs.Common.{◌≡◌, ◌≢◌, ◌⊎◌, ⊎_elim, inl, inr, ℕ, zero, suc, ◌+◌, ◌-◌, ◌/◌, ◌<◌, ◌≤◌, ◌&&◌, ◌||◌, ◌==◌, not, nat_le, Bool, true, false, cond, List, [], ◌∷◌, map, Option, Some, None, IsSome, refl, sym, ◌∙◌, ap, subst, arith}
 use Rattle.std.proofs.lemmas.Bool.{and_from, and_parts, both_ways, cases_eq, cond-false, eq-eqb, false_from_ne_true, le-leb, ne_eqb, or_cases, or_left, or_right}
 use Rattle.pm_header.specs.declared.header.Header.{Header}
-use Rattle.pm_layout.specs.Sizes.{class_of}
 use Rattle.pm_layout.specs.declared.shape.Shape.{Shape}
 use Rattle.pm_objects.specs.Pool.{block_lines}
 use Rattle.pm_objects.specs.declared.calls.Operation.{Operation}
 use Rattle.pm_objects.specs.declared.calls.Operation.TheVariants.{Abort, Commit}
 use Rattle.pm_objects.specs.declared.history.TxErr.{TxErr}
-use Rattle.pm_objects.specs.declared.history.TxErr.TheVariants as error
 use Rattle.pm_objects.specs.declared.history.Value.{Value}
 use Rattle.pm_objects.specs.declared.history.Value.TheVariants.{Refused}
+use Rattle.pm_objects.specs.declared.history.TxErr.TheVariants as error
 use Rattle.pm_objects.specs.declared.pool.PoolView.{PoolView}
-use Rattle.pm_image.specs.declared.block.Block.{Block as Lines}
-use Rattle.pm_image.specs.Contents.{size_in}
-use Rattle.pm_image.specs.HeapFaults.{good_block}
-use Rattle.pm_image.specs.Narrowings.{takes_links}
 use Rattle.pm_model.specs.CallStep.{CallRun, Runs, TransactionStep, is_transaction}
 use Rattle.pm_model.specs.Inside.{Ran, after, after_reply, is_action}
 use Rattle.pm_model.specs.Items.{Item, Items, all_edited, plain_pool}
@@ -44,13 +39,11 @@ use Rattle.pm_crash.specs.Sim.{Agrees, Came, Sim, bits_now, change_so_far, copy_
 use Rattle.pm_crash.specs.SimFacts.{CallsWithoutEntriesAreOver, CallsWithoutEntriesHaveFacts, CallsWithoutLogAreOver, EndsTransaction, IsOver, IsSized, SimsAreFacts, TransactionsEnd, is_begun, lists_after}
 use Rattle.pm_crash.specs.Spelled.{Holds, number, words_by}
 use Rattle.pm_crash.proofs.Effects.{effects_are_facts}
-use Rattle.pm_crash.proofs.ItemsOfBits.{items_have_blocks, root_is_told}
-use Rattle.pm_crash.proofs.KnownWords.{header_known, header_stays}
-use Rattle.pm_crash.proofs.Looked.{words_so}
 use Rattle.pm_crash.proofs.OpenPools.{pending_so, root_stays}
 use Rattle.pm_crash.proofs.OpenRuns.{are_runs, told_once_more}
 use Rattle.pm_crash.proofs.OwnEntries.{changes_blocks, descriptors, kept_is_own}
 use Rattle.pm_crash.proofs.Simulation.{no_turn, now_is}
+use Rattle.pm_crash.proofs.SimHeap as good
 
 same_some : {A : Type 0} → (a b : A) → Some a ≡ Some b → a ≡ b
 same_some {A = A} a b e = ap (λ (z : Option A). Rattle.std.specs.Prelude.unwrap_or z a) e
@@ -68,6 +61,7 @@ may_agree classes v kept s x = record {
       (or_cases (has_found v (Rattle.pm_view.specs.Places.Small c i)) (is_kept_block v kept (Rattle.pm_view.specs.Places.Small c i)) t));
   known = x.known;
   apart = λ B C line o a c. x.apart B C line (kept_is_own v kept B o) a c;
+  roots = x.roots;
 }
 
 -- what was told is a run of the model
@@ -98,81 +92,15 @@ module _ (v : View) (sim : Sim v v.log.entries) (y : IsOver v) (classes : ℕ �
 
   -- ---- THE HEAP IS GOOD
 
-  word : (B : Block) (z : IsSized v v.log.entries B) (k n : ℕ) → k < 8 → KnowsWord v v.log.entries B k n → words_by sh classes now ((lines_of sh classes now B).place / 8 + k) ≡ n
-  word B z k n few kn = header_known v v.log.entries true classes s header pool holds agrees y.enters B k n z.object few
-      (let m = (words_so v v.log.entries true classes s header pool holds agrees y.enters copy came.stands B z.object).1 in omega arith) kn
-
-  is_zero : (B : Block) (z : IsSized v v.log.entries B) (k : ℕ) → 2 ≤ k → k < 8 → (words_by sh classes now ((lines_of sh classes now B).place / 8 + k) == 0) ≡ true
-  is_zero B z k low few = eq-eqb (words_by sh classes now ((lines_of sh classes now B).place / 8 + k)) 0 (word B z k 0 few (z.plain k low few))
-
-  sized : (B : Block) → Makes d B → is_occupancy sh B ≡ true → (good_block (words_by sh classes now) (lines_of sh classes now B) ≡ true) × (takes_links (words_by sh classes now) (lines_of sh classes now B) ≡ true)
-  unfolding good_block
-  sized B m o =
-      let z = y.sized B m in
-      let w : ℕ → ℕ = words_by sh classes now in
-      let b : Lines = lines_of sh classes now B in
-      let size : size_in w b ≡ z.size = word B z 1 z.size (omega arith) z.sized in
-      let many = (words_so v v.log.entries true classes s header pool holds agrees y.enters copy came.stands B z.object).0 in
-      let fits = z.fits in
-      let lines : block_lines (class_of (size_in w b)) ≡ b.lines = ap (λ n. block_lines (class_of n)) size ∙ (let q : ℕ = block_lines (class_of z.size) in omega arith) in
-      let some = z.some in let most = z.most in (
-        and_from (nat_le 1 (size_in w b) && nat_le (size_in w b) 262080 && block_lines (class_of (size_in w b)) == b.lines && w (b.place / 8 + 6) == 0) (w (b.place / 8 + 7) == 0)
-            (and_from (nat_le 1 (size_in w b) && nat_le (size_in w b) 262080 && block_lines (class_of (size_in w b)) == b.lines) (w (b.place / 8 + 6) == 0)
-            (and_from (nat_le 1 (size_in w b) && nat_le (size_in w b) 262080) (block_lines (class_of (size_in w b)) == b.lines)
-            (and_from (nat_le 1 (size_in w b)) (nat_le (size_in w b) 262080) (le-leb 1 (size_in w b) (omega arith)) (le-leb (size_in w b) 262080 (omega arith)))
-            (eq-eqb (block_lines (class_of (size_in w b))) b.lines lines)) (is_zero B z 6 (omega arith) (omega arith))) (is_zero B z 7 (omega arith) (omega arith)),
-        and_from (w (b.place / 8 + 2) == 0 && w (b.place / 8 + 3) == 0 && w (b.place / 8 + 4) == 0) (w (b.place / 8 + 5) == 0)
-            (and_from (w (b.place / 8 + 2) == 0 && w (b.place / 8 + 3) == 0) (w (b.place / 8 + 4) == 0)
-            (and_from (w (b.place / 8 + 2) == 0) (w (b.place / 8 + 3) == 0) (is_zero B z 2 (omega arith) (omega arith)) (is_zero B z 3 (omega arith) (omega arith)))
-            (is_zero B z 4 (omega arith) (omega arith))) (is_zero B z 5 (omega arith) (omega arith)),
-      )
-
-  -- ---- THE ROOT IS THERE
-
-  root_word : (b : ℕ) → now RootWord b ≡ s RootWord b
-  root_word b = over_none (d RootWord b) (s RootWord b) (false_from_ne_true (given (d RootWord b)) (λ t. y.enters.changes RootWord b t))
-
-  root_number : number (now RootWord) ≡ number (s RootWord)
-  root_number = λ i. number (λ b. root_word b i)
-
-  abbrev r : ℕ
-  r = number (s RootWord)
-
-  rooted : r ≢ 0 → (plain_pool pool).root ≡ Some r
-  rooted some = root_is_told sh classes s header pool holds ∙ cond-false (r == 0) None (Some r) (ne_eqb r 0 some)
-
-  root_before : r ≢ 0 → IsSome ((plain_pool pool).items r)
-  root_before some = ⊎_elim
-      (λ (e : number (s RootWord) ≡ 0). absurd (some e))
-      (λ (b : (B : Block) × (is_allocated sh s B ≡ true) × (offset_of sh classes s B ≡ number (s RootWord))).
-      ap Rattle.std.specs.Prelude.is_some (ap (plain_pool pool).items (sym b.2) ∙ Rattle.pm_crash.proofs.ItemsOfBits.blocks_have_items sh classes s header pool holds b.0 b.1))
-      (Rattle.pm_crash.proofs.GoodBits.held_good sh classes s header pool holds).root
-
   same_copy : (after_told (map told_by came.runs) (idle (plain_pool pool) (pending_of v.entries))).items ≡ copy
   same_copy = ap (λ (t : List Told). (after_told t (idle (plain_pool pool) (pending_of v.entries))).items) came.told
 
-  find_some : (o : Option Item) → IsSome o → (i : Item) × (o ≡ Some i)
-  find_some None t = absurd (both_ways false refl t)
-  find_some (Some i) t = (i, refl)
-
-  root : (number (now RootWord) ≡ 0) ⊎ ((B : Block) × (is_allocated sh now B ≡ true) × (offset_of sh classes now B ≡ number (now RootWord)))
-  root = ⊎_elim
-      (λ (e : r ≡ 0). inl (root_number ∙ e))
-      (λ (some : r ≢ 0).
-      let there = root_stays true (plain_pool pool) (pending_of v.entries) came.runs r (rooted some) (root_before some) came.replies in
-      let f = find_some (copy r) (subst (λ (items : Items). IsSome (items r)) same_copy there) in
-      let b = came.stands.only r f.0 f.1 in
-      inr (b.0, b.1, sym b.2 ∙ sym root_number))
-      (cases_eq r 0)
+  kept_root : (r : ℕ) → (plain_pool pool).root ≡ Some r → IsSome ((plain_pool pool).items r) → IsSome (copy r)
+  kept_root r is there = subst (λ (items : Items). IsSome (items r)) same_copy
+      (root_stays true (plain_pool pool) (pending_of v.entries) came.runs r is there came.replies)
 
   heap : ChangesHeap sh classes s d
-  heap = record {
-    blocks = changes_blocks v v.log.entries true classes s header pool holds agrees y.enters;
-    sized = sized;
-    descriptors = descriptors v v.log.entries true classes s header pool holds agrees y.enters;
-    headers = λ B k b a none few. header_stays v v.log.entries true classes s header pool holds agrees y.enters B k b a few;
-    root = root;
-  }
+  heap = good.heap v y.enters y.sized classes s header pool holds agrees copy came.stands kept_root
 
   -- ---- THE STEP OF THE MODEL
 
@@ -198,7 +126,7 @@ module _ (v : View) (sim : Sim v v.log.entries) (y : IsOver v) (classes : ℕ �
   last_pending = pending_so true start came.runs replies ∙ ap (λ (t : List Told). pending_after t (pending v.fixed.lane)) came.told
 
   same_root : root_told (number (now RootWord)) ≡ (plain_pool pool).root
-  same_root = ap root_told root_number ∙ sym (root_is_told sh classes s header pool holds)
+  same_root = good.same_root v y.enters y.sized classes s header pool holds agrees copy came.stands kept_root
 
   leaves : state_with v s pool pending copy ≡ Rattle.pm_model.specs.CallStep.state_with (state_of pool pending) v.fixed.lane (record { pool = pool_of last; pending = last.pending })
   leaves = λ i. record {

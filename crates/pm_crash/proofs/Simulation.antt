@@ -1,6 +1,8 @@
 -- A lane at work goes on as the plain model's transaction.
-use Rattle.std.proofs.Common.{◌≡◌, ⊎_elim, ℕ, ◌&&◌, ◌||◌, ◌==◌, not, Bool, true, false, cond, List, [], ◌∷◌, ◌++◌, map, Option, Some, None, refl, sym, ◌∙◌, ap, subst}
-use Rattle.std.proofs.lemmas.Bool.{or_cases, or_left, or_right}
+use Rattle.std.proofs.Common.{◌≡◌, ⊎_elim, ℕ, zero, suc, ◌+◌, ◌-◌, ◌*◌, ◌/◌, ◌%◌, ◌<◌, ◌≤◌, nat_le, nat_lt, ◌&&◌, ◌||◌, ◌==◌, arith, ne_eqb, not, Bool, true, false, cond, List, [], ◌∷◌, ◌++◌, map, Option, Some, None, refl, sym, ◌∙◌, ap, subst}
+use Rattle.std.proofs.lemmas.Bool.{and_from, and_parts, both_ways, cond-false, eqb-true, le-leb, leb-true, lt-ltb, ltb-true, or_cases, or_left, or_right}
+use Rattle.std.proofs.Math.Nat.{mul-div-le, mul_comm}
+use Rattle.std.proofs.Math.Arith.{digits_div, digits_mod}
 use Rattle.std.proofs.lemmas.List.{map-append}
 use Rattle.pm_header.specs.declared.header.Header.{Header}
 use Rattle.pm_objects.specs.declared.calls.Operation.{Operation}
@@ -10,19 +12,21 @@ use Rattle.pm_model.specs.Items.{PlainPool, plain_pool}
 use Rattle.pm_model.specs.Transaction.{Transaction, idle, is_working}
 use Rattle.pm_view.specs.Claims.{class, first}
 use Rattle.pm_view.specs.Entries.{Entry, latest, turn}
-use Rattle.pm_view.specs.Places.{Place, InRun, InHuge, Descr, RootWord, Block, Small, Big, Root}
+use Rattle.pm_view.specs.Places.{Place, InRun, InHuge, Descr, RootWord, Block, Small, Big, Root, part}
 use Rattle.pm_view.specs.View.{Constants, View, Told}
 use Rattle.pm_world.specs.BlockLines.{AllocatedHas}
 use Rattle.pm_world.specs.Lanes.{sees}
+use Rattle.pm_world.specs.Memory.{bit}
 use Rattle.pm_world.specs.Sights.{is_recorded, picture, sight_of}
-use Rattle.pm_world.specs.States.{State, live, over}
+use Rattle.pm_world.specs.States.{State, bright, bright_huge, lit, live, over, shown, size_at, val}
 use Rattle.pm_crash.specs.Calls.{pending_of, told_by}
 use Rattle.pm_crash.specs.Footprints.{geometry_of, has_found, is_of_object, is_run_to}
 use Rattle.pm_crash.specs.OpenRuns.{AreReplies, MayFollow, after_told, no_pool}
-use Rattle.pm_crash.specs.Sim.{Agrees, Came, Grows, IsAsBefore, KeepsEntries, LeadsOn, MayTell, SameBits, Sim, SimBegins, SimGoesOn, SimStays, StandIn, Tells, bits_now, change_so_far, copy_of, is_kept_block, lists_of, sees_at, tx_with}
+use Rattle.pm_crash.specs.Sim.{Agrees, Came, Grows, IsAsBefore, KeepsEntries, LeadsOn, MayTell, SameBits, Sim, SimBegins, SimGoesOn, SimStays, StandIn, Tells, bits_now, change_so_far, copy_of, is_kept_block, lists_of, sees_at, tx_with, IsInObject}
 use Rattle.pm_crash.specs.Spelled.{Holds}
 use Rattle.pm_crash.proofs.OpenRuns.{replies_once_more, told_apart, told_once_more}
 use Rattle.pm_crash.proofs.SceneSteps.{scenes_begin}
+use Rattle.pm_crash.proofs.Spelling.{number_is}
 
 -- ---- THE TRANSACTION is that of its lists
 
@@ -30,6 +34,10 @@ pub now_is : (v : View) (pool : PlainPool) → after_told v.call (idle pool (pen
 now_is v pool = told_apart v.call (idle no_pool (pending_of v.entries)) pool pool.items
 
 -- ---- A LANE THAT KNOWS NO LESS agrees with no more bits
+
+some_class : (n : ℕ) → not (n == 0) ≡ true → 0 < n
+some_class zero e = absurd (both_ways false refl e)
+some_class (suc n) e = omega arith
 
 pub sees_so : (v : View) (s : State) (p : Place) (b : ℕ) → sees (geometry_of v) s (sight_of v).hold p b ≡ sees_at v p b
 sees_so v s (InRun c w) b = refl
@@ -49,9 +57,62 @@ module _ (v next : View) (kept kept' : Bool) (keeps : KeepsEntries v next) (g : 
   same_live (Descr c) b t l = refl
   same_live RootWord b t l = refl
 
+  -- a place that is known to be an object's is one's
+  in_object : (p : Place) (b : ℕ) → sees_at next p b ≡ true → IsInObject next p → live s (geometry_of next) (is_run_to next) p ≡ true
+  in_object (InRun c w) b t y =
+      let cl : ℕ = class next.claims c in
+      let i : ℕ = (w / 8 - 1) / cl in
+      let u = and_parts (is_run_to next c) (nat_le 8 w && nat_lt w 512) y.of_block in
+      let z = and_parts (nat_le 8 w) (nat_lt w 512) u.1 in
+      let from = leb-true 8 w z.0 in
+      let to = ltb-true w 512 z.1 in
+      let some : 0 < class next.claims c = some_class (class next.claims c) u.0 in
+      let there : s (InRun c 0) i ≡ true = subst (λ n. s (InRun c 0) n ≡ true) (cond-false (w == 0) b ((w / 8 - 1) / class next.claims c) (ne_eqb w 0 (λ q. omega arith)))
+      (x.found (Small c (part (class next.claims c) w b)) t) in
+      let n : ℕ = class next.claims c * ((w / 8 - 1) / class next.claims c) in
+      let low : class next.claims c * ((w / 8 - 1) / class next.claims c) ≤ w / 8 - 1 = mul-div-le (w / 8 - 1) (class next.claims c) in
+      let at : (8 * (1 + n) + 1) / 8 - 1 ≡ n = omega arith in
+      let turned : n ≡ i * cl + 0 = (let e : class next.claims c * ((w / 8 - 1) / class next.claims c) ≡ (w / 8 - 1) / class next.claims c * class next.claims c = mul_comm (class next.claims c) ((w / 8 - 1) / class next.claims c) in omega (arith, e)) in
+      let over_ : ((8 * (1 + n) + 1) / 8 - 1) / cl ≡ i = ap (λ m. m / cl) (at ∙ turned) ∙ digits_div i {m = cl} {r = 0} some in
+      let rest : ((8 * (1 + n) + 1) / 8 - 1) % cl ≡ 0 = ap (λ m. m % cl) (at ∙ turned) ∙ digits_mod i {m = cl} {r = 0} some in
+      let header : live s (geometry_of next) (is_run_to next) (InRun c (8 * (1 + n) + 1)) ≡ true =
+      and_from (is_run_to next c) (shown s cl c (8 * (1 + n) + 1)) u.0
+      (or_right (8 * (1 + n) + 1 == 0) ((nat_le 8 (8 * (1 + n) + 1) && nat_lt (8 * (1 + n) + 1) 512) && bright s cl c (((8 * (1 + n) + 1) / 8 - 1) / cl) (((8 * (1 + n) + 1) / 8 - 1) % cl))
+      (and_from (nat_le 8 (8 * (1 + n) + 1) && nat_lt (8 * (1 + n) + 1) 512) (bright s cl c (((8 * (1 + n) + 1) / 8 - 1) / cl) (((8 * (1 + n) + 1) / 8 - 1) % cl))
+      (and_from (nat_le 8 (8 * (1 + n) + 1)) (nat_lt (8 * (1 + n) + 1) 512) (le-leb 8 (8 * (1 + n) + 1) (omega arith)) (lt-ltb (8 * (1 + n) + 1) 512 (omega arith)))
+      (subst (λ m. bright s cl c m (((8 * (1 + n) + 1) / 8 - 1) % cl) ≡ true) (sym over_)
+      (subst (λ m. bright s cl c i m ≡ true) (sym rest) (and_from (s (InRun c 0) i) (lit (s (size_at cl c i)) 0) there (le-leb 0 ((val (s (size_at cl c i)) 0 64 + 63) / 64) (omega arith))))))) in
+      let size : val (s (size_at cl c i)) 0 64 ≡ y.size = number_is (s (size_at cl c i)) y.size y.small (λ e l.
+      x.known (size_at cl c i) e (bit y.size e) (sees_so next s (size_at cl c i) e ∙ y.sees e)
+      (or_right (is_recorded next.log.records (size_at cl c i)) (live s (geometry_of next) (is_run_to next) (size_at cl c i)) header) (y.sized e l)) in
+      and_from (is_run_to next c) (shown s cl c w) u.0
+      (or_right (w == 0) ((nat_le 8 w && nat_lt w 512) && bright s cl c ((w / 8 - 1) / cl) ((w / 8 - 1) % cl))
+      (and_from (nat_le 8 w && nat_lt w 512) (bright s cl c ((w / 8 - 1) / cl) ((w / 8 - 1) % cl)) u.1
+      (and_from (s (InRun c 0) i) (lit (s (size_at cl c i)) ((w / 8 - 1) % cl)) there
+      (subst (λ m. nat_le ((w / 8 - 1) % cl) ((m + 63) / 64) ≡ true) (sym size) (le-leb ((w / 8 - 1) % cl) ((y.size + 63) / 64) y.has_line)))))
+  in_object (InHuge c w) b t y =
+      let f : ℕ = first next.fixed.shape next.claims c in
+      let u = and_parts (nat_lt w 512) (first next.fixed.shape next.claims f == f) y.of_block in
+      let own : first next.fixed.shape next.claims f ≡ f = eqb-true (first next.fixed.shape next.claims f) f u.1 in
+      let there : s (Descr f) 1 ≡ true = x.found (Big f) t in
+      let header : live s (geometry_of next) (is_run_to next) (InHuge f 1) ≡ true =
+      subst (λ m. bright_huge s m (64 * (f - m) + 1 / 8) ≡ true) (sym own)
+      (and_from (s (Descr f) 1) (lit (s (InHuge f 1)) (64 * (f - f) + 1 / 8)) there (le-leb (64 * (f - f) + 1 / 8) ((val (s (InHuge f 1)) 0 64 + 63) / 64) (omega arith))) in
+      let size : val (s (InHuge f 1)) 0 64 ≡ y.size = number_is (s (InHuge f 1)) y.size y.small (λ e l.
+      x.known (InHuge f 1) e (bit y.size e) (sees_so next s (InHuge f 1) e ∙ y.sees e)
+      (or_right (is_recorded next.log.records (InHuge f 1)) (live s (geometry_of next) (is_run_to next) (InHuge f 1)) header) (y.sized e l)) in
+      and_from (nat_lt w 512) (bright_huge s f (64 * (c - f) + w / 8)) u.0
+      (and_from (s (Descr f) 1) (lit (s (InHuge f 1)) (64 * (c - f) + w / 8)) there
+      (subst (λ m. nat_le (64 * (c - f) + w / 8) ((m + 63) / 64) ≡ true) (sym size) (le-leb (64 * (c - f) + w / 8) ((y.size + 63) / 64) y.has_line)))
+  in_object (Descr c) b t y = refl
+  in_object RootWord b t y = refl
+
   same_object : (p : Place) (b : ℕ) → sees_at v p b ≡ true → is_of_object v s p ≡ true → is_of_object next s p ≡ true
   same_object p b t o = ⊎_elim
-      (λ (r : is_recorded v.log.records p ≡ true). or_left (is_recorded next.log.records p) (live s (geometry_of next) (is_run_to next) p) (g.recorded p r))
+      (λ (r : is_recorded v.log.records p ≡ true). ⊎_elim
+      (λ (q : is_recorded next.log.records p ≡ true). or_left (is_recorded next.log.records p) (live s (geometry_of next) (is_run_to next) p) q)
+      (λ (q : IsInObject next p). or_right (is_recorded next.log.records p) (live s (geometry_of next) (is_run_to next) p) (in_object p b (g.sees p b t).0 q))
+      (g.recorded p b t r))
       (λ (l : live s (geometry_of v) (is_run_to v) p ≡ true). or_right (is_recorded next.log.records p) (live s (geometry_of next) (is_run_to next) p) (same_live p b t l))
       (or_cases (is_recorded v.log.records p) (live s (geometry_of v) (is_run_to v) p) o)
 
@@ -70,6 +131,10 @@ module _ (v next : View) (kept kept' : Bool) (keeps : KeepsEntries v next) (g : 
         x.known p b y (sees_so next s p b ∙ (g.sees p b t').0) (same_object p b t' o) (g.knows p b y t' e);
     apart = λ B C line o a c. x.apart B C line (g.own B o) (g.lines B line o a)
         (subst (λ (f : Constants). AllocatedHas f.shape s (record { first = λ d. d; class = classes }) C line) (sym keeps.fixed) c);
+    roots = record {
+      same = λ l n t e. x.roots.same l n (g.roots l n t) e;
+      other = λ l n t e. x.roots.other l n (g.roots l n t) e;
+    };
   }
 
 -- ---- THE BITS STAY

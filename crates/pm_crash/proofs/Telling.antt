@@ -137,13 +137,14 @@ tells_grow v op reply kept = record {
       and_from (has_own v B) (has_off (known_offset v B) (blocks_kept kept (views.after v (Tell op reply)))) y.0 (kept_so op reply v kept (known_offset v B) y.1);
   lines = λ B line t y. y;
   sees = λ p b t. (t, same_place v op reply p);
-  recorded = λ p t. t;
+  recorded = λ p b s t. inl t;
   knows = λ p b y t e. e;
+  roots = λ l n t. t;
 }
 
 -- ---- steps that teach nothing of bits
 
-still_place : (v : View) (changes : List Undrained) (calls : ℕ) (occupancy : List Seen) (zones : List ℕ) (seen : List Step) (p : Place)
+pub still_place : (v : View) (changes : List Undrained) (calls : ℕ) (occupancy : List Seen) (zones : List ℕ) (seen : List Step) (p : Place)
     → IsSamePlace v (record v { changes = changes; calls = calls; occupancy = occupancy; zones = zones; seen = seen }) p
 still_place v changes calls occupancy zones seen (InRun c w) = refl
 still_place v changes calls occupancy zones seen (InHuge c w) = refl
@@ -161,8 +162,9 @@ sim_is_kept v entries changes calls occupancy zones seen sim =
       own = λ B t. t;
       lines = λ B line t y. y;
       sees = λ p b t. (t, still_place v changes calls occupancy zones seen p);
-      recorded = λ p t. t;
+      recorded = λ p b s t. inl t;
       knows = λ p b y t e. e;
+      roots = λ l n t. t;
     })
     (λ p b. inl refl)
 

@@ -12,6 +12,7 @@ use Rattle.pm_world.specs.Sights.{is_recorded, picture, sight_of}
 use Rattle.pm_world.specs.Lanes.{sees, valid}
 use Rattle.pm_world.specs.Memory.{bit}
 use Rattle.pm_world.specs.BlockLines.{AllocatedHas, OwnHas}
+use Rattle.pm_crash.specs.Roots.{HoldsItsRoots, RootsAreSeen, leaves_root}
 use Rattle.pm_crash.specs.Spelled.{has_blocks}
 use Rattle.pm_world.specs.World.{Opening, Views, Past, ghost_of, numbered_by, origin}
 
@@ -63,6 +64,8 @@ pub record MayPrecedeBut (classes : ℕ → ℕ) (v : View) (own : Block → Boo
   pub apart : (B C : Block) (line : ℕ) → own B ≡ true
       → OwnHas v.fixed.shape (sight_of v).hold (geometry_of v) B line
       → AllocatedHas v.fixed.shape s (record { first = λ c. c; class = classes }) C line → ⊥
+  -- what it saw of the root word under locks that it holds is so
+  pub roots : RootsAreSeen v.fixed.shape v.claims s
 
 -- with all blocks of its own free
 abbrev pub MayPrecede : (ℕ → ℕ) → View → State → Type 0
@@ -99,3 +102,10 @@ pub record Footprints (o : Opening) (id : ℕ) (views : Views) (g : Past) : Type
       → valid (ghost_of g) (Small c i) ≡ true
   pub precede : (keep : ℕ → Bool) → KeepsDecided g keep → (n : ℕ) → n < g.length
       → MayPrecede g.geo.class (g.drew n) (kept_bits o g keep n)
+  -- each lane holds the guards of the root word that it sets; and what it saw of the word is so after
+  -- the calls so far, until its own call sets it
+  pub holds_roots : (k : ℕ) → k < o.lanes
+      → HoldsItsRoots (views k).fixed.shape (views k).claims (views k).log
+  pub sees_roots : (k : ℕ) → k < o.lanes → leaves_root (views k).log ≡ true → (keep : ℕ → Bool)
+      → KeepsDecided g keep
+      → RootsAreSeen (views k).fixed.shape (views k).claims (kept_bits o g keep g.length)

@@ -1,6 +1,6 @@
 -- THE LAWS: how the calls of a world, its crash images and the plain model fit together, for any
 -- number of lanes and any choice of survivors.
-use Rattle.std.specs.Prelude.{◌≡◌, ℕ, ◌<◌, ◌≤◌, ◌||◌, Bool, true, List, slice_index}
+use Rattle.std.specs.Prelude.{◌≡◌, ℕ, ◌<◌, ◌≤◌, ◌||◌, Bool, true, List, [], slice_index}
 use Rattle.pm_header.specs.declared.header.Header.{Header}
 use Rattle.pm_objects.specs.declared.pool.PoolView.{PoolView}
 use Rattle.pm_view.specs.Log.{is_early}
@@ -11,6 +11,7 @@ use Rattle.pm_world.specs.Crash.{NoneTorn, Survives, is_kept}
 use Rattle.pm_world.specs.Laws.{Turn}
 use Rattle.pm_world.specs.Lawful.{IsLawful}
 use Rattle.pm_world.specs.Memory.{Memory, PoolWord}
+use Rattle.pm_world.specs.Moves.{Moves}
 use Rattle.pm_world.specs.Runs.{IsRun, IsWorld, LaneStep, Moment}
 use Rattle.pm_world.specs.World.{Opening, Views, Past, World}
 use Rattle.pm_crash.specs.Calls.{Fact, StepsFrom}
@@ -26,11 +27,13 @@ abbrev pub FootprintsBegin : Type 0
 FootprintsBegin = (o : Opening) (mem : Memory) (views : Views) (g : Past) (id : ℕ)
     → World o mem views g → g.length ≡ 0
     → ((w : ℕ) → mem (PoolWord w) ≡ slice_index o.words w)
-    → ((k : ℕ) → k < o.lanes → (views k).fixed.pool ≡ id) → Footprints o id views g
+    → ((k : ℕ) → k < o.lanes → (views k).fixed.pool ≡ id)
+    → ((k : ℕ) → k < o.lanes → ((views k).claims ≡ []) × ((views k).log.entries ≡ []))
+    → Footprints o id views g
 
 abbrev pub KeepsFootprints : Step → Type 0
-KeepsFootprints s = (o : Opening) (mem : Memory) (views new : Views) (g : Past) (id k : ℕ)
-    → World o mem views g → k < o.lanes → IsLawful (views k) s
+KeepsFootprints s = (o : Opening) (old mem : Memory) (views new : Views) (g : Past) (id k : ℕ)
+    → World o old views g → k < o.lanes → IsLawful (views k) s → Moves k s old mem
     → Turn views new k (after (views k) s)
     → Footprints o id views g → Footprints o id new (past_after g (views k) s)
 

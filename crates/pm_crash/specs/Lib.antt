@@ -1,5 +1,6 @@
 pub mod Held
 pub mod Spelled
+pub mod Roots
 pub mod Footprints
 pub mod Calls
 pub mod Replayed
@@ -21,7 +22,11 @@ pub mod Looks
 pub mod Sim
 pub mod Looked
 pub mod SimFacts
+pub mod SimOutside
 pub mod SimOps
+pub mod SimRoots
+pub mod SimSteps
 pub mod SimBlocks
 pub mod SimAllocs
 pub mod SimCommits
+pub mod SimPublish

@@ -1,9 +1,10 @@
 -- A LANE AT WORK AGAINST THE PLAIN MODEL: from whatever bits are before its call, as far as it knows
 -- them, and whatever pool they hold, what it told leads the model to one transaction; and the copy of
 -- the objects in it is what stands in the bits as the call has made them so far.
-use Rattle.std.specs.Prelude.{◌≡◌, ◌⊎◌, ℕ, ◌+◌, ◌*◌, ◌==◌, ◌&&◌, ◌||◌, Bool, true, false, if◌then◌else◌, List, [], ◌∷◌, ◌++◌, map, Option, None, Some}
+use Rattle.std.specs.Prelude.{◌≡◌, ◌⊎◌, ℕ, ◌+◌, ◌-◌, ◌*◌, ◌/◌, ◌%◌, ◌^◌, ◌<◌, ◌≤◌, nat_le, nat_lt, ◌==◌, ◌&&◌, ◌||◌, Bool, true, false, if◌then◌else◌, List, [], ◌∷◌, ◌++◌, map, Option, None, Some}
 use Rattle.std.specs.List.{list_any}
 use Rattle.pm_header.specs.declared.header.Header.{Header}
+use Rattle.pm_layout.specs.Areas.{page_words}
 use Rattle.pm_layout.specs.declared.shape.Shape.{Shape}
 use Rattle.pm_objects.specs.declared.calls.Operation.{Operation}
 use Rattle.pm_objects.specs.declared.calls.Operation.TheVariants.{Alloc, Publish}
@@ -25,12 +26,14 @@ use Rattle.pm_view.specs.View.{Seen, Told, View}
 use Rattle.pm_view.specs.Views as views
 use Rattle.pm_world.specs.BlockLines.{OwnHas}
 use Rattle.pm_world.specs.Lanes.{sees}
+use Rattle.pm_world.specs.Memory.{bit}
 use Rattle.pm_world.specs.Sights.{call_of, is_recorded, sight_of}
-use Rattle.pm_world.specs.States.{State, Call, Diff, after_diff, diff}
+use Rattle.pm_world.specs.States.{State, Call, Diff, after_diff, diff, size_at}
 use Rattle.pm_crash.specs.Calls.{pending_after, pending_of, pending_with, told_by}
-use Rattle.pm_crash.specs.Footprints.{MayPrecedeBut, bit_before, geometry_of, has_found, has_own}
+use Rattle.pm_crash.specs.Footprints.{MayPrecedeBut, bit_before, geometry_of, has_found, has_own, is_run_to}
 use Rattle.pm_crash.specs.Objects.{is_allocated, lines_of}
 use Rattle.pm_crash.specs.OpenRuns.{AreReplies, after_told, no_pool, on_pool}
+use Rattle.pm_crash.specs.Roots.{saw_root}
 use Rattle.pm_crash.specs.Scenes.{IsScene}
 use Rattle.pm_crash.specs.Spelled.{Holds, words_by}
 
@@ -129,6 +132,34 @@ IsSamePlace v next (InHuge c w) =
     first next.fixed.shape next.claims c ≡ first v.fixed.shape v.claims c
 IsSamePlace v next p = Unit {0}
 
+-- THE LANE KNOWS THAT A PLACE IS AN OBJECT'S, whether it recorded the place or not: it knows the size of
+-- the object, which has the place's line
+abbrev pub size_place : View → Place → Place
+size_place v (InRun c w) = size_at (class v.claims c) c ((w / 8 - 1) / class v.claims c)
+size_place v (InHuge c w) = InHuge (first v.fixed.shape v.claims c) 1
+size_place v p = p
+
+abbrev pub object_line : View → Place → ℕ
+object_line v (InRun c w) = (w / 8 - 1) % class v.claims c
+object_line v (InHuge c w) = 64 * (c - first v.fixed.shape v.claims c) + w / 8
+object_line v p = 0
+
+-- it is a word of a run's block, or of a huge block that has its first chunk
+abbrev pub is_of_block : View → Place → Bool
+is_of_block v (InRun c w) = is_run_to v c && (nat_le 8 w && nat_lt w page_words)
+is_of_block v (InHuge c w) = nat_lt w page_words
+    && (first v.fixed.shape v.claims (first v.fixed.shape v.claims c)
+    == first v.fixed.shape v.claims c)
+is_of_block v p = false
+
+pub record IsInObject (v : View) (p : Place) : Type 0 where
+  pub of_block : is_of_block v p ≡ true
+  pub size : ℕ
+  pub small : size < 2 ^ 64
+  pub has_line : object_line v p ≤ (size + 63) / 64
+  pub sees : (b : ℕ) → sees_at v (size_place v p) b ≡ true
+  pub sized : (b : ℕ) → b < 64 → bit_before v (size_place v p) b ≡ Some (bit size b)
+
 -- THE LANE KNOWS NO LESS of the bits before its call
 pub record Grows (v : View) (kept : Bool) (next : View) (kept' : Bool) : Type 0 where
   pub found : (B : Block) → has_found v B ≡ true → has_found next B ≡ true
@@ -142,10 +173,13 @@ pub record Grows (v : View) (kept : Bool) (next : View) (kept' : Bool) : Type 0 
       → OwnHas next.fixed.shape (sight_of next).hold (geometry_of next) B line
   pub sees : (p : Place) (b : ℕ) → sees_at v p b ≡ true
       → (sees_at next p b ≡ true) × IsSamePlace v next p
-  pub recorded : (p : Place) → is_recorded v.log.records p ≡ true
-      → is_recorded next.log.records p ≡ true
+  -- a recorded place is so still, or known to be an object's
+  pub recorded : (p : Place) (b : ℕ) → sees_at v p b ≡ true → is_recorded v.log.records p ≡ true
+      → (is_recorded next.log.records p ≡ true) ⊎ IsInObject next p
   pub knows : (p : Place) (b : ℕ) (y : Bool) → sees_at v p b ≡ true → bit_before v p b ≡ Some y
       → bit_before next p b ≡ Some y
+  pub roots : (line value : ℕ) → saw_root v.fixed.shape v.claims line value ≡ true
+      → saw_root next.fixed.shape next.claims line value ≡ true
 
 -- THE BITS AS THE CALL HAS MADE THEM STAY: each is changed alike, or is recorded now and as it was
 pub record IsAsBefore (next : View) (p : Place) (b : ℕ) (y : Bool) : Type 0 where

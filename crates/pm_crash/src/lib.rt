@@ -33,7 +33,8 @@ pub use histories::{
 pub use images::images_mean_replays;
 pub use lanes::{
     a_lane_follows_the_model, ended_transactions_are_over, first_refusals_are_the_models,
-    operations_follow_the_model, transactions_have_facts,
+    lone_operations_have_facts, operations_follow_the_model, steps_of_a_call_keep_what_is_known,
+    transactions_have_facts,
 };
 pub use objects::{
     a_difference_changes_the_heap, blocks_are_items, good_heaps_hold_pools, own_blocks_are_free,

@@ -1,0 +1,11 @@
+use Rattle.pm_crash.proofs.SimSteps.{steps_grow, steps_keep_sims, voiding_grows}
+use Rattle.pm_crash.proofs.lanes.steps_of_a_call_keep_what_is_known.Goals as goal
+
+pub returns-clause-grow : goal.returns-clause-grow
+returns-clause-grow c = steps_grow
+
+pub returns-clause-sims : goal.returns-clause-sims
+returns-clause-sims c = steps_keep_sims
+
+pub returns-clause-voids : goal.returns-clause-voids
+returns-clause-voids c = voiding_grows
