@@ -14,9 +14,10 @@ use Rattle.pm_plan.specs.Plans.{known_word}
 use Rattle.pm_undo.specs.Plans.{looked_first, looked_span, looked_words, looks_first, looks_from}
 use Rattle.pm_undo.specs.Records.{kept_in, padded, recorded_in}
 use Rattle.pm_undo.specs.Spans.{no_span, span_at}
-use Rattle.pm_undo.specs.Working.{IsBeyond, IsWorking}
+use Rattle.pm_undo.specs.Working.{IsWorking}
+use Rattle.pm_plan.specs.Notes.{IsBeyond}
 use Rattle.pm_undo.specs.declared.undo_log.KeptRecord.{KeptRecord}
-use Rattle.pm_undo.proofs.AreaParts.{data_beyond}
+use Rattle.pm_plan.proofs.AreaParts.{data_beyond}
 use Rattle.pm_undo.proofs.Snapshotted.{at_index, count_so, looks_so, word_so}
 use Rattle.pm_undo.proofs.Snapshotting.{HasClean, looks_firsts, looks_some, starts}
 

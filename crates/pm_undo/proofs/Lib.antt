@@ -1,5 +1,3 @@
-pub mod Notes
-pub mod AreaParts
 pub mod Moved
 pub mod Logging
 pub mod Slots

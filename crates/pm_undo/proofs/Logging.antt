@@ -17,9 +17,9 @@ use Rattle.pm_world.specs.Lawful.{CanRecord, MayStore, StoreFits}
 use Rattle.pm_world.specs.Logs.{spelled}
 use Rattle.pm_world.specs.Sights.{is_recorded}
 use Rattle.pm_plan.specs.Plans.{IsPersisted, claims_persisted, log_persisted}
-use Rattle.pm_undo.specs.Working.{Note, Valued, DrainedTo, noted, AreNotes, IsBeyond}
+use Rattle.pm_plan.specs.Notes.{Note, Valued, DrainedTo, noted, AreNotes, IsBeyond}
 use Rattle.pm_undo.proofs.Moved.{moved_record}
-use Rattle.pm_undo.proofs.Notes.{class_same, first_same, here_same, making_same, known_noted, known_again, pictured_noted}
+use Rattle.pm_plan.proofs.Notes.{class_same, first_same, here_same, making_same, known_noted, known_again, pictured_noted}
 
 -- since v the lane noted something, knows all words past the lanes' areas as it did, and its log has these records and words of a slot
 pub record Logging (v : View) (records : List Recorded) (slot : List ℕ) (u : View) : Type 0 where
@@ -108,7 +108,7 @@ module _ (v : View) (unmaking : (c : ℕ) → making v.fixed.shape v.claims c �
         ∙ ap (λ q. changed_from u w all_bits (was_of Open q (value_in u w)) x (marked_by Open q x u.claims) (log_stored u.fixed.shape (class u.claims) Open q x u.log)) part
 
     -- the log after it
-    pub slot_logging : (records' : List Recorded) (slot' : List ℕ) → ((y : ℕ) → IsBeyond v.fixed.shape y → Rattle.pm_undo.proofs.Notes.IsOther (Valued w x) y)
+    pub slot_logging : (records' : List Recorded) (slot' : List ℕ) → ((y : ℕ) → IsBeyond v.fixed.shape y → Rattle.pm_plan.proofs.Notes.IsOther (Valued w x) y)
         → w ≢ word_of_generation v.fixed.shape v.fixed.lane
         → with_slot v.fixed.shape (class v.claims) (slot ++ x ∷ []) (record v.log { records = records; slot = slot }) ≡ record v.log { records = records'; slot = slot' } → Logging v records' slot' (after u (Store w x))
     slot_logging records' slot' other apart grows = subst (Logging v records' slot') (sym slot_stored) (record {

@@ -18,13 +18,13 @@ use Rattle.pm_view.specs.Views.{after, part_in}
 use Rattle.pm_world.specs.Lawful.{CanRecord, MayStore}
 use Rattle.pm_world.specs.Logs.{spelled}
 use Rattle.pm_world.specs.Sights.{is_recorded}
-use Rattle.pm_plan.specs.Plans.{IsPersisted, in_turn, one, repeated, stores}
+use Rattle.pm_plan.specs.Plans.{IsPersisted, in_turn, one, repeated, stores, stores_from}
 use Rattle.pm_plan.proofs.Dropping.{flush_drops}
 use Rattle.pm_plan.proofs.Going.{Goes, goes_one, goes_repeated, goes_stores, goes_then, goes_weaker}
-use Rattle.pm_undo.specs.Plans.{stores_from, writes_record, writes_slot}
+use Rattle.pm_undo.specs.Plans.{writes_record, writes_slot}
 use Rattle.pm_undo.specs.Records.{kept_of}
-use Rattle.pm_undo.specs.Working.{IsBeyond}
-use Rattle.pm_undo.proofs.AreaParts.{part_slot}
+use Rattle.pm_plan.specs.Notes.{IsBeyond}
+use Rattle.pm_plan.proofs.AreaParts.{part_slot}
 use Rattle.pm_undo.proofs.Logging.{Logging, can_still, fixed_so, log_so, may_store_slot, slot_logging, slot_stored, still_logging}
 use Rattle.pm_undo.proofs.Slots.{length_spelled, small_spelled, slot_short, slot_whole, spelled_back}
 

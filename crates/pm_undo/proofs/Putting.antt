@@ -26,10 +26,11 @@ use Rattle.pm_world.specs.Lawful.{MayStore, StoreFits, place_in}
 use Rattle.pm_world.specs.Sights.{is_logged_from, is_recorded, is_slot_drained}
 use Rattle.pm_world.proofs.Basics.{first_given, second_given}
 use Rattle.pm_plan.specs.Plans.{IsPersisted, claims_persisted, log_persisted}
-use Rattle.pm_undo.specs.Working.{AreOnce, IsBeyond, IsStanding, IsWorking, Note, Valued, DrainedTo, noted, AreNotes}
-use Rattle.pm_undo.proofs.AreaParts.{OfChunk, data_beyond, data_part}
+use Rattle.pm_undo.specs.Working.{AreOnce, IsStanding, IsWorking}
+use Rattle.pm_plan.specs.Notes.{IsBeyond, Note, Valued, DrainedTo, noted, AreNotes}
+use Rattle.pm_plan.proofs.AreaParts.{OfChunk, data_beyond, data_part}
 use Rattle.pm_undo.proofs.Apart.{no_recorded, word_after}
-use Rattle.pm_undo.proofs.Notes.{class_same, known_noted, making_same, pictured_noted}
+use Rattle.pm_plan.proofs.Notes.{class_same, known_noted, making_same, pictured_noted}
 use Rattle.pm_undo.proofs.Snapshotted.{at_index}
 
 -- a record has its words

@@ -20,15 +20,16 @@ use Rattle.pm_world.specs.Logs.{AreRestored}
 use Rattle.pm_world.specs.States.{given}
 use Rattle.pm_world.specs.Sights.{is_pictured, picture}
 use Rattle.pm_world.proofs.Recording.{old_in_at, old_in_is, place_is}
-use Rattle.pm_plan.specs.Plans.{Ready, in_turn, persists_all, repeated, stores}
+use Rattle.pm_plan.specs.Plans.{Ready, in_turn, persists_all, repeated, stores, stores_from}
 use Rattle.pm_plan.proofs.Going.{Goes, goes_repeated, goes_stores, goes_weaker, persists_all_lawful}
 use Rattle.pm_plan.proofs.Plans.{after_all-append, ready_both}
-use Rattle.pm_undo.specs.Plans.{puts_back, restores, restores_record, stores_from}
+use Rattle.pm_undo.specs.Plans.{puts_back, restores, restores_record}
 use Rattle.pm_undo.specs.Records.{kept_of, no_record, record_at}
-use Rattle.pm_undo.specs.Working.{AreOnce, IsBeyond, IsRestored, IsStanding, IsWorking}
+use Rattle.pm_undo.specs.Working.{AreOnce, IsRestored, IsStanding, IsWorking}
+use Rattle.pm_plan.specs.Notes.{IsBeyond}
 use Rattle.pm_undo.specs.declared.undo_log.KeptRecord.{KeptRecord}
 use Rattle.pm_undo.proofs.Apart.{no_recorded, word_after}
-use Rattle.pm_undo.proofs.Notes.{class_same, making_same}
+use Rattle.pm_plan.proofs.Notes.{class_same, making_same}
 use Rattle.pm_undo.proofs.Putting.{Putting, may_put, put_on, putting_starts, still_putting}
 use Rattle.pm_undo.proofs.Snapshotted.{at_index}
 use Rattle.pm_undo.proofs.Standing.{all_still}

@@ -17,9 +17,10 @@ use Rattle.pm_world.specs.Lawful.{MayStore, StoreFits}
 use Rattle.pm_plan.specs.Plans.{IsPersisted, Ready, claims_persisted, in_turn, log_persisted, one, persists, stores}
 use Rattle.pm_plan.proofs.Going.{Goes, goes_one, goes_stores, goes_then}
 use Rattle.pm_undo.specs.Plans.{ends_word, retires}
-use Rattle.pm_undo.specs.Working.{CanEndAt, CanRetire, DrainedTo, IsRetired, Valued, phase_ended}
-use Rattle.pm_undo.proofs.AreaParts.{part_generation}
-use Rattle.pm_undo.proofs.Notes.{known_noted}
+use Rattle.pm_undo.specs.Working.{CanEndAt, CanRetire, IsRetired, phase_ended}
+use Rattle.pm_plan.specs.Notes.{DrainedTo, Valued}
+use Rattle.pm_plan.proofs.AreaParts.{part_generation}
+use Rattle.pm_plan.proofs.Notes.{known_noted}
 
 -- how far the call is once the next generation is stored
 abbrev phase_stored : Phase → Phase

@@ -22,7 +22,7 @@ use Rattle.pm_world.proofs.WordPlaces.{chunk_part}
 use Rattle.pm_plan.specs.Plans.{known_word}
 use Rattle.pm_undo.specs.Records.{kept_in, kept_of, record_at, recorded_in, words_of_span, no_record}
 use Rattle.pm_undo.specs.Spans.{ArePast}
-use Rattle.pm_undo.specs.Working.{IsBeyond}
+use Rattle.pm_plan.specs.Notes.{IsBeyond}
 use Rattle.pm_undo.specs.declared.undo_log.KeptRecord.{KeptRecord}
 use Rattle.pm_undo.proofs.Apart.{IsPlain, word_after}
 use Rattle.pm_undo.proofs.OneRecord.{IsAside, same_after}

@@ -25,11 +25,12 @@ use Rattle.pm_plan.proofs.Going.{Goes, goes_look, goes_one, goes_repeated, goes_
 use Rattle.pm_undo.specs.Plans.{looks_at, looks_first, looks_from, writes_record, writes_records}
 use Rattle.pm_undo.specs.Records.{kept_of, no_record, record_at, recorded_in}
 use Rattle.pm_undo.specs.Spans.{ArePast, no_span, span_at}
-use Rattle.pm_undo.specs.Working.{IsBeyond, IsWorking, Valued, DrainedTo, Looked}
-use Rattle.pm_undo.proofs.AreaParts.{data_beyond, data_part}
+use Rattle.pm_undo.specs.Working.{IsWorking}
+use Rattle.pm_plan.specs.Notes.{IsBeyond, Valued, DrainedTo, Looked}
+use Rattle.pm_plan.proofs.AreaParts.{data_beyond, data_part}
 use Rattle.pm_undo.proofs.Apart.{early_none, no_recorded, not_in_both, word_after}
 use Rattle.pm_undo.proofs.Logging.{Logging, class_so, fixed_so, no_making, phase_so}
-use Rattle.pm_undo.proofs.Notes.{class_same, known_again, known_noted, pictured_noted}
+use Rattle.pm_plan.proofs.Notes.{class_same, known_again, known_noted, pictured_noted}
 use Rattle.pm_undo.proofs.OneRecord.{IsAside, Written, record_written}
 use Rattle.pm_undo.proofs.Snapshotted.{all_kept, all_past, all_plain, aside_beyond, at_index, drained_open, left_beyond, looks_so, use_after}
 
@@ -89,7 +90,7 @@ module _ (v : View) (working : IsWorking v) where
         far : IsBeyond sh (s.word + i)
         far = subst (IsBeyond sh) (is_at sh (class v.claims) (s.word + i) l.place l.at).word (data_beyond sh l.place l.plain)
 
-        d : Rattle.pm_undo.proofs.AreaParts.OfChunk sh (class v.claims) v.fixed.lane (s.word + i) l.place
+        d : Rattle.pm_plan.proofs.AreaParts.OfChunk sh (class v.claims) v.fixed.lane (s.word + i) l.place
         d = data_part sh (class v.claims) v.fixed.lane (s.word + i) l.place working.lane l.plain l.at
 
     pub looks_some : (s : Span) → CanRecord v (recorded_in v s) → (m : ℕ) → m ≤ s.count → Goes (HasClean before) (looks_from s.word m) (HasClean before)

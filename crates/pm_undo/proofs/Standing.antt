@@ -18,7 +18,8 @@ use Rattle.pm_plan.proofs.Going.{Goes, goes_nothing, goes_then, goes_weaker}
 use Rattle.pm_undo.specs.Plans.{looks_at, logs, logs_here, records_all, snapshots, writes_all, writes_records}
 use Rattle.pm_undo.specs.Records.{kept_in, kept_of, recorded_in, spans_of}
 use Rattle.pm_undo.specs.Spans.{ArePast, plan_of}
-use Rattle.pm_undo.specs.Working.{AreOnce, CanSnapshot, HasSlots, IsBeyond, IsSnapshot, IsStanding, IsWorking}
+use Rattle.pm_undo.specs.Working.{AreOnce, CanSnapshot, HasSlots, IsSnapshot, IsStanding, IsWorking}
+use Rattle.pm_plan.specs.Notes.{IsBeyond}
 use Rattle.pm_undo.proofs.Apart.{apart_from, once_both, past_once}
 use Rattle.pm_undo.proofs.Logging.{Logging, class_so, fixed_so, log_so, no_making, phase_so}
 use Rattle.pm_undo.proofs.Rising.{plan_past}

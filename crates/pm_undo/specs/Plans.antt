@@ -1,12 +1,12 @@
 -- THE PLANS OF UNDO LOGGING: docs/FORMAT.md, "Sequences".
-use Rattle.std.specs.Prelude.{ℕ, zero, suc, ◌++◌, ◌+◌, ◌*◌, ◌/◌, List, [], ◌∷◌, length, map, slice_index, take}
+use Rattle.std.specs.Prelude.{ℕ, zero, suc, ◌++◌, ◌+◌, ◌*◌, ◌/◌, List, [], ◌∷◌, length, map, take}
 use Rattle.pm_layout.specs.declared.shape.Shape.{Shape}
 use Rattle.pm_layout.specs.Areas.{word_of_generation, line_of_slot}
 use Rattle.pm_view.specs.Steps.Step.{Flush, Drain}
 use Rattle.pm_view.specs.View.{View}
 use Rattle.pm_view.specs.Views.{after_all}
 use Rattle.pm_world.specs.declared.lane.Span.{Span}
-use Rattle.pm_plan.specs.Plans.{Plan, known_word, nothing, one, in_turn, repeated, looks, stores, persists, persists_all}
+use Rattle.pm_plan.specs.Plans.{Plan, known_word, nothing, one, in_turn, repeated, looks, stores, stores_from, persists, persists_all}
 use Rattle.pm_undo.specs.Records.{kept_in, kept_of, padded, record_at, slot_of, spans_of}
 use Rattle.pm_undo.specs.Spans.{plan_of, span_at}
 use Rattle.pm_undo.specs.declared.undo_log.KeptRecord.{KeptRecord}
@@ -20,10 +20,6 @@ looks_first spans n = repeated (λ i. looks_from (span_at spans i).word (span_at
 
 unfoldable pub looks_at : List Span → Plan
 looks_at spans = looks_first spans (length spans)
-
--- stores of consecutive words
-unfoldable pub stores_from : ℕ → List ℕ → Plan
-stores_from word values = repeated (λ i. stores (word + i) (slice_index values i)) (length values)
 
 -- what they find
 unfoldable pub looked_words : ℕ → ℕ → View → List ℕ

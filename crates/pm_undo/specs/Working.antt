@@ -1,11 +1,9 @@
 -- A lane whose log may grow, be put back and be retired, on its view alone; and what each of these leaves of the view.
-use Rattle.std.specs.Prelude.{◌≡◌, ℕ, ◌+◌, ◌*◌, ◌^◌, ◌<◌, ◌≤◌, true, false, List, [], ◌∷◌, ◌++◌, length, map, slice_index, Some}
+use Rattle.std.specs.Prelude.{◌≡◌, ℕ, ◌+◌, ◌^◌, ◌<◌, ◌≤◌, true, false, List, [], ◌∷◌, ◌++◌, length, map, slice_index, Some}
 use Rattle.std.specs.List.{AllByRecursion}
-use Rattle.pm_layout.specs.declared.shape.Shape.{Shape}
 use Rattle.pm_layout.specs.Areas.{greatest_generation, undo_slots, old_words, word_of_generation}
-use Rattle.pm_layout.specs.Chunks.{page_of_zone}
 use Rattle.pm_view.specs.Changes.{Undrained}
-use Rattle.pm_view.specs.Claims.{Claim, Knows, Drained, SawBitmap, class, making}
+use Rattle.pm_view.specs.Claims.{making}
 use Rattle.pm_view.specs.Founds.{knows}
 use Rattle.pm_view.specs.Log.{Phase, Idle, Open, Drawn, Recorded, next_log, old_in}
 use Rattle.pm_view.specs.Places.{Place, word_of, place_after, is_data, is_place}
@@ -16,6 +14,7 @@ use Rattle.pm_world.specs.States.{given}
 use Rattle.pm_world.specs.Sights.{is_recorded, picture}
 use Rattle.pm_world.specs.Logs.{AreRestored}
 use Rattle.pm_world.specs.declared.lane.Span.{Span}
+use Rattle.pm_plan.specs.Notes.{HasNoted, IsBeyond}
 use Rattle.pm_undo.specs.Records.{recorded_in}
 
 -- a record that may be put back: its words are data of chunks of the pool, used as the lane knows
@@ -32,10 +31,6 @@ abbrev pub AreOnce : List Recorded → Type 0
 AreOnce [] = Unit {0}
 AreOnce (r ∷ records) = ((p : Place) → given (old_in r p) ≡ true → is_recorded records p ≡ false) × AreOnce records
 
--- a word that is of no lane's area, nor before them
-abbrev pub IsBeyond : Shape → ℕ → Type 0
-IsBeyond sh w = 512 * page_of_zone sh 0 ≤ w
-
 -- A LANE AT WORK: its call is open, no record and no entry is in the making or stored, its records are drained, and it makes no run
 pub record IsWorking (v : View) : Type 0 where
   pub is_open : v.log.phase ≡ Open
@@ -51,42 +46,6 @@ pub record IsWorking (v : View) : Type 0 where
   pub standing : AllByRecursion (IsStanding v) v.log.records
   pub once : AreOnce v.log.records
   pub known : value_in v (word_of_generation v.fixed.shape v.fixed.lane) ≡ Some v.log.generation
-
--- ---- what stays
-
--- claims that tell nothing new of blocks
-pub data Note : Type 0 where
-  -- a word has this value
-  Valued : ℕ → ℕ → Note
-  -- a drain left these changes
-  DrainedTo : List Undrained → Note
-  -- the first word of a huge block's chunk was looked at
-  Looked : ℕ → ℕ → Note
-
-abbrev pub claim_of : Note → Claim
-claim_of (Valued w x) = Knows w x
-claim_of (DrainedTo left) = Drained left
-claim_of (Looked c x) = SawBitmap c x
-
-abbrev pub noted : List Note → List Claim → List Claim
-noted [] t = t
-noted (n ∷ notes) t = claim_of n ∷ noted notes t
-
--- a drain makes no run, and what was looked at is no run
-abbrev pub IsNote : Shape → List Claim → Note → Type 0
-IsNote sh t (Valued w x) = Unit {0}
-IsNote sh t (DrainedTo left) = (c : ℕ) → making sh t c ≡ false
-IsNote sh t (Looked c x) = class t c ≡ 0
-
-abbrev pub AreNotes : Shape → List Claim → List Note → Type 0
-AreNotes sh t [] = Unit {0}
-AreNotes sh t (n ∷ notes) = IsNote sh (noted notes t) n × AreNotes sh t notes
-
--- THE LANE HOLDS WHAT IT HELD: its claims are those before, and such notes
-pub record HasNoted (v w : View) : Type 0 where
-  pub notes : List Note
-  pub are : w.claims ≡ noted notes v.claims
-  pub each : AreNotes v.fixed.shape v.claims notes
 
 -- ---- a snapshot
 

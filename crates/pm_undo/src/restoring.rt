@@ -6,10 +6,9 @@ ghost use Rattle.pm_undo.specs.Undoing.{IsKept, Restored, Stands};
 ghost use Rattle.pm_undo.specs.Working.{IsWorking};
 ghost use Rattle.pm_undo.specs.declared.undo_log.KeptRecord.{KeptRecord};
 
-use crate::recording::store_all;
 use crate::undo_log::{KeptRecord, UndoLog};
 use pm_memory::Stopped;
-use pm_plan::persist_all;
+use pm_plan::{persist_all, store_all};
 use pm_world::{Lane, LawfulMem};
 
 /// Makes the words of a record what they were.

@@ -9,7 +9,7 @@ use Rattle.pm_view.specs.Changes.{Undrained, is_dirty}
 use Rattle.pm_view.specs.Claims.{Claim, Knows, Drained, SawBitmap, locked, holds, class, making, becomes, header_in, found, here, mine, first, geometry, shown_by_bitmap, pictured, is_new, is_held, is_held_at, block_at, known}
 use Rattle.pm_view.specs.Places.{Place, Block, Small, Big, Root, block_of, is_data}
 use Rattle.pm_view.specs.Log.{place_at}
-use Rattle.pm_undo.specs.Working.{Note, Valued, DrainedTo, Looked, claim_of, noted, IsNote, AreNotes}
+use Rattle.pm_plan.specs.Notes.{Note, Valued, DrainedTo, Looked, claim_of, noted, IsNote, AreNotes}
 
 -- the word that a note names is another
 abbrev pub IsOther : Note → ℕ → Type 0

@@ -1,4 +1,4 @@
--- What the words are to a lane that undo logging steps on: its slots, its generation, and data of chunks.
+-- What the words are to a lane: its generation, its seal, its entries, its slots, and words of the pool past the areas.
 use Rattle.std.proofs.Common.{◌≡◌, ℕ, zero, suc, ◌+◌, ◌*◌, ◌<◌, ◌≤◌, nat_le, nat_lt, true, false, cond, ◌==◌, refl, sym, ap, ◌∙◌, subst, arith, eq-eqb, ne_eqb, Some}
 use Rattle.std.proofs.lemmas.Bool.{and_from, and_right, both_ways, cond-true, cond-false, false_from_ne_true, le-leb, lt-ltb, leb-true, ltb-true}
 use Rattle.std.proofs.lemmas.Option.{none-some, same_Some}
@@ -7,7 +7,7 @@ use Rattle.pm_layout.specs.Areas.{redo_entries, undo_slots, word_of_generation, 
 use Rattle.pm_view.specs.Places.{Place, InRun, InHuge, Descr, RootWord, is_data, word_of}
 use Rattle.pm_view.specs.Parts.{Part, GenerationPart, SealPart, EntryPart, SlotPart, RootPart, DescriptorPart, ChunkPart, OtherPart, is_entry_word, is_slot_word, part_of, place_in, chunk_place, pool_part}
 use Rattle.pm_world.proofs.PlacesAt.{is_at}
-use Rattle.pm_undo.specs.Working.{IsBeyond}
+use Rattle.pm_plan.specs.Notes.{IsBeyond}
 
 not_lt : (a b : ℕ) → b ≤ a → nat_lt a b ≡ false
 not_lt a b le = false_from_ne_true (nat_lt a b) (λ t. let l = ltb-true a b t in omega (arith, l, le))
