@@ -10,4 +10,6 @@
 
 mod laws;
 
-pub use laws::{entries_may_be_applied, logs_may_be_sealed, logs_may_be_written, seals_may_be_cleared};
+pub use laws::{
+    entries_may_be_applied, logs_may_be_sealed, logs_may_be_written, seals_may_be_cleared,
+};
