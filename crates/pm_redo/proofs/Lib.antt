@@ -1,2 +1,5 @@
 pub mod Parts
 pub mod Seals
+pub mod Carrying
+pub mod LastMade
+pub mod Applying
