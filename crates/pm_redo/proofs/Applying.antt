@@ -1,5 +1,5 @@
 -- Applying the entries of a sealed log is lawful, and each has its effect.
-use Rattle.std.proofs.Common.{◌≡◌, ◌≢◌, ◌⊎◌, ⊎_elim, inl, inr, ℕ, zero, suc, ◌+◌, ◌*◌, ◌/◌, ◌^◌, ◌<◌, ◌≤◌, Bool, true, false, cond, ◌==◌, ◌&&◌, nat_lt, List, [], ◌∷◌, ◌++◌, length, map, take, drop, get_or, refl, sym, ap, ◌∙◌, subst, arith, eqb-true, Option, None, Some, append_assoc}
+use Rattle.std.proofs.Common.{◌≡◌, ◌≢◌, ⊎_elim, ℕ, suc, ◌+◌, ◌*◌, ◌/◌, ◌<◌, ◌≤◌, Bool, true, false, cond, ◌==◌, nat_lt, List, [], ◌∷◌, ◌++◌, length, map, take, drop, get_or, refl, sym, ap, ◌∙◌, subst, arith, Option, None, Some}
 use Rattle.std.specs.Option.{option_map}
 use Rattle.std.specs.List.{AllByRecursion}
 use Rattle.std.specs.Prelude.{bit_and}
@@ -18,16 +18,15 @@ use Rattle.pm_view.specs.Changes.{Undrained}
 use Rattle.pm_view.specs.Claims.{Claim, Knows, Drained, class, known, making, pictured}
 use Rattle.pm_view.specs.Entries.{Entry, first_of_two}
 use Rattle.pm_view.specs.Log.{Applying, Log, log_stored}
-use Rattle.pm_view.specs.Parts.{Part, RootPart, DescriptorPart, ChunkPart, GenerationPart, part_of}
 use Rattle.pm_view.specs.Places.{Place, InRun, InHuge, Descr, RootWord}
 use Rattle.pm_view.specs.Steps.Step.{Store}
 use Rattle.pm_view.specs.View.{View, runs_one}
-use Rattle.pm_view.specs.Views.{after, after_all, changed_from, marked_by, value_in, was_of}
-use Rattle.pm_world.specs.Lawful.{Allowed, ChangeFits, MayChange, MayStore, StoreFits}
+use Rattle.pm_view.specs.Views.{after, after_all, changed_from, marked_by, was_of}
+use Rattle.pm_world.specs.Lawful.{Allowed, ChangeFits, StoreFits}
 use Rattle.pm_world.specs.Logs.{ends_with}
 use Rattle.pm_world.proofs.PlacesAt.{IsAt, is_at}
 use Rattle.pm_plan.specs.Notes.{AreNotes, DrainedTo, IsBeyond, Note, Valued, noted}
-use Rattle.pm_plan.specs.Plans.{IsPersisted, Plan, Ready, claims_persisted, in_turn, log_persisted, persists_all, repeated}
+use Rattle.pm_plan.specs.Plans.{IsPersisted, Plan, Ready, in_turn, persists_all, repeated}
 use Rattle.pm_plan.proofs.AreaParts.{part_generation}
 use Rattle.pm_plan.proofs.Going.{Goes, goes_repeated, goes_then}
 use Rattle.pm_plan.proofs.Notes.{known_noted, making_same}
@@ -38,7 +37,7 @@ use Rattle.pm_redo.proofs.Carrying.{at_index, goes_does, goes_persist, step_of}
 use Rattle.pm_redo.proofs.LastMade.{first_first, last_more, last_none, made_by, not_made}
 use Rattle.pm_redo.proofs.Parts.{by_part, place_outside}
 
-inside_pool : (sh : Shape) (class : ℕ → ℕ) (w : ℕ) (p : Place) → IsAt sh class w p → w < words_of sh
+pub inside_pool : (sh : Shape) (class : ℕ → ℕ) (w : ℕ) (p : Place) → IsAt sh class w p → w < words_of sh
 inside_pool sh class w (InRun c u) at = let t = and_parts (nat_lt c (chunks_of sh)) (nat_lt u 512) at.inside in let a = ltb-true c (chunks_of sh) t.0 in let b = ltb-true u 512 t.1 in let e = at.word in omega (arith, a, b, e)
 inside_pool sh class w (InHuge c u) at = let t = and_parts (nat_lt c (chunks_of sh)) (nat_lt u 512) at.inside in let a = ltb-true c (chunks_of sh) t.0 in let b = ltb-true u 512 t.1 in let e = at.word in omega (arith, a, b, e)
 inside_pool sh class w (Descr c) at = let a = ltb-true c (chunks_of sh) at.inside in let e = at.word in omega (arith, a, e)

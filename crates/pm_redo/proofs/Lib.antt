@@ -3,3 +3,5 @@ pub mod Seals
 pub mod Carrying
 pub mod LastMade
 pub mod Applying
+pub mod Entering
+pub mod Logging

@@ -1,13 +1,12 @@
 -- What the words are to a lane that redo logging steps on: its seal, its entries, and words of places of the pool.
-use Rattle.std.proofs.Common.{◌≡◌, ◌⊎◌, inl, inr, ⊎_elim, ℕ, zero, suc, ◌+◌, ◌*◌, ◌/◌, ◌%◌, ◌<◌, ◌≤◌, nat_le, nat_lt, true, false, cond, ◌==◌, ◌&&◌, refl, sym, ap, ◌∙◌, subst, arith, eq-eqb, ne_eqb, Some, None}
+use Rattle.std.proofs.Common.{◌≡◌, ◌⊎◌, inl, inr, ⊎_elim, ℕ, ◌+◌, ◌*◌, ◌<◌, ◌≤◌, nat_le, nat_lt, true, false, cond, ◌==◌, refl, sym, ◌∙◌, subst, arith, eq-eqb, ne_eqb, Some, None}
 use Rattle.std.specs.Prelude.{if◌then◌else◌}
-use Rattle.std.proofs.lemmas.Bool.{and_from, and_left, and_right, both_ways, cond-true, cond-false, false_from_ne_true, le-leb, lt-ltb, leb-true, ltb-true}
+use Rattle.std.proofs.lemmas.Bool.{and_from, and_left, cond-true, cond-false, false_from_ne_true, le-leb, lt-ltb, leb-true, ltb-true}
 use Rattle.std.proofs.lemmas.Option.{none-some, same_Some}
 use Rattle.pm_layout.specs.declared.shape.Shape.{Shape}
 use Rattle.pm_layout.specs.Areas.{redo_entries, undo_slots, word_of_generation, word_of_seal, word_of_entry, line_of_slot}
-use Rattle.pm_layout.specs.Chunks.{chunk_at, chunk_described, is_chunk_page, is_descriptor_word, is_in_zone, page_in_zone, page_of_zone, word_of_root}
-use Rattle.pm_view.specs.Places.{Place, InRun, InHuge, Descr, RootWord, word_of}
-use Rattle.pm_view.specs.Parts.{Part, GenerationPart, SealPart, EntryPart, SlotPart, RootPart, DescriptorPart, ChunkPart, OtherPart, is_entry_word, is_slot_word, part_of, place_in, chunk_place, pool_part}
+use Rattle.pm_view.specs.Places.{Place, InRun, InHuge, Descr, RootWord}
+use Rattle.pm_view.specs.Parts.{Part, GenerationPart, SealPart, EntryPart, SlotPart, RootPart, DescriptorPart, ChunkPart, OtherPart, is_entry_word, is_slot_word, part_of, place_in, pool_part}
 use Rattle.pm_view.specs.Log.{place_at}
 use Rattle.pm_world.proofs.PlacesAt.{IsAt, is_at}
 use Rattle.pm_plan.specs.Notes.{IsBeyond}

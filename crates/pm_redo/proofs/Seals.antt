@@ -3,14 +3,13 @@ use Rattle.std.proofs.Common.{◌≡◌, ◌≢◌, ℕ, ◌+◌, ◌*◌, ◌/�
 use Rattle.std.specs.Option.{option_map}
 use Rattle.std.specs.Prelude.{bit_and}
 use Rattle.std.proofs.lemmas.Bool.{both_ways, cond-true, cond-false}
-use Rattle.pm_layout.specs.declared.shape.Shape.{Shape}
 use Rattle.pm_layout.specs.Areas.{word_of_seal}
 use Rattle.pm_view.specs.Bits.{all_bits}
-use Rattle.pm_view.specs.Changes.{Undrained, is_in_line, mark}
+use Rattle.pm_view.specs.Changes.{Undrained, mark}
 use Rattle.pm_view.specs.Claims.{Claim, Knows, Drained, Decided, class, known, pictured}
 use Rattle.pm_view.specs.Counts.{DropsSome, FlushesSome}
 use Rattle.pm_view.specs.Entries.{redos}
-use Rattle.pm_view.specs.Log.{Log, Phase, Idle, Drawn, Sealing, Applying, Clearing, log_stored, next_log}
+use Rattle.pm_view.specs.Log.{Log, Idle, Drawn, Sealing, Applying, Clearing, log_stored, next_log}
 use Rattle.pm_view.specs.Parts.{SealPart}
 use Rattle.pm_view.specs.Steps.Step.{Store, Flush, Drain}
 use Rattle.pm_view.specs.View.{View, runs_one}

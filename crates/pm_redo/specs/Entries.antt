@@ -1,5 +1,5 @@
 -- Redo entries: as a lane lists them, and as its log has them.
-use Rattle.std.specs.Prelude.{◌≡◌, ℕ, ◌+◌, ◌*◌, ◌/◌, ◌==◌, cond, List, [], ◌∷◌, map, slice_index_or, Option, None, Some}
+use Rattle.std.specs.Prelude.{ℕ, ◌+◌, ◌*◌, ◌/◌, ◌==◌, cond, List, [], ◌∷◌, map, slice_index_or, Option, None, Some}
 use Rattle.pm_layout.specs.declared.shape.Shape.{Shape}
 use Rattle.pm_record.specs.Redo.{outcome}
 use Rattle.pm_record.specs.declared.redo.Op.TheVariants.{Set}

@@ -1,5 +1,5 @@
 -- A lane whose redo log may be written, sealed, applied and cleared, on its view alone; and what each of these leaves of the view.
-use Rattle.std.specs.Prelude.{◌≡◌, ◌≢◌, ℕ, ◌+◌, ◌*◌, ◌/◌, ◌%◌, ◌^◌, ◌<◌, ◌≤◌, true, false, List, [], ◌∷◌, ◌++◌, length, map, None, Some}
+use Rattle.std.specs.Prelude.{◌≡◌, ◌≢◌, ℕ, ◌/◌, ◌%◌, ◌^◌, ◌<◌, ◌≤◌, true, false, List, [], ◌∷◌, ◌++◌, length, map, None, Some}
 use Rattle.std.specs.List.{AllByRecursion}
 use Rattle.pm_layout.specs.Areas.{greatest_generation, redo_entries, word_of_generation, word_of_seal}
 use Rattle.pm_record.specs.declared.redo.Op.TheVariants.{Set}
@@ -47,6 +47,8 @@ pub record CanLog (v : View) (entries : List Redo) : Type 0 where
   pub unentered : v.log.entries ≡ []
   pub below : v.log.generation < greatest_generation v.fixed.shape
   pub lane : v.fixed.lane < v.fixed.shape.lanes
+  pub lanes : v.fixed.shape.lanes ≤ 32
+  pub zones : v.fixed.shape.zones ≤ 32
   pub unmaking : MakesNone v
   pub drained : v.changes ≡ []
   pub few : length entries < redo_entries v.fixed.shape
