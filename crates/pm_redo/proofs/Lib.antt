@@ -2,6 +2,7 @@ pub mod Parts
 pub mod Seals
 pub mod Carrying
 pub mod LastMade
-pub mod Applying
+pub mod EntriesApplied
 pub mod Entering
-pub mod Logging
+pub mod LogWritten
+pub mod Telling

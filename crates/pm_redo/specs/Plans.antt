@@ -19,16 +19,16 @@ writes_pair sh lane i e = stores_from (word_of_entry sh lane i) (redo_words e)
 unfoldable pub writes_pairs : Shape → ℕ → List Redo → Plan
 writes_pairs sh lane entries = repeated (λ i. writes_pair sh lane i (entry_at entries i)) (length entries)
 
--- the last entry is stored, and all is made persistent
+-- the last entry is stored after them, and all is made persistent
 unfoldable pub ends_entries : Shape → ℕ → ℕ → Redo → Plan
 ends_entries sh lane i e = in_turn (writes_pair sh lane i e) persists_all
 
-unfoldable pub writes_entries : Shape → ℕ → ℕ → List Redo → Plan
-writes_entries sh lane generation entries = in_turn (writes_pairs sh lane entries) (ends_entries sh lane (length entries) (ending sh lane generation))
+unfoldable pub writes_entries : Shape → ℕ → List Redo → Redo → Plan
+writes_entries sh lane entries e = in_turn (writes_pairs sh lane entries) (ends_entries sh lane (length entries) e)
 
 -- these entries are stored, and after them the one that ends the lane's generation; and all is made persistent
 unfoldable pub writes_log : List Redo → Plan
-writes_log entries v = writes_entries v.fixed.shape v.fixed.lane v.log.generation entries v
+writes_log entries v = writes_entries v.fixed.shape v.fixed.lane entries (ending v.fixed.shape v.fixed.lane v.log.generation) v
 
 -- ---- sealing it, and clearing the seal
 

@@ -1,4 +1,4 @@
-use Rattle.pm_redo.proofs.Applying.{apply_lawful}
+use Rattle.pm_redo.proofs.EntriesApplied.{apply_lawful}
 use Rattle.pm_redo.proofs.laws.entries_may_be_applied.Goals as goal
 
 pub returns : goal.returns

@@ -1,4 +1,4 @@
-use Rattle.pm_redo.proofs.Logging.{log_lawful}
+use Rattle.pm_redo.proofs.LogWritten.{log_lawful}
 use Rattle.pm_redo.proofs.laws.logs_may_be_written.Goals as goal
 
 pub returns : goal.returns

@@ -27,7 +27,7 @@ use Rattle.pm_plan.proofs.Notes.{known_noted, making_same}
 use Rattle.pm_redo.specs.Entries.{ending, entry_at, logged_entry, no_entry}
 use Rattle.pm_redo.specs.Plans.{ends_entries, writes_entries, writes_log, writes_pair, writes_pairs}
 use Rattle.pm_redo.specs.Stages.{AreOfPlaces, CanEnter, CanLog, IsLogged, IsOfPlace}
-use Rattle.pm_redo.proofs.Applying.{inside_pool}
+use Rattle.pm_redo.proofs.EntriesApplied.{inside_pool}
 use Rattle.pm_redo.proofs.Carrying.{at_index, goes_persist}
 use Rattle.pm_redo.proofs.Entering.{CanPut, Entered, Entering, now, pair_goes}
 use Rattle.pm_redo.proofs.Parts.{no_place}
@@ -192,4 +192,4 @@ module _ (v : View) (given : List Redo) (can : CanLog v given) where
       (goes_then (At front) (At entries) HasEnded (writes_pair shape lane (length given) (ending shape lane v.log.generation)) persists_all end_stored
       (goes_persist (At entries) HasEnded (λ y u p is. ended y.claims y.changes y.calls u p.1 (subst (λ z. IsPersisted z u) p.0 is)))) in
       let t = goes v starts in
-      (t.0, is_logged (after_all v (writes_entries shape lane v.log.generation given v)) t.1)
+      (t.0, is_logged (after_all v (writes_entries shape lane given (ending shape lane v.log.generation) v)) t.1)
