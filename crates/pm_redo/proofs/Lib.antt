@@ -6,3 +6,4 @@ pub mod EntriesApplied
 pub mod Entering
 pub mod LogWritten
 pub mod Telling
+pub mod Engines

@@ -1,5 +1,5 @@
 -- Entries are applied one after another, for what each finds.
-use Rattle.std.proofs.Common.{◌≡◌, ◌≢◌, ℕ, zero, suc, ◌+◌, ◌/◌, ◌<◌, cond, ◌==◌, List, length, refl, sym, ap, ◌∙◌, subst, arith, rules, eq-eqb, ne_eqb, Result, Ok, Err, IsErr}
+use Rattle.std.proofs.Common.{◌≡◌, ℕ, zero, suc, ◌+◌, ◌/◌, ◌<◌, cond, ◌==◌, List, length, refl, sym, ap, ◌∙◌, subst, arith, rules, eq-eqb, ne_eqb, Result, Ok, Err, IsErr}
 use Rattle.std.proofs.lemmas.Bool.{cond-true, cond-false}
 use Rattle.pm_memory.specs.declared.lane_mem.Stopped.{Stopped}
 use Rattle.pm_record.specs.declared.redo.Op.TheVariants.{Set, Or, And}
