@@ -12,7 +12,7 @@ use Rattle.pm_view.specs.Views.{after_all}
 use Rattle.pm_world.specs.declared.lane.Lane.{Lane}
 use Rattle.pm_plan.specs.Plans.{IsReady, Ready, Runs}
 use Rattle.pm_redo.specs.Entries.{ending, listed_entries, listed_entry, logged_entry}
-use Rattle.pm_redo.specs.Plans.{applies, applies_all, clears, seals, writes_entries, writes_log, writes_seal}
+use Rattle.pm_redo.specs.Plans.{IsReadyFor, RunsFor, applies, applies_all, clears, seals, writes_entries, writes_log, writes_seal}
 use Rattle.pm_redo.specs.Redoing.{Applied, Cleared, KeepsEntries, Logged, MayLog, Sealed, StandsTo}
 use Rattle.pm_redo.specs.Stages.{CanApply, CanClear, CanEnter, CanSeal}
 use Rattle.pm_redo.proofs.EntriesApplied.{apply_lawful}
@@ -31,12 +31,12 @@ module _ {M : Type 0} (at : M → View → Type 0) (lane : Lane M) where
   unfolding applies
   applies_so v k entries is found = ap (λ es. applies_all es found v) (is ∙ k.entries)
 
-  pub apply_ready : StandsTo at lane CanApply → (entries : List Redo) → entries ≡ lane.entries.items → (found : ℕ → ℕ) → IsReady (at lane.memory) (applies_all entries found)
-  unfolding IsReady
+  pub apply_ready : StandsTo at lane CanApply → (entries : List Redo) → entries ≡ lane.entries.items → IsReadyFor (at lane.memory) (applies_all entries)
+  unfolding IsReady IsReadyFor
   apply_ready s entries is found = (s.0, (s.1.memory, subst (Ready s.0) (sym (applies_so s.0 s.1 entries is found)) (apply_lawful s.0 found s.2).0))
 
-  pub applied_lane : (new : M) (entries : List Redo) (result : Result (Unit {0}) Stopped) → entries ≡ lane.entries.items → (found : ℕ → ℕ) × Runs (at lane.memory) (at new) (applies_all entries found) result → Applied at lane (record lane { memory = new }) result
-  unfolding Applied Runs
+  pub applied_lane : (new : M) (entries : List Redo) (result : Result (Unit {0}) Stopped) → entries ≡ lane.entries.items → RunsFor (at lane.memory) (at new) (applies_all entries) result → Applied at lane (record lane { memory = new }) result
+  unfolding Applied Runs RunsFor
   applied_lane new entries result is runs = (
     runs.0,
     λ v k can. (

@@ -5,10 +5,10 @@ use Rattle.pm_memory.specs.declared.lane_mem.Stopped.{Stopped}
 use Rattle.pm_record.specs.declared.redo.Op.TheVariants.{Set, Or, And}
 use Rattle.pm_record.specs.declared.redo.Redo.{Redo}
 use Rattle.pm_view.specs.View.{View}
-use Rattle.pm_plan.specs.Plans.{IsMade, IsReady, Plan, Runs, RunsFinding, ands, in_turn, ors, repeated, stores}
-use Rattle.pm_plan.proofs.Plans.{answered_by_error, repeated_err, repeated_more, repeated_next}
+use Rattle.pm_plan.specs.Plans.{IsMade, IsReady, Plan, Runs, RunsFinding, ands, in_turn, ors, persists_all, repeated, stores}
+use Rattle.pm_plan.proofs.Plans.{answered_by_error, ready_first, ready_then, runs_err, runs_then, repeated_err, repeated_more, repeated_next}
 use Rattle.pm_redo.specs.Entries.{entry_at}
-use Rattle.pm_redo.specs.Plans.{applies_each, applies_entry, does}
+use Rattle.pm_redo.specs.Plans.{IsReadyFor, RunsFor, applies_all, applies_each, applies_entry, does}
 
 -- ---- one entry, by its operation
 pub set_is : (e : Redo) (found : ℕ) → e.op ≡ Set → applies_entry e found ≡ stores (e.place / 8) e.value
@@ -59,8 +59,8 @@ module _ (old : View → Type 0) (entries : List Redo) where
   made_still : (found : ℕ → ℕ) (k x : ℕ) (mid : View → Type 0) → IsMade old mid (repeated (plans found) k) → IsMade old mid (repeated (plans (with_found found k x)) k)
   made_still found k x mid made = subst (IsMade old mid) (still found k x) made
 
-  pub next_ready : (found : ℕ → ℕ) (k : ℕ) (mid : View → Type 0) → ((f : ℕ → ℕ) → IsReady old (applies_each entries f)) → k < length entries → IsMade old mid (repeated (plans found) k) → (x : ℕ) → IsReady mid (applies_entry (entry_at entries k) x)
-  unfolding applies_each
+  pub next_ready : (found : ℕ → ℕ) (k : ℕ) (mid : View → Type 0) → IsReadyFor old (applies_each entries) → k < length entries → IsMade old mid (repeated (plans found) k) → (x : ℕ) → IsReady mid (applies_entry (entry_at entries k) x)
+  unfolding applies_each IsReadyFor
   next_ready found k mid ready low made x =
       subst (IsReady mid) (here found k x) (repeated_next old (plans (with_found found k x)) (length entries) k mid tt low (ready (with_found found k x)) (made_still found k x mid made))
 
@@ -71,13 +71,31 @@ module _ (old : View → Type 0) (entries : List Redo) where
   )
 
   pub next_err : (found : ℕ → ℕ) (k : ℕ) (mid new : View → Type 0) (stopped : Stopped) (result : Result (Unit {0}) Stopped) → k < length entries → IsMade old mid (repeated (plans found) k) → ((x : ℕ) → Runs {T = ℕ} mid new (applies_entry (entry_at entries k) x) (Err stopped))
-      → IsErr result → (f : ℕ → ℕ) × Runs old new (applies_each entries f) result
-  unfolding applies_each
+      → IsErr result → RunsFor old new (applies_each entries) result
+  unfolding applies_each RunsFor
   next_err found k mid new stopped result low made runs error = (
     with_found found k 0,
     repeated_err old (plans (with_found found k 0)) (Unit {0}) ℕ (length entries) k mid new tt stopped result low (made_still found k 0 mid made) (subst (λ (s : Plan). Runs {T = ℕ} mid new s (Err stopped)) (sym (here found k 0)) (runs 0)) error,
   )
 
-  pub all_made : (found : ℕ → ℕ) (k : ℕ) (new : View → Type 0) → k ≡ length entries → IsMade old new (repeated (plans found) k) → (f : ℕ → ℕ) × Runs {T = Unit {0}} old new (applies_each entries f) (Ok tt)
-  unfolding applies_each
+  pub all_made : (found : ℕ → ℕ) (k : ℕ) (new : View → Type 0) → k ≡ length entries → IsMade old new (repeated (plans found) k) → RunsFor {T = Unit {0}} old new (applies_each entries) (Ok tt)
+  unfolding applies_each RunsFor
   all_made found k new is made = (found, subst (λ n. Runs {T = Unit {0}} old new (repeated (plans found) n) (Ok tt)) is made)
+
+-- ---- and made persistent
+module _ (old : View → Type 0) (entries : List Redo) where
+  pub told_ready : IsReadyFor old (applies_all entries) → IsReadyFor old (applies_each entries)
+  unfolding applies_all IsReadyFor
+  told_ready ready found = ready_first old (applies_each entries found) persists_all (ready found)
+
+  pub told_next : (mid : View → Type 0) → IsReadyFor old (applies_all entries) → RunsFor {T = Unit {0}} old mid (applies_each entries) (Ok tt) → IsReady mid persists_all
+  unfolding applies_all IsReadyFor RunsFor
+  told_next mid ready told = ready_then old mid (applies_each entries told.0) persists_all tt (ready told.0) told.1
+
+  pub told_err : (mid : View → Type 0) (stopped : Stopped) (result : Result (Unit {0}) Stopped) → IsErr result → RunsFor {T = Unit {0}} old mid (applies_each entries) (Err stopped) → RunsFor old mid (applies_all entries) result
+  unfolding applies_all RunsFor
+  told_err mid stopped result error told = (told.0, runs_err (Unit {0}) old mid (applies_each entries told.0) persists_all stopped result error told.1)
+
+  pub told_then : (mid new : View → Type 0) (result : Result (Unit {0}) Stopped) → RunsFor {T = Unit {0}} old mid (applies_each entries) (Ok tt) → Runs mid new persists_all result → RunsFor old new (applies_all entries) result
+  unfolding applies_all RunsFor
+  told_then mid new result told second = (told.0, runs_then old mid new (applies_each entries told.0) persists_all tt result told.1 second)

@@ -1,6 +1,6 @@
 ghost use Rattle.std.specs.Prelude.{ℕ};
-ghost use Rattle.pm_plan.specs.Plans.{IsReady, Runs, RunsFinding};
-ghost use Rattle.pm_redo.specs.Plans.{applies_all, applies_each, applies_entry};
+ghost use Rattle.pm_plan.specs.Plans.{IsReady, RunsFinding};
+ghost use Rattle.pm_redo.specs.Plans.{IsReadyFor, RunsFor, applies_all, applies_each, applies_entry};
 ghost use Rattle.pm_redo.specs.Redoing.{Applied, StandsTo};
 ghost use Rattle.pm_redo.specs.Stages.{CanApply};
 
@@ -28,8 +28,8 @@ fn apply<M: LawfulMem>(mem: &mut M, entry: Redo) -> Result<u64, Stopped>
 
 /// Applies entries, in order.
 fn apply_each<M: LawfulMem>(mem: &mut M, entries: &[Redo]) -> Result<(), Stopped>
-    requires { (found : ℕ → ℕ) → IsReady (M.at mem.old) (applies_each entries.now found) }
-    ensures { (found : ℕ → ℕ) × Runs (M.at mem.old) (M.at mem.new) (applies_each entries.now found) result }
+    requires { IsReadyFor (M.at mem.old) (applies_each entries.now) }
+    ensures { RunsFor (M.at mem.old) (M.at mem.new) (applies_each entries.now) result }
 {
     for entry in entries {
         apply(mem, *entry)?;
@@ -38,9 +38,10 @@ fn apply_each<M: LawfulMem>(mem: &mut M, entries: &[Redo]) -> Result<(), Stopped
 }
 
 /// Applies entries, in order, and makes that persistent.
+#[tactic(auto, using(crate::proofs::Telling::told_ready, crate::proofs::Telling::told_next, crate::proofs::Telling::told_err, crate::proofs::Telling::told_then))]
 fn apply_entries<M: LawfulMem>(mem: &mut M, entries: &[Redo]) -> Result<(), Stopped>
-    requires { (found : ℕ → ℕ) → IsReady (M.at mem.old) (applies_all entries.now found) }
-    ensures { (found : ℕ → ℕ) × Runs (M.at mem.old) (M.at mem.new) (applies_all entries.now found) result }
+    requires { IsReadyFor (M.at mem.old) (applies_all entries.now) }
+    ensures { RunsFor (M.at mem.old) (M.at mem.new) (applies_all entries.now) result }
 {
     apply_each(mem, entries)?;
     persist_all(mem)
