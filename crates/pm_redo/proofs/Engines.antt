@@ -7,13 +7,13 @@ use Rattle.pm_layout.specs.Areas.{word_of_seal}
 use Rattle.pm_memory.specs.declared.lane_mem.Stopped.{Stopped}
 use Rattle.pm_memory.specs.Runs.{Ran, Stops}
 use Rattle.pm_record.specs.declared.redo.Redo.{Redo}
-use Rattle.pm_view.specs.View.{View}
+use Rattle.pm_view.specs.View.{View, Constants}
 use Rattle.pm_view.specs.Views.{after_all}
 use Rattle.pm_world.specs.declared.lane.Lane.{Lane}
-use Rattle.pm_plan.specs.Plans.{IsReady, Ready, Runs}
+use Rattle.pm_plan.specs.Plans.{Plan, IsReady, Ready, Runs}
 use Rattle.pm_redo.specs.Entries.{ending, listed_entries, listed_entry, logged_entry}
 use Rattle.pm_redo.specs.Plans.{IsReadyFor, RunsFor, applies, applies_all, clears, seals, writes_entries, writes_log, writes_seal}
-use Rattle.pm_redo.specs.Redoing.{Applied, Cleared, KeepsEntries, Logged, MayLog, Sealed, StandsTo}
+use Rattle.pm_redo.specs.Redoing.{Applied, CarriedAs, Cleared, KeepsEntries, Logged, MayLog, Sealed, StandsTo}
 use Rattle.pm_redo.specs.Stages.{CanApply, CanClear, CanEnter, CanSeal}
 use Rattle.pm_redo.proofs.EntriesApplied.{apply_lawful}
 use Rattle.pm_redo.proofs.LogWritten.{log_lawful}
@@ -26,6 +26,19 @@ listed_again v (e ∷ es) all =
     ap (λ place. record e { place = place } ∷ map listed_entry (map (logged_entry v) es)) (let a = all.0.aligned in let q : 8 * (e.place / 8) ≡ e.place = omega (arith, a) in q) ∙ ap (λ t. e ∷ t) (listed_again v es all.1)
 
 module _ {M : Type 0} (at : M → View → Type 0) (lane : Lane M) where
+  -- a plan that leaves the shape and the log's entries leaves the list
+  carried : (v : View) (plan : Plan) (new : M) (result : Result (Unit {0}) Stopped) → KeepsEntries at lane v → (after_all v (plan v)).fixed ≡ v.fixed → (after_all v (plan v)).log.entries ≡ v.log.entries → Ran (at new) v (plan v) result
+      → CarriedAs at v plan lane (record lane { memory = new }) result
+  carried v plan new (Ok done) k fixed_ entries_ ran = (
+    record {
+      memory = ran;
+      shape = k.shape ∙ ap (λ (f : Constants). f.shape) (sym fixed_);
+      entries = k.entries ∙ ap (map listed_entry) (sym entries_);
+    },
+    refl,
+  )
+  carried v plan new (Err stopped) k fixed_ entries_ ran = (ran, refl)
+
   -- ---- applying
   applies_so : (v : View) → KeepsEntries at lane v → (entries : List Redo) → entries ≡ lane.entries.items → (found : ℕ → ℕ) → applies_all entries found v ≡ applies found v
   unfolding applies
@@ -41,7 +54,8 @@ module _ {M : Type 0} (at : M → View → Type 0) (lane : Lane M) where
     runs.0,
     λ v k can. (
         let same = applies_so v k entries is runs.0 in
-        (subst (λ steps. Ran (at new) v steps result) same (runs.1 v k.memory (subst (Ready v) (sym same) (apply_lawful v runs.0 can).0)), refl)),
+        let t = apply_lawful v runs.0 can in
+        carried v (applies runs.0) new result k (ap (λ (y : View). y.fixed) t.1.same) (ap (λ (y : View). y.log.entries) t.1.same) (subst (λ steps. Ran (at new) v steps result) same (runs.1 v k.memory (subst (Ready v) (sym same) t.0)))),
   )
 
   module _ (number : ℕ) (is_number : (v : View) → at lane.memory v → number ≡ v.fixed.lane) where
@@ -103,7 +117,8 @@ module _ {M : Type 0} (at : M → View → Type 0) (lane : Lane M) where
         pub sealed_lane : (new : M) (result : Result (Unit {0}) Stopped) → Runs (at lane.memory) (at new) (writes_seal word count) result → Sealed at lane (record lane { memory = new }) result
         unfolding Sealed Runs
         sealed_lane new result runs v k can =
-            (subst (λ steps. Ran (at new) v steps result) (seals_so v k) (runs v k.memory (subst (Ready v) (sym (seals_so v k)) (seal_lawful v can).0)), refl)
+            let t = seal_lawful v can in
+            carried v seals new result k (ap (λ (y : View). y.fixed) t.1.same) (ap (λ (y : View). y.log.entries) t.1.same) (subst (λ steps. Ran (at new) v steps result) (seals_so v k) (runs v k.memory (subst (Ready v) (sym (seals_so v k)) t.0)))
 
       clears_so : (v : View) → KeepsEntries at lane v → writes_seal word 0 v ≡ clears v
       unfolding clears

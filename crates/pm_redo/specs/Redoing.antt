@@ -1,7 +1,7 @@
 -- WHAT REDO LOGGING DOES to a lane: by cases of what it answers, for each view that the lane's memory may be seen as.
 use Rattle.std.specs.Prelude.{◌≡◌, ℕ, ◌+◌, ◌<◌, ◌≤◌, [], ◌∷◌, ◌++◌, length, Result, Ok, Err}
 use Rattle.pm_layout.specs.Areas.{redo_entries}
-use Rattle.pm_memory.specs.Runs.{Ran, Stops}
+use Rattle.pm_memory.specs.Runs.{Stops}
 use Rattle.pm_memory.specs.declared.lane_mem.Stopped.{Stopped}
 use Rattle.pm_objects.specs.declared.refusal.Refusal.{Refusal}
 use Rattle.pm_objects.specs.declared.refusal.Refusal.TheVariants as refusal
@@ -9,6 +9,7 @@ use Rattle.pm_record.specs.declared.redo.Redo.{Redo}
 use Rattle.pm_view.specs.View.{View}
 use Rattle.pm_view.specs.Views.{after_all}
 use Rattle.pm_world.specs.declared.lane.Lane.{Lane}
+use Rattle.pm_plan.specs.Plans.{Plan}
 use Rattle.pm_redo.specs.Entries.{listed_entries}
 use Rattle.pm_redo.specs.Plans.{applies, clears, seals, writes_log}
 use Rattle.pm_redo.specs.Stages.{CanApply, CanClear, CanLog, CanSeal}
@@ -43,14 +44,19 @@ LoggedAs at v old new (Err stopped) = Stops (at new.memory) v (writes_log old.en
 unfoldable pub Logged : {M : Type 0} → (M → View → Type 0) → ℕ → Lane M → Lane M → Result (Unit {0}) Stopped → Type 0
 Logged at generation old new result = (v : View) → MayLog at old generation v → LoggedAs at v old new result
 
--- ---- sealing it, and applying it: the plan was carried out, or the first of it up to the stop; in the plan of the second stands what each OR and AND
--- found
+-- ---- sealing it, and applying it
+
+-- the plan was carried out, and the list stays; or the first of it was, up to the stop
+abbrev pub CarriedAs : {M : Type 0} → (M → View → Type 0) → View → Plan → Lane M → Lane M → Result (Unit {0}) Stopped → Type 0
+CarriedAs at v plan old new (Ok done) = KeepsEntries at new (after_all v (plan v)) × (new ≡ record old { memory = new.memory })
+CarriedAs at v plan old new (Err stopped) = Stops (at new.memory) v (plan v) × (new ≡ record old { memory = new.memory })
 
 unfoldable pub Sealed : {M : Type 0} → (M → View → Type 0) → Lane M → Lane M → Result (Unit {0}) Stopped → Type 0
-Sealed at old new result = (v : View) → KeepsEntries at old v → CanSeal v → Ran (at new.memory) v (seals v) result × (new ≡ record old { memory = new.memory })
+Sealed at old new result = (v : View) → KeepsEntries at old v → CanSeal v → CarriedAs at v seals old new result
 
+-- for what each OR and AND found
 unfoldable pub Applied : {M : Type 0} → (M → View → Type 0) → Lane M → Lane M → Result (Unit {0}) Stopped → Type 0
-Applied at old new result = (found : ℕ → ℕ) × ((v : View) → KeepsEntries at old v → CanApply v → Ran (at new.memory) v (applies found v) result × (new ≡ record old { memory = new.memory }))
+Applied at old new result = (found : ℕ → ℕ) × ((v : View) → KeepsEntries at old v → CanApply v → CarriedAs at v (applies found) old new result)
 
 -- ---- clearing the seal: the lists are empty then
 
