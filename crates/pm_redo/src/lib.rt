@@ -21,3 +21,6 @@ pub use laws::{
 };
 pub use logging::log;
 pub use sealing::{retire, seal};
+
+#[cfg(test)]
+mod tests;
