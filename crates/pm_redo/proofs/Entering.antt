@@ -11,7 +11,7 @@ use Rattle.pm_record.specs.declared.redo.Op.TheVariants.{Set, Or, And}
 use Rattle.pm_record.specs.declared.redo.Redo.{Redo}
 use Rattle.pm_view.specs.Bits.{all_bits}
 use Rattle.pm_view.specs.Changes.{Undrained}
-use Rattle.pm_view.specs.Claims.{Claim, Knows, class, known, pictured}
+use Rattle.pm_view.specs.Claims.{Claim, Knows, class, locked, known, pictured}
 use Rattle.pm_view.specs.Entries.{Entry}
 use Rattle.pm_view.specs.Log.{Open, entered, log_stored, place_at}
 use Rattle.pm_view.specs.Parts.{is_entry_word}
@@ -80,6 +80,7 @@ module _ (v : View) (below : v.log.generation < 2 ^ 62) (lane_low : v.fixed.lane
     pub are : t ≡ noted notes v.claims
     pub each : AreNotes sh v.claims notes
     pub classes : class t ≡ class v.claims
+    pub locks : locked t ≡ locked v.claims
     pub rights : (p : Place) (how : Op) (value : ℕ) → EntersAt v p how value → EntersAt (with_claims t) p how value
     pub knowns : (y : ℕ) → is_entry_word sh lane y ≡ false → (known sh (runs_one v) t y ≡ known sh (runs_one v) v.claims y) × (pictured sh t y ≡ pictured sh v.claims y)
     pub few : length changes ≤ 2 * length es + length pair
@@ -98,6 +99,7 @@ module _ (v : View) (below : v.log.generation < 2 ^ 62) (lane_low : v.fixed.lane
     are = ap (λ claims. Knows w x ∷ claims) m.are;
     each = (tt, m.each);
     classes = m.classes;
+    locks = m.locks;
     rights = λ p how value r. rights_noted t w x other p how value (m.rights p how value r);
     knowns = λ y not_entry. (
         let apart : w ≢ y = (λ e. both_ways (is_entry_word sh lane w) (subst (λ z. is_entry_word sh lane z ≡ false) (sym e) not_entry) entry) in

@@ -7,3 +7,4 @@ pub mod Entering
 pub mod LogWritten
 pub mod Telling
 pub mod Engines
+pub mod Performed

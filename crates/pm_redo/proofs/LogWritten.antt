@@ -1,23 +1,25 @@
 -- Writing a log is lawful, and its entries stand in it.
-use Rattle.std.proofs.Common.{◌≡◌, ◌≢◌, ℕ, ◌+◌, ◌*◌, ◌/◌, ◌<◌, ◌≤◌, false, List, [], ◌∷◌, ◌++◌, length, map, take, get_or, refl, sym, ap, ◌∙◌, subst, arith, Option, None}
+use Rattle.std.proofs.Common.{◌≡◌, ◌≢◌, ℕ, ◌+◌, ◌*◌, ◌/◌, ◌<◌, ◌≤◌, true, false, List, [], ◌∷◌, ◌++◌, length, map, take, get_or, refl, sym, ap, ◌∙◌, subst, arith, Option, None}
 use Rattle.std.specs.Prelude.{IfSome}
-use Rattle.std.specs.List.{AllByRecursion}
+use Rattle.std.specs.List.{All, AllByRecursion}
 use Rattle.std.proofs.lemmas.List.{length-map, length-take-le, map-append, take_all, take_more}
 use Rattle.std.proofs.lemmas.List.Elements.{All-from_recursion}
-use Rattle.std.proofs.lemmas.Option.{none-some}
+use Rattle.std.proofs.lemmas.Option.{none-some, same_Some}
 use Rattle.pm_layout.specs.declared.shape.Shape.{Shape}
 use Rattle.pm_layout.specs.Areas.{word_of_generation}
 use Rattle.pm_record.specs.declared.redo.Op.TheVariants.{Set}
 use Rattle.pm_record.specs.declared.redo.Redo.{Redo}
 use Rattle.pm_view.specs.Changes.{Undrained}
-use Rattle.pm_view.specs.Claims.{Claim, Drained, class, known, making, pictured}
+use Rattle.pm_view.specs.Claims.{Claim, Drained, class, known, locked, making, pictured}
 use Rattle.pm_view.specs.Entries.{Entry}
 use Rattle.pm_view.specs.Log.{Log, Open, place_at}
 use Rattle.pm_view.specs.Parts.{is_entry_word}
-use Rattle.pm_view.specs.Places.{Place}
+use Rattle.pm_view.specs.Places.{Place, RootWord}
 use Rattle.pm_view.specs.View.{View, runs_one}
 use Rattle.pm_view.specs.Views.{after_all}
-use Rattle.pm_world.specs.Lawful.{EntersAt, EntersWord, place_in}
+use Rattle.pm_world.specs.Lawful.{EntersAt, EntersWord, KeepsRoot, place_in}
+use Rattle.pm_world.specs.Lanes.{all_held}
+use Rattle.pm_world.specs.States.{root_line}
 use Rattle.pm_world.specs.Logs.{AreWhole, EntryOf, ends_with}
 use Rattle.pm_world.proofs.PlacesAt.{is_at}
 use Rattle.pm_plan.specs.Notes.{AreNotes, DrainedTo, Note, noted}
@@ -119,6 +121,7 @@ module _ (v : View) (given : List Redo) (can : CanLog v given) where
     are : t ≡ noted notes v.claims
     each : AreNotes shape v.claims notes
     classes : class t ≡ class v.claims
+    locks : locked t ≡ locked v.claims
     knowns : (y : ℕ) → is_entry_word shape lane y ≡ false → (known shape (runs_one v) t y ≡ known shape (runs_one v) v.claims y) × (pictured shape t y ≡ pictured shape v.claims y)
 
   abbrev HasEnded : View → Type 0
@@ -133,19 +136,20 @@ module _ (v : View) (given : List Redo) (can : CanLog v given) where
     are = ap (λ claims. Drained [] ∷ claims) m.are;
     each = (subst (λ claims. (c : ℕ) → making shape claims c ≡ false) m.are (no_making t changes m), m.each);
     classes = m.classes;
+    locks = m.locks;
     knowns = λ y not_entry. (let k = m.knowns y not_entry in (known_noted shape t (runs_one v) (DrainedTo []) (no_making t changes m) y tt ∙ k.0, k.1));
   }
 
   ended : (t : List Claim) (changes : List Undrained) (calls : ℕ) (u : View) → Facts t changes → IsPersisted (now v can.below can.lane t changes calls entries []) u → HasEnded u
   ended t [] calls u m is = let claims : u.claims ≡ t = ap (λ (y : View). y.claims) is in
-      (is ∙ ap (λ c. now v can.below can.lane c [] u.calls entries []) (sym claims), subst Ended (sym claims) (record { notes = m.notes; are = m.are; each = m.each; classes = m.classes; knowns = m.knowns }))
+      (is ∙ ap (λ c. now v can.below can.lane c [] u.calls entries []) (sym claims), subst Ended (sym claims) (record { notes = m.notes; are = m.are; each = m.each; classes = m.classes; locks = m.locks; knowns = m.knowns }))
   ended t (c ∷ changes) calls u m is = let claims : u.claims ≡ Drained [] ∷ t = ap (λ (y : View). y.claims) is in
       (is ∙ ap (λ d. now v can.below can.lane d [] u.calls entries []) (sym claims), subst Ended (sym claims) (drained_claims t (c ∷ changes) m))
 
   starts : Upto 0 v
   starts = (
     ap (λ (l : Log). record v { log = l }) (ap (λ ph. record v.log { phase = ph }) can.is_open ∙ (ap (λ es. record v.log { phase = Open; entries = es }) can.unentered ∙ ap (λ p. record v.log { phase = Open; entries = []; pair = p }) can.whole.1)),
-    record { notes = []; are = refl; each = tt; classes = refl; rights = λ p how value r. r; knowns = λ y e. (refl, refl); few = subst (λ (changes : List Undrained). length changes ≤ 0) (sym can.drained) (omega arith) },
+    record { notes = []; are = refl; each = tt; classes = refl; locks = refl; rights = λ p how value r. r; knowns = λ y e. (refl, refl); few = subst (λ (changes : List Undrained). length changes ≤ 0) (sym can.drained) (omega arith) },
   )
 
   -- ---- what that leaves
@@ -169,6 +173,16 @@ module _ (v : View) (given : List Redo) (can : CanLog v given) where
   all_placed [] all = tt
   all_placed (e ∷ es) all = ((λ none. none-some all.0.place (sym none ∙ all.0.at)), all_placed es all.1)
 
+  -- the lane has locked the lines that are to guard the root word
+  keeps_root : (t : List Claim) (calls : ℕ) → Ended t → (e : Redo) → CanEnter v e → KeepsRoot (logged t calls) (logged_entry v e)
+  keeps_root t calls m e is root =
+      let enters : EntersAt v RootWord e.op e.value = subst (λ p. EntersAt v p e.op e.value) (same_Some is.place RootWord (sym is.at ∙ root)) is.may in
+      (enters.1, is.small, subst (λ held. all_held held (0 ∷ root_line e.value) ≡ true) (sym m.locks) enters.2)
+
+  all_root : (t : List Claim) (calls : ℕ) → Ended t → (es : List Redo) → AllByRecursion (CanEnter v) es → AllByRecursion (KeepsRoot (logged t calls)) (map (logged_entry v) es ++ end_ ∷ [])
+  all_root t calls m [] all = ((λ root. absurd (none-some RootWord root)), tt)
+  all_root t calls m (e ∷ es) all = (keeps_root t calls m e all.0, all_root t calls m es all.1)
+
   same_log : (t : List Claim) (calls : ℕ) → now v can.below can.lane t [] calls entries [] ≡ logged t calls
   same_log t calls = ap (λ (l : Log). record v { claims = t; changes = []; calls = calls; log = l }) (ap (λ ph. record v.log { phase = ph; entries = entries; pair = [] }) (sym can.is_open) ∙ ap (λ p. record v.log { entries = entries; pair = p }) (sym can.whole.1))
 
@@ -181,6 +195,7 @@ module _ (v : View) (given : List Redo) (can : CanLog v given) where
         known = λ y not_entry. let k = p.1.knowns y not_entry in (ap (λ (z : View). known z.fixed.shape (runs_one z) u.claims y) same ∙ k.0, ap (λ (z : View). pictured z.fixed.shape u.claims y) same ∙ k.1);
         whole = subst (λ (z : View). AreWhole z.fixed.shape z.fixed.lane z.log) (sym same) (record { front = front; are = refl; placed = All-from_recursion (λ (e : Entry). e.place ≢ None) front (all_placed given can.each) });
         placed = subst AreOfPlaces (sym same) (record { front = front; are = refl; each = of_places u.claims u.calls p.1 given can.each });
+        root = subst (λ (z : View). All (KeepsRoot z) z.log.entries) (sym same) (All-from_recursion (KeepsRoot (logged u.claims u.calls)) entries (all_root u.claims u.calls p.1 given can.each));
       }
 
   -- WRITING A LOG IS LAWFUL

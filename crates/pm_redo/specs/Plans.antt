@@ -74,3 +74,7 @@ RunsFor old new plans result = (found : ℕ → ℕ) × Runs old new (plans foun
 -- those of the log
 unfoldable pub applies : (ℕ → ℕ) → Plan
 applies found v = applies_all (listed_entries v) found v
+
+-- ---- performing it
+unfoldable pub performs : (ℕ → ℕ) → Plan
+performs found = in_turn seals (in_turn (applies found) clears)

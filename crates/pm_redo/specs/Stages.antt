@@ -1,5 +1,5 @@
 -- A lane whose redo log may be written, sealed, applied and cleared, on its view alone; and what each of these leaves of the view.
-use Rattle.std.specs.Prelude.{◌≡◌, ◌≢◌, ℕ, ◌/◌, ◌%◌, ◌^◌, ◌<◌, ◌≤◌, true, false, List, [], ◌∷◌, ◌++◌, length, map, None, Some}
+use Rattle.std.specs.Prelude.{◌≡◌, ◌≢◌, ℕ, ◌/◌, ◌%◌, ◌^◌, ◌<◌, ◌≤◌, true, false, All, List, [], ◌∷◌, ◌++◌, length, map, None, Some}
 use Rattle.std.specs.List.{AllByRecursion}
 use Rattle.pm_layout.specs.Areas.{greatest_generation, redo_entries, word_of_generation, word_of_seal}
 use Rattle.pm_record.specs.declared.redo.Op.TheVariants.{Set}
@@ -12,7 +12,7 @@ use Rattle.pm_view.specs.Parts.{is_entry_word}
 use Rattle.pm_view.specs.Places.{Place, RootWord}
 use Rattle.pm_view.specs.View.{View}
 use Rattle.pm_view.specs.Views.{value_in}
-use Rattle.pm_world.specs.Lawful.{EntersAt, place_in}
+use Rattle.pm_world.specs.Lawful.{EntersAt, KeepsRoot, place_in}
 use Rattle.pm_world.specs.Logs.{AreWhole, EntryOf, ends_with}
 use Rattle.pm_plan.specs.Notes.{HasNoted}
 use Rattle.pm_redo.specs.Entries.{last_made, logged_entry}
@@ -76,6 +76,7 @@ pub record IsLogged (v : View) (entries : List Redo) (w : View) : Type 0 where
   pub known : (u : ℕ) → is_entry_word v.fixed.shape v.fixed.lane u ≡ false → (knows w u ≡ knows v u) × (value_in w u ≡ value_in v u)
   pub whole : AreWhole w.fixed.shape w.fixed.lane w.log
   pub placed : AreOfPlaces w
+  pub root : All (KeepsRoot w) w.log.entries
 
 -- ---- sealing it
 
@@ -90,9 +91,13 @@ pub record CanSeal (v : View) : Type 0 where
   pub drained : v.changes ≡ []
   pub known : value_in v (seal_word v) ≡ Some 0
 
--- THE CALL IS DECIDED: the seal has the number of the entries, drained, and all of them are to be applied yet
+-- the view of a call that is decided, with all entries to be applied yet
+abbrev pub decided : View → View
+decided v = record v { claims = Decided (redos v.log.entries) ∷ Drained [] ∷ Knows (seal_word v) (length v.log.entries) ∷ v.claims; changes = []; log = record v.log { phase = Applying v.log.entries } }
+
+-- THE CALL IS DECIDED: the seal has the number of the entries, and that is drained
 pub record IsSealed (v w : View) : Type 0 where
-  pub same : w ≡ record v { claims = Decided (redos v.log.entries) ∷ Drained [] ∷ Knows (seal_word v) (length v.log.entries) ∷ v.claims; changes = []; calls = w.calls; log = record v.log { phase = Applying v.log.entries } }
+  pub same : w ≡ record (decided v) { calls = w.calls }
   pub seal : value_in w (seal_word v) ≡ Some (length v.log.entries)
   pub seen : (u : ℕ) → u ≢ seal_word v → value_in w u ≡ value_in v u
 
@@ -132,3 +137,18 @@ pub record IsCleared (v w : View) : Type 0 where
   pub noted : HasNoted v w
   pub seal : value_in w (seal_word v) ≡ Some 0
   pub known : (u : ℕ) → u ≢ seal_word v → (knows w u ≡ knows v u) × (value_in w u ≡ value_in v u)
+
+-- ---- performing it: sealing, applying and clearing in turn
+
+-- the log may be sealed, its entries are of places, and the lane knows its generation
+pub record CanPerform (v : View) : Type 0 where
+  pub sealing : CanSeal v
+  pub placed : AreOfPlaces v
+  pub known : value_in v (generation_in v) ≡ Some v.log.generation
+
+-- THE LOG IS PERFORMED: the call was decided, every entry has its effect, and no call is open
+pub record IsPerformed (v : View) (found : ℕ → ℕ) (w : View) : Type 0 where
+  pub same : w ≡ record v { claims = w.claims; changes = []; calls = w.calls; log = next_log Idle v.log }
+  pub noted : HasNoted (decided v) w
+  pub made : (u : ℕ) → u ≢ seal_word v → value_in w u ≡ first_of_two (last_made found v.log.entries u) (value_in v u)
+  pub seal : value_in w (seal_word v) ≡ Some 0

@@ -3,8 +3,8 @@ ghost use Rattle.pm_plan.specs.Plans.{Ready};
 ghost use Rattle.pm_record.specs.declared.redo.Redo.{Redo};
 ghost use Rattle.pm_view.specs.View.{View};
 ghost use Rattle.pm_view.specs.Views.{after_all};
-ghost use Rattle.pm_redo.specs.Plans.{applies, clears, seals, writes_log};
-ghost use Rattle.pm_redo.specs.Stages.{CanApply, CanClear, CanLog, CanSeal, IsApplied, IsCleared, IsLogged, IsSealed};
+ghost use Rattle.pm_redo.specs.Plans.{applies, clears, performs, seals, writes_log};
+ghost use Rattle.pm_redo.specs.Stages.{CanApply, CanClear, CanLog, CanPerform, CanSeal, IsApplied, IsCleared, IsLogged, IsPerformed, IsSealed};
 
 /// A law: a lane whose call is open, and that may enter each of these entries, may write a log of
 /// them; they stand in it then, and after them the one that ends the lane's generation. No code
@@ -31,4 +31,12 @@ pub fn entries_may_be_applied()
 /// runs.
 pub fn seals_may_be_cleared()
     ensures { (v : View) → CanClear v → Ready v (clears v) × IsCleared v (after_all v (clears v)) }
+{}
+
+/// A law: a lane whose call has its number and a log that may be sealed, of entries of places, may
+/// seal it, apply the entries, whatever their ORs and ANDs find, and clear the seal; each entry has
+/// its effect then, and no call is open. No code runs.
+pub fn logs_may_be_performed()
+    ensures { (v : View) (found : ℕ → ℕ) → CanPerform v
+        → Ready v (performs found v) × IsPerformed v found (after_all v (performs found v)) }
 {}
