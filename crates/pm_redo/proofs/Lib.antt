@@ -8,3 +8,4 @@ pub mod LogWritten
 pub mod Telling
 pub mod Engines
 pub mod Performed
+pub mod Numbered

@@ -15,7 +15,7 @@ use Rattle.pm_plan.proofs.AreaParts.{part_beyond}
 not_lt : (a b : ℕ) → b ≤ a → nat_lt a b ≡ false
 not_lt a b le = false_from_ne_true (nat_lt a b) (λ t. let l = ltb-true a b t in omega (arith, l, le))
 
-not_le : (a b : ℕ) → b < a → nat_le a b ≡ false
+pub not_le : (a b : ℕ) → b < a → nat_le a b ≡ false
 not_le a b lt = false_from_ne_true (nat_le a b) (λ t. let l = leb-true a b t in omega (arith, l, lt))
 
 module _ (sh : Shape) (lane w : ℕ) where

@@ -1,10 +1,11 @@
-ghost use Rattle.std.specs.Prelude.{ℕ, List};
+ghost use Rattle.std.specs.Prelude.{◌≡◌, ℕ, List, Some};
 ghost use Rattle.pm_plan.specs.Plans.{Ready};
 ghost use Rattle.pm_record.specs.declared.redo.Redo.{Redo};
+ghost use Rattle.pm_view.specs.Steps.Step.{Draw};
 ghost use Rattle.pm_view.specs.View.{View};
-ghost use Rattle.pm_view.specs.Views.{after_all};
+ghost use Rattle.pm_view.specs.Views.{after, after_all, value_in};
 ghost use Rattle.pm_redo.specs.Plans.{applies, clears, performs, seals, writes_log};
-ghost use Rattle.pm_redo.specs.Stages.{CanApply, CanClear, CanLog, CanPerform, CanSeal, IsApplied, IsCleared, IsLogged, IsPerformed, IsSealed};
+ghost use Rattle.pm_redo.specs.Stages.{CanApply, CanClear, CanLog, CanPerform, CanSeal, IsApplied, IsCleared, IsLogged, IsPerformed, IsSealed, generation_in, seal_word};
 
 /// A law: a lane whose call is open, and that may enter each of these entries, may write a log of
 /// them; they stand in it then, and after them the one that ends the lane's generation. No code
@@ -39,4 +40,12 @@ pub fn seals_may_be_cleared()
 pub fn logs_may_be_performed()
     ensures { (v : View) (found : ℕ → ℕ) → CanPerform v
         → Ready v (performs found v) × IsPerformed v found (after_all v (performs found v)) }
+{}
+
+/// A law: a lane that knows its generation, and that its seal is 0, may perform a log that it wrote
+/// as soon as its call has its number. No code runs.
+pub fn numbered_logs_may_be_performed()
+    ensures { (v w : View) (entries : List Redo) (n : ℕ) → CanLog v entries → IsLogged v entries w
+        → value_in v (seal_word v) ≡ Some 0 → value_in v (generation_in v) ≡ Some v.log.generation
+        → CanPerform (after w (Draw n)) }
 {}
