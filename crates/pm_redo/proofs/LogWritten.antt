@@ -1,5 +1,5 @@
 -- Writing a log is lawful, and its entries stand in it.
-use Rattle.std.proofs.Common.{◌≡◌, ◌≢◌, ℕ, ◌+◌, ◌*◌, ◌/◌, ◌<◌, ◌≤◌, true, false, List, [], ◌∷◌, ◌++◌, length, map, take, get_or, refl, sym, ap, ◌∙◌, subst, arith, Option, None}
+use Rattle.std.proofs.Common.{◌≡◌, ◌≢◌, ℕ, ◌+◌, ◌*◌, ◌/◌, ◌<◌, ◌≤◌, true, List, [], ◌∷◌, ◌++◌, length, map, take, get_or, refl, sym, ap, ◌∙◌, subst, arith, Option, None}
 use Rattle.std.specs.Prelude.{IfSome}
 use Rattle.std.specs.List.{All, AllByRecursion}
 use Rattle.std.proofs.lemmas.List.{length-map, length-take-le, map-append, take_all, take_more}
@@ -9,11 +9,9 @@ use Rattle.pm_layout.specs.declared.shape.Shape.{Shape}
 use Rattle.pm_layout.specs.Areas.{word_of_generation}
 use Rattle.pm_record.specs.declared.redo.Op.TheVariants.{Set}
 use Rattle.pm_record.specs.declared.redo.Redo.{Redo}
-use Rattle.pm_view.specs.Changes.{Undrained}
-use Rattle.pm_view.specs.Claims.{Claim, Drained, class, known, locked, making, pictured}
+use Rattle.pm_view.specs.Claims.{Claim, class, known, pictured}
 use Rattle.pm_view.specs.Entries.{Entry}
 use Rattle.pm_view.specs.Log.{Log, Open, place_at}
-use Rattle.pm_view.specs.Parts.{is_entry_word}
 use Rattle.pm_view.specs.Places.{Place, RootWord}
 use Rattle.pm_view.specs.View.{View, runs_one}
 use Rattle.pm_view.specs.Views.{after_all}
@@ -22,16 +20,14 @@ use Rattle.pm_world.specs.Lanes.{all_held}
 use Rattle.pm_world.specs.States.{root_line}
 use Rattle.pm_world.specs.Logs.{AreWhole, EntryOf, ends_with}
 use Rattle.pm_world.proofs.PlacesAt.{is_at}
-use Rattle.pm_plan.specs.Notes.{AreNotes, DrainedTo, Note, noted}
-use Rattle.pm_plan.specs.Plans.{IsPersisted, Ready, in_turn, persists_all, repeated}
+use Rattle.pm_plan.specs.Plans.{Ready, in_turn, persists_all, repeated}
 use Rattle.pm_plan.proofs.Going.{Goes, goes_repeated, goes_then}
-use Rattle.pm_plan.proofs.Notes.{known_noted, making_same}
 use Rattle.pm_redo.specs.Entries.{ending, entry_at, logged_entry, no_entry}
 use Rattle.pm_redo.specs.Plans.{ends_entries, writes_entries, writes_log, writes_pair, writes_pairs}
 use Rattle.pm_redo.specs.Stages.{AreOfPlaces, CanEnter, CanLog, IsLogged, IsOfPlace}
 use Rattle.pm_redo.proofs.EntriesApplied.{inside_pool}
 use Rattle.pm_redo.proofs.Carrying.{at_index, goes_persist}
-use Rattle.pm_redo.proofs.Entering.{CanPut, Entered, Entering, now, pair_goes}
+use Rattle.pm_redo.proofs.Entering.{CanPut, Entered, Entering, now, pair_goes, stays}
 use Rattle.pm_redo.proofs.Parts.{no_place}
 
 module _ (v : View) (given : List Redo) (can : CanLog v given) where
@@ -80,7 +76,7 @@ module _ (v : View) (given : List Redo) (can : CanLog v given) where
 
   -- ---- they are stored one after another
   abbrev At : List Entry → View → Type 0
-  At es = Entering v can.below can.lane es []
+  At es = Entering v can.below can.lane can.unmaking es []
 
   abbrev Upto : ℕ → View → Type 0
   Upto k = At (map (logged_entry v) (take k given))
@@ -92,7 +88,7 @@ module _ (v : View) (given : List Redo) (can : CanLog v given) where
   next k low =
       let e : Redo = get_or given k no_entry in
       let long = many k (omega (arith, low)) in
-      let goes = pair_goes v can.below can.lane e (can_put e (at_index (CanEnter v) given no_entry k can.each low)) (map (logged_entry v) (take k given)) (let f = can.few in omega (arith, long, low, f)) in
+      let goes = pair_goes v can.below can.lane can.unmaking e (can_put e (at_index (CanEnter v) given no_entry k can.each low)) (map (logged_entry v) (take k given)) (let f = can.few in omega (arith, long, low, f)) in
       subst (λ n. Goes (Upto k) (writes_pair shape lane n e) (Upto (k + 1))) long
       (subst (λ es. Goes (Upto k) (writes_pair shape lane (length (map (logged_entry v) (take k given))) e) (At es)) (sym (map-append (logged_entry v) (take k given) (e ∷ [])) ∙ ap (map (logged_entry v)) (sym (take_more given k no_entry low))) goes)
 
@@ -106,57 +102,29 @@ module _ (v : View) (given : List Redo) (can : CanLog v given) where
       let long = length-map given (logged_entry v) in
       subst (λ n. Goes (At front) (writes_pair shape lane n (ending shape lane v.log.generation)) (At (front ++ end_ ∷ []))) long
       (subst (λ e. Goes (At front) (writes_pair shape lane (length front) (ending shape lane v.log.generation)) (At (front ++ e ∷ []))) ended_as
-      (pair_goes v can.below can.lane (ending shape lane v.log.generation) can_end front (let f = can.few in omega (arith, long, f))))
+      (pair_goes v can.below can.lane can.unmaking (ending shape lane v.log.generation) can_end front (let f = can.few in omega (arith, long, f))))
 
   -- ---- and made persistent
   abbrev entries : List Entry
   entries = front ++ end_ ∷ []
 
-  abbrev Facts : List Claim → List Undrained → Type 0
-  Facts = Entered v can.below can.lane entries []
-
-  -- what is so of the claims then
-  record Ended (t : List Claim) : Type 0 where
-    notes : List Note
-    are : t ≡ noted notes v.claims
-    each : AreNotes shape v.claims notes
-    classes : class t ≡ class v.claims
-    locks : locked t ≡ locked v.claims
-    knowns : (y : ℕ) → is_entry_word shape lane y ≡ false → (known shape (runs_one v) t y ≡ known shape (runs_one v) v.claims y) × (pictured shape t y ≡ pictured shape v.claims y)
-
   abbrev HasEnded : View → Type 0
-  HasEnded u = (u ≡ now v can.below can.lane u.claims [] u.calls entries []) × Ended u.claims
-
-  no_making : (t : List Claim) (changes : List Undrained) → Facts t changes → (c : ℕ) → making shape t c ≡ false
-  no_making t changes m = subst (λ claims. (c : ℕ) → making shape claims c ≡ false) (sym m.are) (making_same shape m.notes v.claims m.each can.unmaking)
-
-  drained_claims : (t : List Claim) (changes : List Undrained) → Facts t changes → Ended (Drained [] ∷ t)
-  drained_claims t changes m = record {
-    notes = DrainedTo [] ∷ m.notes;
-    are = ap (λ claims. Drained [] ∷ claims) m.are;
-    each = (subst (λ claims. (c : ℕ) → making shape claims c ≡ false) m.are (no_making t changes m), m.each);
-    classes = m.classes;
-    locks = m.locks;
-    knowns = λ y not_entry. (let k = m.knowns y not_entry in (known_noted shape t (runs_one v) (DrainedTo []) (no_making t changes m) y tt ∙ k.0, k.1));
-  }
-
-  ended : (t : List Claim) (changes : List Undrained) (calls : ℕ) (u : View) → Facts t changes → IsPersisted (now v can.below can.lane t changes calls entries []) u → HasEnded u
-  ended t [] calls u m is = let claims : u.claims ≡ t = ap (λ (y : View). y.claims) is in
-      (is ∙ ap (λ c. now v can.below can.lane c [] u.calls entries []) (sym claims), subst Ended (sym claims) (record { notes = m.notes; are = m.are; each = m.each; classes = m.classes; locks = m.locks; knowns = m.knowns }))
-  ended t (c ∷ changes) calls u m is = let claims : u.claims ≡ Drained [] ∷ t = ap (λ (y : View). y.claims) is in
-      (is ∙ ap (λ d. now v can.below can.lane d [] u.calls entries []) (sym claims), subst Ended (sym claims) (drained_claims t (c ∷ changes) m))
+  HasEnded u = At entries u × (u.changes ≡ [])
 
   starts : Upto 0 v
   starts = (
     ap (λ (l : Log). record v { log = l }) (ap (λ ph. record v.log { phase = ph }) can.is_open ∙ (ap (λ es. record v.log { phase = Open; entries = es }) can.unentered ∙ ap (λ p. record v.log { phase = Open; entries = []; pair = p }) can.whole.1)),
-    record { notes = []; are = refl; each = tt; classes = refl; locks = refl; rights = λ p how value r. r; knowns = λ y e. (refl, refl); few = subst (λ (changes : List Undrained). length changes ≤ 0) (sym can.drained) (omega arith) },
+    record { notes = []; are = refl; each = tt; classes = refl; locks = refl; rights = λ p how value r. r; knowns = λ y e. (refl, refl) },
   )
 
   -- ---- what that leaves
+  abbrev Facts : List Claim → Type 0
+  Facts = Entered v can.below can.lane can.unmaking
+
   abbrev logged : List Claim → ℕ → View
   logged t calls = record v { claims = t; changes = []; calls = calls; log = record v.log { entries = entries } }
 
-  of_place : (t : List Claim) (calls : ℕ) → Ended t → (e : Redo) → CanEnter v e → IsOfPlace (logged t calls) (logged_entry v e)
+  of_place : (t : List Claim) (calls : ℕ) → Facts t → (e : Redo) → CanEnter v e → IsOfPlace (logged t calls) (logged_entry v e)
   of_place t calls m e is = record {
     place = is.place;
     is = is.at;
@@ -165,7 +133,7 @@ module _ (v : View) (given : List Redo) (can : CanLog v given) where
     small = is.small;
   }
 
-  of_places : (t : List Claim) (calls : ℕ) → Ended t → (es : List Redo) → AllByRecursion (CanEnter v) es → AllByRecursion (IsOfPlace (logged t calls)) (map (logged_entry v) es)
+  of_places : (t : List Claim) (calls : ℕ) → Facts t → (es : List Redo) → AllByRecursion (CanEnter v) es → AllByRecursion (IsOfPlace (logged t calls)) (map (logged_entry v) es)
   of_places t calls m [] all = tt
   of_places t calls m (e ∷ es) all = (of_place t calls m e all.0, of_places t calls m es all.1)
 
@@ -174,28 +142,29 @@ module _ (v : View) (given : List Redo) (can : CanLog v given) where
   all_placed (e ∷ es) all = ((λ none. none-some all.0.place (sym none ∙ all.0.at)), all_placed es all.1)
 
   -- the lane has locked the lines that are to guard the root word
-  keeps_root : (t : List Claim) (calls : ℕ) → Ended t → (e : Redo) → CanEnter v e → KeepsRoot (logged t calls) (logged_entry v e)
+  keeps_root : (t : List Claim) (calls : ℕ) → Facts t → (e : Redo) → CanEnter v e → KeepsRoot (logged t calls) (logged_entry v e)
   keeps_root t calls m e is root =
       let enters : EntersAt v RootWord e.op e.value = subst (λ p. EntersAt v p e.op e.value) (same_Some is.place RootWord (sym is.at ∙ root)) is.may in
       (enters.1, is.small, subst (λ held. all_held held (0 ∷ root_line e.value) ≡ true) (sym m.locks) enters.2)
 
-  all_root : (t : List Claim) (calls : ℕ) → Ended t → (es : List Redo) → AllByRecursion (CanEnter v) es → AllByRecursion (KeepsRoot (logged t calls)) (map (logged_entry v) es ++ end_ ∷ [])
+  all_root : (t : List Claim) (calls : ℕ) → Facts t → (es : List Redo) → AllByRecursion (CanEnter v) es → AllByRecursion (KeepsRoot (logged t calls)) (map (logged_entry v) es ++ end_ ∷ [])
   all_root t calls m [] all = ((λ root. absurd (none-some RootWord root)), tt)
   all_root t calls m (e ∷ es) all = (keeps_root t calls m e all.0, all_root t calls m es all.1)
 
-  same_log : (t : List Claim) (calls : ℕ) → now v can.below can.lane t [] calls entries [] ≡ logged t calls
+  same_log : (t : List Claim) (calls : ℕ) → now v can.below can.lane can.unmaking t [] calls entries [] ≡ logged t calls
   same_log t calls = ap (λ (l : Log). record v { claims = t; changes = []; calls = calls; log = l }) (ap (λ ph. record v.log { phase = ph; entries = entries; pair = [] }) (sym can.is_open) ∙ ap (λ p. record v.log { entries = entries; pair = p }) (sym can.whole.1))
 
   is_logged : (u : View) → HasEnded u → IsLogged v given u
   is_logged u p =
-      let same : u ≡ logged u.claims u.calls = p.0 ∙ same_log u.claims u.calls in
+      let f : Facts u.claims = p.0.1 in
+      let same : u ≡ logged u.claims u.calls = p.0.0 ∙ (ap (λ changes. now v can.below can.lane can.unmaking u.claims changes u.calls entries []) p.1 ∙ same_log u.claims u.calls) in
       record {
         same = same;
-        noted = record { notes = p.1.notes; are = p.1.are; each = p.1.each };
-        known = λ y not_entry. let k = p.1.knowns y not_entry in (ap (λ (z : View). known z.fixed.shape (runs_one z) u.claims y) same ∙ k.0, ap (λ (z : View). pictured z.fixed.shape u.claims y) same ∙ k.1);
+        noted = record { notes = f.notes; are = f.are; each = f.each };
+        known = λ y not_entry. let k = f.knowns y not_entry in (ap (λ (z : View). known z.fixed.shape (runs_one z) u.claims y) same ∙ k.0, ap (λ (z : View). pictured z.fixed.shape u.claims y) same ∙ k.1);
         whole = subst (λ (z : View). AreWhole z.fixed.shape z.fixed.lane z.log) (sym same) (record { front = front; are = refl; placed = All-from_recursion (λ (e : Entry). e.place ≢ None) front (all_placed given can.each) });
-        placed = subst AreOfPlaces (sym same) (record { front = front; are = refl; each = of_places u.claims u.calls p.1 given can.each });
-        root = subst (λ (z : View). All (KeepsRoot z) z.log.entries) (sym same) (All-from_recursion (KeepsRoot (logged u.claims u.calls)) entries (all_root u.claims u.calls p.1 given can.each));
+        placed = subst AreOfPlaces (sym same) (record { front = front; are = refl; each = of_places u.claims u.calls f given can.each });
+        root = subst (λ (z : View). All (KeepsRoot z) z.log.entries) (sym same) (All-from_recursion (KeepsRoot (logged u.claims u.calls)) entries (all_root u.claims u.calls f given can.each));
       }
 
   -- WRITING A LOG IS LAWFUL
@@ -205,6 +174,6 @@ module _ (v : View) (given : List Redo) (can : CanLog v given) where
       let goes : Goes (Upto 0) (in_turn (writes_pairs shape lane given) (in_turn (writes_pair shape lane (length given) (ending shape lane v.log.generation)) persists_all)) HasEnded
       = goes_then (Upto 0) (At front) HasEnded (writes_pairs shape lane given) (in_turn (writes_pair shape lane (length given) (ending shape lane v.log.generation)) persists_all) all_stored
       (goes_then (At front) (At entries) HasEnded (writes_pair shape lane (length given) (ending shape lane v.log.generation)) persists_all end_stored
-      (goes_persist (At entries) HasEnded (λ y u p is. ended y.claims y.changes y.calls u p.1 (subst (λ z. IsPersisted z u) p.0 is)))) in
+      (goes_persist (At entries) HasEnded (stays v can.below can.lane can.unmaking entries []))) in
       let t = goes v starts in
       (t.0, is_logged (after_all v (writes_entries shape lane given (ending shape lane v.log.generation) v)) t.1)

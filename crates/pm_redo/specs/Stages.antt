@@ -39,8 +39,8 @@ pub record CanEnter (v : View) (e : Redo) : Type 0 where
   pub aligned : e.place % 8 ≡ 0
   pub small : e.value < 2 ^ 64
 
--- the call is open, with no record and no entry in the making or entered, and nothing undrained; and there is a pair for each entry and for the
--- one that ends the generation
+-- the call is open, with no record and no entry in the making and none entered; and there is a pair for each entry and for the one that ends the
+-- generation
 pub record CanLog (v : View) (entries : List Redo) : Type 0 where
   pub is_open : v.log.phase ≡ Open
   pub whole : (v.log.slot ≡ []) × (v.log.pair ≡ [])
@@ -50,7 +50,6 @@ pub record CanLog (v : View) (entries : List Redo) : Type 0 where
   pub lanes : v.fixed.shape.lanes ≤ 32
   pub zones : v.fixed.shape.zones ≤ 32
   pub unmaking : MakesNone v
-  pub drained : v.changes ≡ []
   pub few : length entries < redo_entries v.fixed.shape
   pub each : AllByRecursion (CanEnter v) entries
 
