@@ -14,7 +14,7 @@ use Rattle.pm_view.specs.View.{View, Constants}
 use Rattle.pm_view.specs.Views.{after, value_in}
 use Rattle.pm_world.specs.Logs.{ends_with}
 use Rattle.pm_redo.specs.Entries.{logged_entry}
-use Rattle.pm_redo.specs.Stages.{CanLog, CanPerform, IsLogged, IsOfPlace, generation_in, seal_word}
+use Rattle.pm_redo.specs.Stages.{CanLog, CanPerform, IsLogged, IsOfPlace, generation_word, seal_word}
 use Rattle.pm_redo.proofs.Parts.{not_le}
 
 -- a call with entries has yet to be decided
@@ -42,7 +42,7 @@ module _ (v w : View) (entries : List Redo) (n : ℕ) (can : CanLog v entries) (
   many : length w.log.entries ≤ 64
   many = let a = ap (λ (l : Log). length l.entries) log_so in let b = length-append (map (logged_entry v) entries) (ends_with v.fixed.shape v.fixed.lane v.log.generation ∷ []) in let c = length-map entries (logged_entry v) in let few = can.few in omega (arith, a, b, c, few)
 
-  pub numbered_lawful : value_in v (seal_word v) ≡ Some 0 → value_in v (generation_in v) ≡ Some v.log.generation → CanPerform (after w (Draw n))
+  pub numbered_lawful : value_in v (seal_word v) ≡ Some 0 → value_in v (generation_word v) ≡ Some v.log.generation → CanPerform (after w (Draw n))
   numbered_lawful seal generation = record {
     sealing = record {
       number = n;
@@ -55,5 +55,5 @@ module _ (v w : View) (entries : List Redo) (n : ℕ) (can : CanLog v entries) (
       known = ap (λ (f : Constants). value_in w (word_of_seal f.shape f.lane)) fixed_so ∙ ((is.known (seal_word v) (not_entry v.fixed.shape v.fixed.lane (seal_word v) (omega arith))).1 ∙ seal);
     };
     placed = record { front = is.placed.front; are = is.placed.are; each = still is.placed.front is.placed.each };
-    known = ap (λ (f : Constants). value_in w (word_of_generation f.shape f.lane)) fixed_so ∙ ((is.known (generation_in v) (not_entry v.fixed.shape v.fixed.lane (generation_in v) (omega arith))).1 ∙ (generation ∙ ap (λ (l : Log). Some l.generation) (sym log_so)));
+    known = ap (λ (f : Constants). value_in w (word_of_generation f.shape f.lane)) fixed_so ∙ ((is.known (generation_word v) (not_entry v.fixed.shape v.fixed.lane (generation_word v) (omega arith))).1 ∙ (generation ∙ ap (λ (l : Log). Some l.generation) (sym log_so)));
   }

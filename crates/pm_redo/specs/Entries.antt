@@ -11,7 +11,12 @@ use Rattle.pm_world.specs.Logs.{ends_with}
 
 -- an entry of the lane's list as its log has it, and one of its log as its list has it
 abbrev pub logged_entry : View → Redo → Entry
-logged_entry v e = record { word = e.place / 8; place = place_in v (e.place / 8); op = e.op; value = e.value }
+logged_entry v e = record {
+  word = e.place / 8;
+  place = place_in v (e.place / 8);
+  op = e.op;
+  value = e.value;
+}
 
 abbrev pub listed_entry : Entry → Redo
 listed_entry e = record { place = 8 * e.word; op = e.op; value = e.value }
@@ -30,7 +35,8 @@ no_entry = record { place = 0; op = Set; value = 0 }
 abbrev pub entry_at : List Redo → ℕ → Redo
 entry_at entries i = slice_index_or entries i no_entry
 
--- what the last of some entries that is of this word makes of it, where these values are found in the words
+-- what the last of some entries that is of this word makes of it, where these values are found
 abbrev pub last_made : (ℕ → ℕ) → List Entry → ℕ → Option ℕ
 last_made found [] w = None
-last_made found (e ∷ t) w = first_of_two (last_made (λ i. found (i + 1)) t w) (cond (e.word == w) (Some (outcome e.op e.value (found 0))) None)
+last_made found (e ∷ t) w = first_of_two (last_made (λ i. found (i + 1)) t w)
+    (cond (e.word == w) (Some (outcome e.op e.value (found 0))) None)

@@ -19,26 +19,30 @@ writes_pair sh lane i e = stores_from (word_of_entry sh lane i) (redo_words e)
 
 -- entries are stored in the pairs from the first on
 unfoldable pub writes_pairs : Shape → ℕ → List Redo → Plan
-writes_pairs sh lane entries = repeated (λ i. writes_pair sh lane i (entry_at entries i)) (length entries)
+writes_pairs sh lane entries =
+    repeated (λ i. writes_pair sh lane i (entry_at entries i)) (length entries)
 
 -- the last entry is stored after them, and all is made persistent
 unfoldable pub ends_entries : Shape → ℕ → ℕ → Redo → Plan
 ends_entries sh lane i e = in_turn (writes_pair sh lane i e) persists_all
 
 unfoldable pub writes_entries : Shape → ℕ → List Redo → Redo → Plan
-writes_entries sh lane entries e = in_turn (writes_pairs sh lane entries) (ends_entries sh lane (length entries) e)
+writes_entries sh lane entries e =
+    in_turn (writes_pairs sh lane entries) (ends_entries sh lane (length entries) e)
 
--- these entries are stored, and after them the one that ends the lane's generation; and all is made persistent
+-- these entries are stored, and after them the one that ends the lane's generation; and all is
+-- made persistent
 unfoldable pub writes_log : List Redo → Plan
-writes_log entries v = writes_entries v.fixed.shape v.fixed.lane entries (ending v.fixed.shape v.fixed.lane v.log.generation) v
+writes_log entries v = writes_entries v.fixed.shape v.fixed.lane entries
+    (ending v.fixed.shape v.fixed.lane v.log.generation) v
 
 -- ---- sealing it, and clearing the seal
 
--- the seal is stored and made persistent
+-- a seal is stored and made persistent
 unfoldable pub writes_seal : ℕ → ℕ → Plan
 writes_seal word n = in_turn (stores word n) (persists (word / 8))
 
--- the number of the log's entries is stored in the seal; and 0
+-- the seal becomes the number of the log's entries; and 0
 unfoldable pub seals : Plan
 seals v = writes_seal (word_of_seal v.fixed.shape v.fixed.lane) (length v.log.entries) v
 
@@ -56,25 +60,30 @@ does And w x found = ands w x found
 unfoldable pub applies_entry : Redo → ℕ → Plan
 applies_entry e found = does e.op (e.place / 8) e.value found
 
--- entries are applied in order, the one of number i where this is found
+-- entries are applied in order, that of number i where found i is found
 unfoldable pub applies_each : List Redo → (ℕ → ℕ) → Plan
-applies_each entries found = repeated (λ i. applies_entry (entry_at entries i) (found i)) (length entries)
+applies_each entries found =
+    repeated (λ i. applies_entry (entry_at entries i) (found i)) (length entries)
 
 -- and all is made persistent
 unfoldable pub applies_all : List Redo → (ℕ → ℕ) → Plan
 applies_all entries found = in_turn (applies_each entries found) persists_all
 
--- such plans may be carried out, whatever is found; and one was, or the first steps of it up to the lane's stop: that for what was found
+-- such a plan may be carried out, whatever is found
 unfoldable pub IsReadyFor : (View → Type 0) → ((ℕ → ℕ) → Plan) → Type 0
 IsReadyFor old plans = (found : ℕ → ℕ) → IsReady old (plans found)
 
-unfoldable pub RunsFor : {T : Type 0} → (View → Type 0) → (View → Type 0) → ((ℕ → ℕ) → Plan) → Result T Stopped → Type 0
+-- for what was found it was carried out, or the first steps of it up to the lane's stop
+unfoldable pub RunsFor : {T : Type 0} → (View → Type 0) → (View → Type 0) → ((ℕ → ℕ) → Plan)
+    → Result T Stopped → Type 0
 RunsFor old new plans result = (found : ℕ → ℕ) × Runs old new (plans found) result
 
--- those of the log
+-- the log's entries are applied
 unfoldable pub applies : (ℕ → ℕ) → Plan
 applies found v = applies_all (listed_entries v) found v
 
 -- ---- performing it
+
+-- it is sealed, its entries are applied, and its seal is cleared
 unfoldable pub performs : (ℕ → ℕ) → Plan
 performs found = in_turn seals (in_turn (applies found) clears)

@@ -1,4 +1,5 @@
--- WHAT REDO LOGGING DOES to a lane: by cases of what it answers, for each view that the lane's memory may be seen as.
+-- WHAT REDO LOGGING DOES to a lane: by cases of what it returns, for each view that the lane's
+-- memory may be seen as.
 use Rattle.std.specs.Prelude.{◌≡◌, ℕ, ◌+◌, ◌<◌, ◌≤◌, [], ◌∷◌, ◌++◌, length, Result, Ok, Err}
 use Rattle.pm_layout.specs.Areas.{redo_entries}
 use Rattle.pm_memory.specs.Runs.{Stops}
@@ -14,58 +15,87 @@ use Rattle.pm_redo.specs.Entries.{listed_entries}
 use Rattle.pm_redo.specs.Plans.{applies, clears, seals, writes_log}
 use Rattle.pm_redo.specs.Stages.{CanApply, CanClear, CanLog, CanSeal}
 
--- ---- an entry is put on the lane's list, or the list has as many as fit beside the one that ends the generation
+-- ---- listing an entry
 
+-- the entry is the last of the lane's list; or the list had as many as a log has room for beside
+-- the entry that ends the generation
 unfoldable pub HasPut : {M : Type 0} → Redo → Lane M → Lane M → Result (Unit {0}) Refusal → Type 0
-HasPut entry old new (Ok done) = (length old.entries.items + 1 < redo_entries old.shape) × (new.entries.items ≡ old.entries.items ++ entry ∷ []) × (new ≡ record old { entries = new.entries })
-HasPut entry old new (Err refusal.ActionsFull) = (redo_entries old.shape ≤ length old.entries.items + 1) × (new ≡ old)
+HasPut entry old new (Ok done) =
+    (length old.entries.items + 1 < redo_entries old.shape)
+    × (new.entries.items ≡ old.entries.items ++ entry ∷ [])
+    × (new ≡ record old { entries = new.entries })
+HasPut entry old new (Err refusal.ActionsFull) =
+    (redo_entries old.shape ≤ length old.entries.items + 1) × (new ≡ old)
 HasPut entry old new (Err r) = ⊥
 
 -- ---- writing the log
 
 -- the lane's memory may be seen so, and its list may be logged with this generation
-pub record MayLog {M : Type 0} (at : M → View → Type 0) (lane : Lane M) (generation : ℕ) (v : View) : Type 0 where
+pub record MayLog {M : Type 0} (at : M → View → Type 0) (lane : Lane M) (generation : ℕ) (v : View)
+    : Type 0 where
   pub memory : at lane.memory v
   pub shape : lane.shape ≡ v.fixed.shape
   pub generation_ : generation ≡ v.log.generation
   pub can : CanLog v lane.entries.items
 
--- THE LANE'S MEMORY MAY BE SEEN SO, and its list is of the entries that that view has logged
-pub record KeepsEntries {M : Type 0} (at : M → View → Type 0) (lane : Lane M) (v : View) : Type 0 where
+-- THE LANE'S MEMORY MAY BE SEEN SO, and its list is of the entries that this view has in its log
+pub record KeepsEntries {M : Type 0} (at : M → View → Type 0) (lane : Lane M) (v : View)
+    : Type 0 where
   pub memory : at lane.memory v
   pub shape : lane.shape ≡ v.fixed.shape
   pub entries : lane.entries.items ≡ listed_entries v
 
 -- the list was logged, and has the entry that ends the generation too; or the lane came to its stop
-abbrev pub LoggedAs : {M : Type 0} → (M → View → Type 0) → View → Lane M → Lane M → Result (Unit {0}) Stopped → Type 0
-LoggedAs at v old new (Ok done) = KeepsEntries at new (after_all v (writes_log old.entries.items v)) × (new ≡ record old { memory = new.memory; entries = new.entries })
-LoggedAs at v old new (Err stopped) = Stops (at new.memory) v (writes_log old.entries.items v) × (new ≡ record old { memory = new.memory })
+abbrev pub LoggedAs : {M : Type 0} → (M → View → Type 0) → View → Lane M → Lane M
+    → Result (Unit {0}) Stopped → Type 0
+LoggedAs at v old new (Ok done) =
+    KeepsEntries at new (after_all v (writes_log old.entries.items v))
+    × (new ≡ record old { memory = new.memory; entries = new.entries })
+LoggedAs at v old new (Err stopped) =
+    Stops (at new.memory) v (writes_log old.entries.items v)
+    × (new ≡ record old { memory = new.memory })
 
-unfoldable pub Logged : {M : Type 0} → (M → View → Type 0) → ℕ → Lane M → Lane M → Result (Unit {0}) Stopped → Type 0
-Logged at generation old new result = (v : View) → MayLog at old generation v → LoggedAs at v old new result
+unfoldable pub Logged : {M : Type 0} → (M → View → Type 0) → ℕ → Lane M → Lane M
+    → Result (Unit {0}) Stopped → Type 0
+Logged at generation old new result =
+    (v : View) → MayLog at old generation v → LoggedAs at v old new result
 
 -- ---- sealing it, and applying it
 
 -- the plan was carried out, and the list stays; or the first of it was, up to the stop
-abbrev pub CarriedAs : {M : Type 0} → (M → View → Type 0) → View → Plan → Lane M → Lane M → Result (Unit {0}) Stopped → Type 0
-CarriedAs at v plan old new (Ok done) = KeepsEntries at new (after_all v (plan v)) × (new ≡ record old { memory = new.memory })
-CarriedAs at v plan old new (Err stopped) = Stops (at new.memory) v (plan v) × (new ≡ record old { memory = new.memory })
+abbrev pub CarriedAs : {M : Type 0} → (M → View → Type 0) → View → Plan → Lane M → Lane M
+    → Result (Unit {0}) Stopped → Type 0
+CarriedAs at v plan old new (Ok done) =
+    KeepsEntries at new (after_all v (plan v)) × (new ≡ record old { memory = new.memory })
+CarriedAs at v plan old new (Err stopped) =
+    Stops (at new.memory) v (plan v) × (new ≡ record old { memory = new.memory })
 
-unfoldable pub Sealed : {M : Type 0} → (M → View → Type 0) → Lane M → Lane M → Result (Unit {0}) Stopped → Type 0
-Sealed at old new result = (v : View) → KeepsEntries at old v → CanSeal v → CarriedAs at v seals old new result
+unfoldable pub Sealed : {M : Type 0} → (M → View → Type 0) → Lane M → Lane M
+    → Result (Unit {0}) Stopped → Type 0
+Sealed at old new result =
+    (v : View) → KeepsEntries at old v → CanSeal v → CarriedAs at v seals old new result
 
--- for what each OR and AND found
-unfoldable pub Applied : {M : Type 0} → (M → View → Type 0) → Lane M → Lane M → Result (Unit {0}) Stopped → Type 0
-Applied at old new result = (found : ℕ → ℕ) × ((v : View) → KeepsEntries at old v → CanApply v → CarriedAs at v (applies found) old new result)
+-- that was the plan for what each OR and AND found
+unfoldable pub Applied : {M : Type 0} → (M → View → Type 0) → Lane M → Lane M
+    → Result (Unit {0}) Stopped → Type 0
+Applied at old new result = (found : ℕ → ℕ)
+    × ((v : View) → KeepsEntries at old v → CanApply v → CarriedAs at v (applies found) old new result)
 
--- ---- clearing the seal: the lists are empty then
+-- ---- clearing the seal
 
-abbrev pub ClearedAs : {M : Type 0} → (M → View → Type 0) → View → Lane M → Lane M → Result (Unit {0}) Stopped → Type 0
-ClearedAs at v old new (Ok done) = KeepsEntries at new (after_all v (clears v)) × (new.records.items ≡ []) × (new ≡ record old { memory = new.memory; records = new.records; entries = new.entries })
-ClearedAs at v old new (Err stopped) = Stops (at new.memory) v (clears v) × (new ≡ record old { memory = new.memory })
+-- the plan was carried out, and no entry and no record is listed; or the first of it was
+abbrev pub ClearedAs : {M : Type 0} → (M → View → Type 0) → View → Lane M → Lane M
+    → Result (Unit {0}) Stopped → Type 0
+ClearedAs at v old new (Ok done) =
+    KeepsEntries at new (after_all v (clears v)) × (new.records.items ≡ [])
+    × (new ≡ record old { memory = new.memory; records = new.records; entries = new.entries })
+ClearedAs at v old new (Err stopped) =
+    Stops (at new.memory) v (clears v) × (new ≡ record old { memory = new.memory })
 
-unfoldable pub Cleared : {M : Type 0} → (M → View → Type 0) → Lane M → Lane M → Result (Unit {0}) Stopped → Type 0
-Cleared at old new result = (v : View) → KeepsEntries at old v → CanClear v → ClearedAs at v old new result
+unfoldable pub Cleared : {M : Type 0} → (M → View → Type 0) → Lane M → Lane M
+    → Result (Unit {0}) Stopped → Type 0
+Cleared at old new result =
+    (v : View) → KeepsEntries at old v → CanClear v → ClearedAs at v old new result
 
 -- the lane may be seen so that it may do this
 abbrev pub StandsTo : {M : Type 0} → (M → View → Type 0) → Lane M → (View → Type 0) → Type 0

@@ -5,7 +5,7 @@ ghost use Rattle.pm_view.specs.Steps.Step.{Draw};
 ghost use Rattle.pm_view.specs.View.{View};
 ghost use Rattle.pm_view.specs.Views.{after, after_all, value_in};
 ghost use Rattle.pm_redo.specs.Plans.{applies, clears, performs, seals, writes_log};
-ghost use Rattle.pm_redo.specs.Stages.{CanApply, CanClear, CanLog, CanPerform, CanSeal, IsApplied, IsCleared, IsLogged, IsPerformed, IsSealed, generation_in, seal_word};
+ghost use Rattle.pm_redo.specs.Stages.{CanApply, CanClear, CanLog, CanPerform, CanSeal, IsApplied, IsCleared, IsLogged, IsPerformed, IsSealed, generation_word, seal_word};
 
 /// A law: a lane whose call is open, and that may enter each of these entries, may write a log of
 /// them; they stand in it then, and after them the one that ends the lane's generation. No code
@@ -46,6 +46,6 @@ pub fn logs_may_be_performed()
 /// as soon as its call has its number. No code runs.
 pub fn numbered_logs_may_be_performed()
     ensures { (v w : View) (entries : List Redo) (n : ℕ) → CanLog v entries → IsLogged v entries w
-        → value_in v (seal_word v) ≡ Some 0 → value_in v (generation_in v) ≡ Some v.log.generation
+        → value_in v (seal_word v) ≡ Some 0 → value_in v (generation_word v) ≡ Some v.log.generation
         → CanPerform (after w (Draw n)) }
 {}

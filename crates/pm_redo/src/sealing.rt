@@ -19,8 +19,8 @@ fn write_seal<M: LawfulMem>(mem: &mut M, word: u64, count: u64) -> Result<(), St
 }
 
 /// Seals the lane's log: the number of its entries is stored in the seal, and that is made
-/// persistent. As it is, the call is decided: a recovery applies the entries. Makes exactly the
-/// memory calls of `seals`.
+/// persistent. From then on the call is decided, and a recovery applies its entries. Makes exactly
+/// the memory calls of `seals`.
 ///
 /// # Errors
 ///
