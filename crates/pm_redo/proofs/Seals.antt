@@ -10,7 +10,7 @@ use Rattle.pm_view.specs.Claims.{Claim, Knows, Drained, Decided, class, known, p
 use Rattle.pm_view.specs.Counts.{DropsSome, FlushesSome}
 use Rattle.pm_view.specs.Entries.{redos}
 use Rattle.pm_view.specs.Log.{Log, Idle, Drawn, Sealing, Applying, Clearing, log_stored, next_log}
-use Rattle.pm_view.specs.Parts.{SealPart}
+use Rattle.pm_view.specs.Parts.{Part, part_of}
 use Rattle.pm_view.specs.Steps.Step.{Store, Flush, Drain}
 use Rattle.pm_view.specs.View.{View, runs_one}
 use Rattle.pm_view.specs.Views.{after, after_all, changed_from, drained_to, marked_by, value_in, was_of}
@@ -82,6 +82,9 @@ module _ (v : View) (can : CanSeal v) where
   abbrev seal : ℕ
   seal = word_of_seal v.fixed.shape v.fixed.lane
 
+  abbrev seal_part : Part
+  seal_part = part_of v.fixed.shape v.fixed.lane seal
+
   abbrev count : ℕ
   count = length v.log.entries
 
@@ -96,14 +99,14 @@ module _ (v : View) (can : CanSeal v) where
     inside = let low = can.lane in omega (arith, low);
     room = subst (λ (changes : List Undrained). length changes < 512) (sym can.drained) (omega arith);
     small = let few = can.few in omega (arith, few);
-    fits = subst (λ ph. StoreFits (record v { calls = n }) seal count ph (Rattle.pm_view.specs.Parts.part_of v.fixed.shape v.fixed.lane seal)) (sym can.drawn)
+    fits = subst (λ ph. StoreFits (record v { calls = n }) seal count ph seal_part) (sym can.drawn)
         (subst (λ q. StoreFits (record v { calls = n }) seal count (Drawn can.number) q) (sym (part_seal v.fixed.shape v.fixed.lane seal refl))
         (record { all = refl; known = can.known; whole = can.whole; below = can.below; drained = can.drained }));
   }
 
   seal_stores : (n : ℕ) → after (record v { calls = n }) (Store seal count) ≡ stored_as v seal count (value_in v seal) sealing v.log decided false (n + 1)
   seal_stores n =
-      ap (λ ph. changed_from (record v { calls = n }) seal all_bits (was_of ph (Rattle.pm_view.specs.Parts.part_of v.fixed.shape v.fixed.lane seal) (value_in v seal)) count (marked_by ph (Rattle.pm_view.specs.Parts.part_of v.fixed.shape v.fixed.lane seal) count v.claims) (log_stored v.fixed.shape (class v.claims) ph (Rattle.pm_view.specs.Parts.part_of v.fixed.shape v.fixed.lane seal) count v.log)) can.drawn
+      ap (λ ph. changed_from (record v { calls = n }) seal all_bits (was_of ph seal_part (value_in v seal)) count (marked_by ph seal_part count v.claims) (log_stored v.fixed.shape (class v.claims) ph seal_part count v.log)) can.drawn
       ∙ (ap (λ q. changed_from (record v { calls = n }) seal all_bits (was_of (Drawn can.number) q (value_in v seal)) count (marked_by (Drawn can.number) q count v.claims) (log_stored v.fixed.shape (class v.claims) (Drawn can.number) q count v.log)) (part_seal v.fixed.shape v.fixed.lane seal refl)
       ∙ ap (λ changes. record v { claims = Knows seal count ∷ v.claims; changes = change v seal count (value_in v seal) sealing v.log decided false ∷ changes; calls = n + 1; log = sealing }) can.drained)
 
@@ -125,6 +128,9 @@ module _ (v : View) (can : CanClear v) where
   abbrev seal_at : ℕ
   seal_at = word_of_seal v.fixed.shape v.fixed.lane
 
+  abbrev cleared_part : Part
+  cleared_part = part_of v.fixed.shape v.fixed.lane seal_at
+
   abbrev clearing : Log
   clearing = record v.log { phase = Clearing }
 
@@ -136,14 +142,14 @@ module _ (v : View) (can : CanClear v) where
     inside = let low = can.lane in omega (arith, low);
     room = subst (λ (changes : List Undrained). length changes < 512) (sym can.drained) (omega arith);
     small = omega arith;
-    fits = subst (λ ph. StoreFits (record v { calls = n }) seal_at 0 ph (Rattle.pm_view.specs.Parts.part_of v.fixed.shape v.fixed.lane seal_at)) (sym can.applied)
+    fits = subst (λ ph. StoreFits (record v { calls = n }) seal_at 0 ph cleared_part) (sym can.applied)
         (subst (λ q. StoreFits (record v { calls = n }) seal_at 0 (Applying []) q) (sym (part_seal v.fixed.shape v.fixed.lane seal_at refl))
         (record { zero_ = refl; known = can.known; all = refl; drained = can.drained }));
   }
 
   clear_stores : (n : ℕ) → after (record v { calls = n }) (Store seal_at 0) ≡ stored_as v seal_at 0 (value_in v seal_at) clearing v.log cleared false (n + 1)
   clear_stores n =
-      ap (λ ph. changed_from (record v { calls = n }) seal_at all_bits (was_of ph (Rattle.pm_view.specs.Parts.part_of v.fixed.shape v.fixed.lane seal_at) (value_in v seal_at)) 0 (marked_by ph (Rattle.pm_view.specs.Parts.part_of v.fixed.shape v.fixed.lane seal_at) 0 v.claims) (log_stored v.fixed.shape (class v.claims) ph (Rattle.pm_view.specs.Parts.part_of v.fixed.shape v.fixed.lane seal_at) 0 v.log)) can.applied
+      ap (λ ph. changed_from (record v { calls = n }) seal_at all_bits (was_of ph cleared_part (value_in v seal_at)) 0 (marked_by ph cleared_part 0 v.claims) (log_stored v.fixed.shape (class v.claims) ph cleared_part 0 v.log)) can.applied
       ∙ (ap (λ q. changed_from (record v { calls = n }) seal_at all_bits (was_of (Applying []) q (value_in v seal_at)) 0 (marked_by (Applying []) q 0 v.claims) (log_stored v.fixed.shape (class v.claims) (Applying []) q 0 v.log)) (part_seal v.fixed.shape v.fixed.lane seal_at refl)
       ∙ ap (λ changes. record v { claims = Knows seal_at 0 ∷ v.claims; changes = change v seal_at 0 (value_in v seal_at) clearing v.log cleared false ∷ changes; calls = n + 1; log = clearing }) can.drained)
 
