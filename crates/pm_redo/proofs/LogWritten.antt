@@ -49,7 +49,9 @@ module _ (v : View) (given : List Redo) (can : CanLog v given) where
     may = subst (EntersWord v (e.place / 8) e.op e.value) (sym is.at) is.may;
     gives = subst (λ o. IfSome o (λ p. EntryOf p e.op e.value)) (sym is.at) is.gives;
     aligned = is.aligned;
-    low = (let inside = inside_pool shape (class v.claims) (e.place / 8) is.place (is_at shape (class v.claims) (e.place / 8) is.place is.at) in let l = can.lanes in let z = can.zones in omega (arith, inside, l, z));
+    low = (let inside = inside_pool shape (class v.claims) (e.place / 8) is.place
+        (is_at shape (class v.claims) (e.place / 8) is.place is.at) in let l = can.lanes in let z =
+        can.zones in omega (arith, inside, l, z));
     small = is.small;
   }
 
@@ -57,11 +59,13 @@ module _ (v : View) (given : List Redo) (can : CanLog v given) where
   back = omega arith
 
   nowhere : place_in v (8 * word_of_generation shape lane / 8) ≡ None
-  nowhere = ap (place_at shape (class v.claims)) back ∙ no_place shape (class v.claims) lane can.lane
+  nowhere = ap (place_at shape (class v.claims)) back ∙ no_place shape (class v.claims) lane
+      can.lane
 
   can_end : CanPut v (ending shape lane v.log.generation)
   can_end = record {
-    may = subst (EntersWord v (8 * word_of_generation shape lane / 8) Set (v.log.generation + 1)) (sym nowhere) (back, refl, refl);
+    may = subst (EntersWord v (8 * word_of_generation shape lane / 8) Set (v.log.generation + 1))
+        (sym nowhere) (back, refl, refl);
     gives = subst (λ o. IfSome o (λ p. EntryOf p Set (v.log.generation + 1))) (sym nowhere) tt;
     aligned = omega arith;
     low = (let a = can.lane in let l = can.lanes in omega (arith, a, l));
@@ -69,7 +73,8 @@ module _ (v : View) (given : List Redo) (can : CanLog v given) where
   }
 
   ended_as : logged_entry v (ending shape lane v.log.generation) ≡ end_
-  ended_as = ap (λ w. with_place w (place_in v (8 * word_of_generation shape lane / 8))) back ∙ ap (with_place (word_of_generation shape lane)) nowhere
+  ended_as = ap (λ w. with_place w (place_in v (8 * word_of_generation shape lane / 8))) back
+      ∙ ap (with_place (word_of_generation shape lane)) nowhere
     where
       with_place : ℕ → Option Place → Entry
       with_place w o = record { word = w; place = o; op = Set; value = v.log.generation + 1 }
@@ -84,25 +89,39 @@ module _ (v : View) (given : List Redo) (can : CanLog v given) where
   many : (k : ℕ) → k ≤ length given → length (map (logged_entry v) (take k given)) ≡ k
   many k low = length-map (take k given) (logged_entry v) ∙ length-take-le k given low
 
-  next : (k : ℕ) → k < length given → Goes (Upto k) (writes_pair shape lane k (entry_at given k)) (Upto (k + 1))
+  next : (k : ℕ) → k < length given → Goes (Upto k) (writes_pair shape lane k (entry_at given k))
+      (Upto (k + 1))
   next k low =
       let e : Redo = get_or given k no_entry in
       let long = many k (omega (arith, low)) in
-      let goes = pair_goes v can.below can.lane can.unmaking e (can_put e (at_index (CanEnter v) given no_entry k can.each low)) (map (logged_entry v) (take k given)) (let f = can.few in omega (arith, long, low, f)) in
+      let goes = pair_goes v can.below can.lane can.unmaking e
+      (can_put e (at_index (CanEnter v) given no_entry k can.each low))
+      (map (logged_entry v) (take k given)) (let f = can.few in omega (arith, long, low, f)) in
       subst (λ n. Goes (Upto k) (writes_pair shape lane n e) (Upto (k + 1))) long
-      (subst (λ es. Goes (Upto k) (writes_pair shape lane (length (map (logged_entry v) (take k given))) e) (At es)) (sym (map-append (logged_entry v) (take k given) (e ∷ [])) ∙ ap (map (logged_entry v)) (sym (take_more given k no_entry low))) goes)
+      (subst (λ es. Goes (Upto k)
+      (writes_pair shape lane (length (map (logged_entry v) (take k given))) e) (At es))
+      (sym (map-append (logged_entry v) (take k given) (e ∷ [])) ∙ ap (map (logged_entry v))
+      (sym (take_more given k no_entry low))) goes)
 
   all_stored : Goes (Upto 0) (writes_pairs shape lane given) (At front)
   unfolding writes_pairs
-  all_stored = subst (λ es. Goes (Upto 0) (repeated (λ i. writes_pair shape lane i (entry_at given i)) (length given)) (At (map (logged_entry v) es))) (take_all (length given) given (omega arith))
+  all_stored =
+      subst (λ es. Goes (Upto 0) (repeated (λ i. writes_pair shape lane i (entry_at given i))
+      (length given)) (At (map (logged_entry v) es))) (take_all (length given) given (omega arith))
       (goes_repeated Upto (λ i. writes_pair shape lane i (entry_at given i)) (length given) next)
 
-  end_stored : Goes (At front) (writes_pair shape lane (length given) (ending shape lane v.log.generation)) (At (front ++ end_ ∷ []))
+  end_stored : Goes (At front)
+      (writes_pair shape lane (length given) (ending shape lane v.log.generation))
+      (At (front ++ end_ ∷ []))
   end_stored =
       let long = length-map given (logged_entry v) in
-      subst (λ n. Goes (At front) (writes_pair shape lane n (ending shape lane v.log.generation)) (At (front ++ end_ ∷ []))) long
-      (subst (λ e. Goes (At front) (writes_pair shape lane (length front) (ending shape lane v.log.generation)) (At (front ++ e ∷ []))) ended_as
-      (pair_goes v can.below can.lane can.unmaking (ending shape lane v.log.generation) can_end front (let f = can.few in omega (arith, long, f))))
+      subst (λ n. Goes (At front) (writes_pair shape lane n (ending shape lane v.log.generation))
+      (At (front ++ end_ ∷ []))) long
+      (subst (λ e. Goes (At front)
+      (writes_pair shape lane (length front) (ending shape lane v.log.generation))
+      (At (front ++ e ∷ []))) ended_as
+      (pair_goes v can.below can.lane can.unmaking (ending shape lane v.log.generation) can_end
+      front (let f = can.few in omega (arith, long, f))))
 
   -- ---- and made persistent
   abbrev entries : List Entry
@@ -113,8 +132,18 @@ module _ (v : View) (given : List Redo) (can : CanLog v given) where
 
   starts : Upto 0 v
   starts = (
-    ap (λ (l : Log). record v { log = l }) (ap (λ ph. record v.log { phase = ph }) can.is_open ∙ (ap (λ es. record v.log { phase = Open; entries = es }) can.unentered ∙ ap (λ p. record v.log { phase = Open; entries = []; pair = p }) can.whole.1)),
-    record { notes = []; are = refl; each = tt; classes = refl; locks = refl; rights = λ p how value r. r; knowns = λ y e. (refl, refl) },
+    ap (λ (l : Log). record v { log = l }) (ap (λ ph. record v.log { phase = ph }) can.is_open
+        ∙ (ap (λ es. record v.log { phase = Open; entries = es }) can.unentered
+        ∙ ap (λ p. record v.log { phase = Open; entries = []; pair = p }) can.whole.1)),
+    record {
+      notes = [];
+      are = refl;
+      each = tt;
+      classes = refl;
+      locks = refl;
+      rights = λ p how value r. r;
+      knowns = λ y e. (refl, refl);
+    },
   )
 
   -- ---- what that leaves
@@ -122,9 +151,15 @@ module _ (v : View) (given : List Redo) (can : CanLog v given) where
   Facts = Entered v can.below can.lane can.unmaking
 
   abbrev logged : List Claim → ℕ → View
-  logged t calls = record v { claims = t; changes = []; calls = calls; log = record v.log { entries = entries } }
+  logged t calls = record v {
+    claims = t;
+    changes = [];
+    calls = calls;
+    log = record v.log { entries = entries };
+  }
 
-  of_place : (t : List Claim) (calls : ℕ) → Facts t → (e : Redo) → CanEnter v e → IsOfPlace (logged t calls) (logged_entry v e)
+  of_place : (t : List Claim) (calls : ℕ) → Facts t → (e : Redo) → CanEnter v e
+      → IsOfPlace (logged t calls) (logged_entry v e)
   of_place t calls m e is = record {
     place = is.place;
     is = is.at;
@@ -133,47 +168,94 @@ module _ (v : View) (given : List Redo) (can : CanLog v given) where
     small = is.small;
   }
 
-  of_places : (t : List Claim) (calls : ℕ) → Facts t → (es : List Redo) → AllByRecursion (CanEnter v) es → AllByRecursion (IsOfPlace (logged t calls)) (map (logged_entry v) es)
+  of_places : (t : List Claim) (calls : ℕ) → Facts t → (es : List Redo)
+      → AllByRecursion (CanEnter v) es → AllByRecursion (IsOfPlace (logged t calls))
+      (map (logged_entry v) es)
   of_places t calls m [] all = tt
   of_places t calls m (e ∷ es) all = (of_place t calls m e all.0, of_places t calls m es all.1)
 
-  all_placed : (es : List Redo) → AllByRecursion (CanEnter v) es → AllByRecursion (λ (e : Entry). e.place ≢ None) (map (logged_entry v) es)
+  all_placed : (es : List Redo) → AllByRecursion (CanEnter v) es
+      → AllByRecursion (λ (e : Entry). e.place ≢ None) (map (logged_entry v) es)
   all_placed [] all = tt
-  all_placed (e ∷ es) all = ((λ none. none-some all.0.place (sym none ∙ all.0.at)), all_placed es all.1)
+  all_placed (e ∷ es) all = (
+    (λ none. none-some all.0.place (sym none ∙ all.0.at)),
+    all_placed es
+        all.1,
+  )
 
   -- the lane has locked the lines that are to guard the root word
-  keeps_root : (t : List Claim) (calls : ℕ) → Facts t → (e : Redo) → CanEnter v e → KeepsRoot (logged t calls) (logged_entry v e)
+  keeps_root : (t : List Claim) (calls : ℕ) → Facts t → (e : Redo) → CanEnter v e
+      → KeepsRoot (logged t calls) (logged_entry v e)
   keeps_root t calls m e is root =
-      let enters : EntersAt v RootWord e.op e.value = subst (λ p. EntersAt v p e.op e.value) (same_Some is.place RootWord (sym is.at ∙ root)) is.may in
-      (enters.1, is.small, subst (λ held. all_held held (0 ∷ root_line e.value) ≡ true) (sym m.locks) enters.2)
+      let enters : EntersAt v RootWord e.op e.value = subst (λ p. EntersAt v p e.op e.value)
+      (same_Some is.place RootWord (sym is.at ∙ root)) is.may in (
+        enters.1,
+        is.small,
+        subst (λ held. all_held held (0 ∷ root_line e.value) ≡ true)
+            (sym m.locks) enters.2,
+      )
 
-  all_root : (t : List Claim) (calls : ℕ) → Facts t → (es : List Redo) → AllByRecursion (CanEnter v) es → AllByRecursion (KeepsRoot (logged t calls)) (map (logged_entry v) es ++ end_ ∷ [])
+  all_root : (t : List Claim) (calls : ℕ) → Facts t → (es : List Redo) → AllByRecursion (CanEnter v)
+      es → AllByRecursion (KeepsRoot (logged t calls)) (map (logged_entry v) es ++ end_ ∷ [])
   all_root t calls m [] all = ((λ root. absurd (none-some RootWord root)), tt)
   all_root t calls m (e ∷ es) all = (keeps_root t calls m e all.0, all_root t calls m es all.1)
 
-  same_log : (t : List Claim) (calls : ℕ) → now v can.below can.lane can.unmaking t [] calls entries [] ≡ logged t calls
-  same_log t calls = ap (λ (l : Log). record v { claims = t; changes = []; calls = calls; log = l }) (ap (λ ph. record v.log { phase = ph; entries = entries; pair = [] }) (sym can.is_open) ∙ ap (λ p. record v.log { entries = entries; pair = p }) (sym can.whole.1))
+  same_log : (t : List Claim) (calls : ℕ) → now v can.below can.lane can.unmaking t [] calls entries
+      [] ≡ logged t calls
+  same_log t calls = ap (λ (l : Log). record v { claims = t; changes = []; calls = calls; log = l })
+      (ap (λ ph. record v.log { phase = ph; entries = entries; pair = [] }) (sym can.is_open)
+      ∙ ap (λ p. record v.log { entries = entries; pair = p }) (sym can.whole.1))
 
   is_logged : (u : View) → HasEnded u → IsLogged v given u
   is_logged u p =
       let f : Facts u.claims = p.0.1 in
-      let same : u ≡ logged u.claims u.calls = p.0.0 ∙ (ap (λ changes. now v can.below can.lane can.unmaking u.claims changes u.calls entries []) p.1 ∙ same_log u.claims u.calls) in
+      let same : u ≡ logged u.claims u.calls = p.0.0
+      ∙ (ap (λ changes. now v can.below can.lane can.unmaking u.claims changes u.calls entries
+      []) p.1 ∙ same_log u.claims u.calls) in
       record {
         same = same;
         noted = record { notes = f.notes; are = f.are; each = f.each };
-        known = λ y not_entry. let k = f.knowns y not_entry in (ap (λ (z : View). known z.fixed.shape (runs_one z) u.claims y) same ∙ k.0, ap (λ (z : View). pictured z.fixed.shape u.claims y) same ∙ k.1);
-        whole = subst (λ (z : View). AreWhole z.fixed.shape z.fixed.lane z.log) (sym same) (record { front = front; are = refl; placed = All-from_recursion (λ (e : Entry). e.place ≢ None) front (all_placed given can.each) });
-        placed = subst AreOfPlaces (sym same) (record { front = front; are = refl; each = of_places u.claims u.calls f given can.each });
-        root = subst (λ (z : View). All (KeepsRoot z) z.log.entries) (sym same) (All-from_recursion (KeepsRoot (logged u.claims u.calls)) entries (all_root u.claims u.calls f given can.each));
+        known = λ y not_entry. let k = f.knowns y not_entry in (
+          ap (λ (z : View). known z.fixed.shape (runs_one z) u.claims y) same
+              ∙ k.0,
+          ap (λ (z : View). pictured z.fixed.shape u.claims y) same ∙ k.1,
+        );
+        whole = subst (λ (z : View). AreWhole z.fixed.shape z.fixed.lane z.log) (sym same)
+            (record {
+              front = front;
+              are = refl;
+              placed = All-from_recursion (λ (e : Entry). e.place ≢ None) front
+                  (all_placed given can.each);
+            });
+        placed = subst AreOfPlaces (sym same) (record {
+          front = front;
+          are = refl;
+          each = of_places u.claims u.calls f given can.each;
+        });
+        root = subst (λ (z : View). All (KeepsRoot z) z.log.entries) (sym same)
+            (All-from_recursion (KeepsRoot (logged u.claims u.calls)) entries
+            (all_root u.claims u.calls f given can.each));
       }
 
   -- WRITING A LOG IS LAWFUL
-  pub log_lawful : Ready v (writes_log given v) × IsLogged v given (after_all v (writes_log given v))
+  pub log_lawful : Ready v (writes_log given v)
+      × IsLogged v given (after_all v (writes_log given v))
   unfolding writes_log writes_entries ends_entries
   log_lawful =
-      let goes : Goes (Upto 0) (in_turn (writes_pairs shape lane given) (in_turn (writes_pair shape lane (length given) (ending shape lane v.log.generation)) persists_all)) HasEnded
-      = goes_then (Upto 0) (At front) HasEnded (writes_pairs shape lane given) (in_turn (writes_pair shape lane (length given) (ending shape lane v.log.generation)) persists_all) all_stored
-      (goes_then (At front) (At entries) HasEnded (writes_pair shape lane (length given) (ending shape lane v.log.generation)) persists_all end_stored
+      let goes : Goes (Upto 0)
+      (in_turn (writes_pairs shape lane given)
+      (in_turn (writes_pair shape lane (length given) (ending shape lane v.log.generation))
+      persists_all)) HasEnded
+      = goes_then (Upto 0) (At front) HasEnded (writes_pairs shape lane given)
+      (in_turn (writes_pair shape lane (length given) (ending shape lane v.log.generation))
+      persists_all) all_stored
+      (goes_then (At front) (At entries) HasEnded
+      (writes_pair shape lane (length given) (ending shape lane v.log.generation)) persists_all
+      end_stored
       (goes_persist (At entries) HasEnded (stays v can.below can.lane can.unmaking entries []))) in
-      let t = goes v starts in
-      (t.0, is_logged (after_all v (writes_entries shape lane given (ending shape lane v.log.generation) v)) t.1)
+      let t = goes v starts in (
+        t.0,
+        is_logged
+            (after_all v (writes_entries shape lane given (ending shape lane v.log.generation) v))
+            t.1,
+      )

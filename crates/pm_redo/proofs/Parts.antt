@@ -1,4 +1,5 @@
--- What the words are to a lane that redo logging steps on: its seal, its entries, and words of places of the pool.
+-- What the words are to a lane that redo logging steps on: its seal, its entries, and words of
+-- places of the pool.
 use Rattle.std.proofs.Common.{◌≡◌, ◌⊎◌, inl, inr, ⊎_elim, ℕ, ◌+◌, ◌*◌, ◌<◌, ◌≤◌, nat_le, nat_lt, true, false, cond, ◌==◌, refl, sym, ◌∙◌, subst, arith, eq-eqb, ne_eqb, Some, None}
 use Rattle.std.specs.Prelude.{if◌then◌else◌}
 use Rattle.std.proofs.lemmas.Bool.{and_from, and_left, cond-true, cond-false, false_from_ne_true, le-leb, lt-ltb, leb-true, ltb-true}
@@ -13,10 +14,12 @@ use Rattle.pm_plan.specs.Notes.{IsBeyond}
 use Rattle.pm_plan.proofs.AreaParts.{part_beyond}
 
 not_lt : (a b : ℕ) → b ≤ a → nat_lt a b ≡ false
-not_lt a b le = false_from_ne_true (nat_lt a b) (λ t. let l = ltb-true a b t in omega (arith, l, le))
+not_lt a b le = false_from_ne_true (nat_lt a b) (λ t. let l = ltb-true a b t in
+    omega (arith, l, le))
 
 pub not_le : (a b : ℕ) → b < a → nat_le a b ≡ false
-not_le a b lt = false_from_ne_true (nat_le a b) (λ t. let l = leb-true a b t in omega (arith, l, lt))
+not_le a b lt = false_from_ne_true (nat_le a b) (λ t. let l = leb-true a b t in
+    omega (arith, l, lt))
 
 module _ (sh : Shape) (lane w : ℕ) where
   abbrev slot_or : Part
@@ -30,24 +33,40 @@ module _ (sh : Shape) (lane w : ℕ) where
 
   pub part_seal : w ≡ word_of_seal sh lane → part_of sh lane w ≡ SealPart
   part_seal is =
-      cond-false (w == word_of_generation sh lane) GenerationPart seal_or (ne_eqb w (word_of_generation sh lane) (λ e. omega (arith, e, is)))
+      cond-false (w == word_of_generation sh lane) GenerationPart seal_or
+      (ne_eqb w (word_of_generation sh lane) (λ e. omega (arith, e, is)))
       ∙ cond-true (w == word_of_seal sh lane) SealPart entry_or (eq-eqb w (word_of_seal sh lane) is)
 
-  pub entry_word : (i j : ℕ) → i < 64 → j < 2 → w ≡ word_of_entry sh lane i + j → is_entry_word sh lane w ≡ true
-  entry_word i j few small at = and_from (nat_le (word_of_entry sh lane 0) w) (nat_lt w (word_of_entry sh lane (redo_entries sh))) (le-leb (word_of_entry sh lane 0) w (omega (arith, at))) (lt-ltb w (word_of_entry sh lane (redo_entries sh)) (omega (arith, few, small, at)))
+  pub entry_word : (i j : ℕ) → i < 64 → j < 2 → w ≡ word_of_entry sh lane i + j
+      → is_entry_word sh lane w ≡ true
+  entry_word i j few small at = and_from (nat_le (word_of_entry sh lane 0) w)
+      (nat_lt w (word_of_entry sh lane (redo_entries sh)))
+      (le-leb (word_of_entry sh lane 0) w (omega (arith, at)))
+      (lt-ltb w (word_of_entry sh lane (redo_entries sh)) (omega (arith, few, small, at)))
 
-  pub part_entry : (i j : ℕ) → i < 64 → j < 2 → w ≡ word_of_entry sh lane i + j → part_of sh lane w ≡ EntryPart
+  pub part_entry : (i j : ℕ) → i < 64 → j < 2 → w ≡ word_of_entry sh lane i + j
+      → part_of sh lane w ≡ EntryPart
   part_entry i j few small at =
-      cond-false (w == word_of_generation sh lane) GenerationPart seal_or (ne_eqb w (word_of_generation sh lane) (λ e. omega (arith, e, at)))
-      ∙ (cond-false (w == word_of_seal sh lane) SealPart entry_or (ne_eqb w (word_of_seal sh lane) (λ e. omega (arith, e, at)))
+      cond-false (w == word_of_generation sh lane) GenerationPart seal_or
+      (ne_eqb w (word_of_generation sh lane) (λ e. omega (arith, e, at)))
+      ∙ (cond-false (w == word_of_seal sh lane) SealPart entry_or
+      (ne_eqb w (word_of_seal sh lane) (λ e. omega (arith, e, at)))
       ∙ cond-true (is_entry_word sh lane w) EntryPart slot_or (entry_word i j few small at))
 
   part_root : w ≡ 64 → part_of sh lane w ≡ pool_part sh w
   part_root is =
-      cond-false (w == word_of_generation sh lane) GenerationPart seal_or (ne_eqb w (word_of_generation sh lane) (λ e. omega (arith, e, is)))
-      ∙ (cond-false (w == word_of_seal sh lane) SealPart entry_or (ne_eqb w (word_of_seal sh lane) (λ e. omega (arith, e, is)))
-      ∙ (cond-false (is_entry_word sh lane w) EntryPart slot_or (and_left (nat_le (word_of_entry sh lane 0) w) (nat_lt w (word_of_entry sh lane (redo_entries sh))) (not_le (word_of_entry sh lane 0) w (omega (arith, is))))
-      ∙ cond-false (is_slot_word sh lane w) SlotPart (pool_part sh w) (and_left (nat_le (8 * line_of_slot sh lane 0) w) (nat_lt w (8 * line_of_slot sh lane (undo_slots sh))) (not_le (8 * line_of_slot sh lane 0) w (omega (arith, is))))))
+      cond-false (w == word_of_generation sh lane) GenerationPart seal_or
+      (ne_eqb w (word_of_generation sh lane) (λ e. omega (arith, e, is)))
+      ∙ (cond-false (w == word_of_seal sh lane) SealPart entry_or
+      (ne_eqb w (word_of_seal sh lane) (λ e. omega (arith, e, is)))
+      ∙ (cond-false (is_entry_word sh lane w) EntryPart slot_or
+      (and_left (nat_le (word_of_entry sh lane 0) w)
+      (nat_lt w (word_of_entry sh lane (redo_entries sh)))
+      (not_le (word_of_entry sh lane 0) w (omega (arith, is))))
+      ∙ cond-false (is_slot_word sh lane w) SlotPart (pool_part sh w)
+      (and_left (nat_le (8 * line_of_slot sh lane 0) w)
+      (nat_lt w (8 * line_of_slot sh lane (undo_slots sh)))
+      (not_le (8 * line_of_slot sh lane 0) w (omega (arith, is))))))
 
   module _ (class : ℕ → ℕ) where
     -- a word of a place is the root's, or past the lanes' areas
@@ -60,12 +79,17 @@ module _ (sh : Shape) (lane w : ℕ) where
     pub place_outside : (p : Place) → place_at sh class w ≡ Some p → (w ≡ 64) ⊎ IsBeyond sh w
     place_outside p at = outside p (is_at sh class w p at)
 
-    pub part_placed : lane < sh.lanes → (p : Place) → place_at sh class w ≡ Some p → part_of sh lane w ≡ pool_part sh w
-    part_placed low p at = ⊎_elim part_root (λ (far : IsBeyond sh w). part_beyond sh lane w low far) (place_outside p at)
+    pub part_placed : lane < sh.lanes → (p : Place) → place_at sh class w ≡ Some p
+        → part_of sh lane w ≡ pool_part sh w
+    part_placed low p at = ⊎_elim part_root (λ (far : IsBeyond sh w). part_beyond sh lane w low far)
+        (place_outside p at)
 
     -- what is so of the root's word, of descriptors and of words of chunks is so of words of places
-    pub by_part : lane < sh.lanes → (p : Place) → place_at sh class w ≡ Some p → (P : Part → Type 0) → (p ≡ RootWord → P RootPart) → ((c : ℕ) → P (DescriptorPart c)) → ((c u : ℕ) → P (ChunkPart c u)) → P (part_of sh lane w)
-    by_part low p at P root descriptor chunk = subst P (sym (part_placed low p at)) (go (pool_part sh w) at)
+    pub by_part : lane < sh.lanes → (p : Place) → place_at sh class w ≡ Some p → (P : Part → Type 0)
+        → (p ≡ RootWord → P RootPart) → ((c : ℕ) → P (DescriptorPart c))
+        → ((c u : ℕ) → P (ChunkPart c u)) → P (part_of sh lane w)
+    by_part low p at P root descriptor chunk = subst P (sym (part_placed low p at))
+        (go (pool_part sh w) at)
       where
         go : (q : Part) → place_in class q ≡ Some p → P q
         go RootPart s = root (sym (same_Some RootWord p s))
@@ -78,9 +102,14 @@ module _ (sh : Shape) (lane w : ℕ) where
         go OtherPart s = absurd (none-some p s)
 
 -- the word of a lane's generation is no place
-pub no_place : (sh : Shape) (class : ℕ → ℕ) (lane : ℕ) → lane < sh.lanes → place_at sh class (word_of_generation sh lane) ≡ None
+pub no_place : (sh : Shape) (class : ℕ → ℕ) (lane : ℕ) → lane < sh.lanes
+    → place_at sh class (word_of_generation sh lane) ≡ None
 no_place sh class lane low = go (place_at sh class (word_of_generation sh lane)) refl
   where
-    go : (o : Rattle.std.specs.Prelude.Option Place) → place_at sh class (word_of_generation sh lane) ≡ o → o ≡ None
+    go : (o : Rattle.std.specs.Prelude.Option Place)
+        → place_at sh class (word_of_generation sh lane) ≡ o → o ≡ None
     go None e = refl
-    go (Some p) e = absurd (⊎_elim (λ (root : word_of_generation sh lane ≡ 64). let r = root in omega (arith, r)) (λ (far : IsBeyond sh (word_of_generation sh lane)). omega (arith, far, low)) (place_outside sh lane (word_of_generation sh lane) class p e))
+    go (Some p) e =
+        absurd (⊎_elim (λ (root : word_of_generation sh lane ≡ 64). let r = root in
+        omega (arith, r)) (λ (far : IsBeyond sh (word_of_generation sh lane)). omega
+        (arith, far, low)) (place_outside sh lane (word_of_generation sh lane) class p e))

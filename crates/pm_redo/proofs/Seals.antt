@@ -30,10 +30,20 @@ is_true false e = absurd (both_ways false refl e)
 -- a word is stored, its line flushed, and that drained, where nothing was undrained
 module _ (v : View) (w x : ℕ) (was : Option ℕ) (mid last : Log) (ended : List Claim) where
   abbrev change : Bool → Undrained
-  change flushed = record { word = w; mask = all_bits; old = option_map (λ old. bit_and old all_bits) was; flushed = flushed }
+  change flushed = record {
+    word = w;
+    mask = all_bits;
+    old = option_map (λ old. bit_and old all_bits) was;
+    flushed = flushed;
+  }
 
   abbrev stored_as : Bool → ℕ → View
-  stored_as flushed n = record v { claims = Knows w x ∷ v.claims; changes = change flushed ∷ []; calls = n; log = mid }
+  stored_as flushed n = record v {
+    claims = Knows w x ∷ v.claims;
+    changes = change flushed ∷ [];
+    calls = n;
+    log = mid;
+  }
 
   abbrev ended_as : ℕ → View
   ended_as n = record v { claims = ended; changes = []; calls = n; log = last }
@@ -47,10 +57,19 @@ module _ (v : View) (w x : ℕ) (was : Option ℕ) (mid last : Log) (ended : Lis
   abbrev EndedSo : View → Type 0
   EndedSo u = u ≡ ended_as u.calls
 
-  module _ (none : v.changes ≡ []) (may : (n : ℕ) → MayStore (record v { calls = n }) w x) (stores_so : (n : ℕ) → after (record v { calls = n }) (Store w x) ≡ stored_as false (n + 1)) (drains_so : (n : ℕ) → drained_to (stored_as true n) [] ≡ ended_as (n + 1)) where
+  module _ (none : v.changes ≡ []) (may : (n : ℕ) → MayStore (record v { calls = n }) w x)
+      (stores_so : (n : ℕ) → after (record v { calls = n }) (Store w x) ≡ stored_as false (n + 1))
+      (drains_so : (n : ℕ) → drained_to (stored_as true n) [] ≡ ended_as (n + 1)) where
     stays : (u t : View) → Before u → IsPersisted u t → Before t
-    stays u t same is = is ∙ (ap (λ changes. record u { claims = claims_persisted changes u.log u.claims; changes = []; calls = t.calls; log = log_persisted changes u.log }) empty
-        ∙ (ap (λ (y : View). record y { changes = []; calls = t.calls }) same ∙ ap (λ changes. record v { changes = changes; calls = t.calls }) (sym none)))
+    stays u t same is = is
+        ∙ (ap (λ changes. record u {
+          claims = claims_persisted changes u.log u.claims;
+          changes = [];
+          calls = t.calls;
+          log = log_persisted changes u.log;
+        }) empty
+        ∙ (ap (λ (y : View). record y { changes = []; calls = t.calls }) same
+        ∙ ap (λ changes. record v { changes = changes; calls = t.calls }) (sym none)))
       where
         empty : u.changes ≡ []
         empty = ap (λ (y : View). y.changes) same ∙ none
@@ -63,16 +82,39 @@ module _ (v : View) (w x : ℕ) (was : Option ℕ) (mid last : Log) (ended : Lis
 
     pub seal_goes : Goes Before (writes_seal w x) EndedSo
     unfolding writes_seal persists
-    seal_goes = goes_then Before (StoredSo false) EndedSo (stores w x) (in_turn (one (Flush (w / 8))) (one Drain))
-        (goes_stores Before (StoredSo false) w x stays (λ u same room. (subst (λ (y : View). MayStore y w x) (sym same) (may u.calls), stored u same)))
+    seal_goes = goes_then Before (StoredSo false) EndedSo (stores w x)
+        (in_turn (one (Flush (w / 8))) (one Drain))
+        (goes_stores Before (StoredSo false) w x stays
+        (λ u same room. (
+          subst (λ (y : View). MayStore y w x) (sym same) (may u.calls),
+          stored u same,
+        )))
         (goes_then (StoredSo false) (StoredSo true) EndedSo (one (Flush (w / 8))) (one Drain)
         (goes_one (StoredSo false) (StoredSo true) (Flush (w / 8)) (λ u same. (
-          subst (λ (y : View). FlushesSome (w / 8) y.changes) (sym same) (0, change false, omega arith, refl, (is_true (w / 8 == w / 8) (eq-eqb (w / 8) (w / 8) refl), refl)),
+          subst (λ (y : View). FlushesSome (w / 8) y.changes) (sym same) (
+            0,
+            change false,
+            omega arith,
+            refl,
+            (is_true (w / 8 == w / 8) (eq-eqb (w / 8) (w / 8) refl), refl),
+          ),
           tt,
-          ap (λ (y : View). after y (Flush (w / 8))) same ∙ ap (λ c. record v { claims = Knows w x ∷ v.claims; changes = c ∷ []; calls = u.calls + 1; log = mid }) marked,
+          ap (λ (y : View). after y (Flush (w / 8))) same
+              ∙ ap (λ c. record v {
+                claims = Knows w x ∷ v.claims;
+                changes = c ∷ [];
+                calls = u.calls + 1;
+                log = mid;
+              }) marked,
         )))
         (goes_one (StoredSo true) EndedSo Drain (λ u same. (
-          subst (λ (y : View). DropsSome y.changes) (sym same) (0, change true, omega arith, refl, refl),
+          subst (λ (y : View). DropsSome y.changes) (sym same) (
+            0,
+            change true,
+            omega arith,
+            refl,
+            refl,
+          ),
           tt,
           ap (λ (y : View). after y Drain) same ∙ drains_so u.calls,
         ))))
@@ -97,29 +139,53 @@ module _ (v : View) (can : CanSeal v) where
   seal_may : (n : ℕ) → MayStore (record v { calls = n }) seal count
   seal_may n = record {
     inside = let low = can.lane in omega (arith, low);
-    room = subst (λ (changes : List Undrained). length changes < 512) (sym can.drained) (omega arith);
+    room = subst (λ (changes : List Undrained). length changes < 512) (sym can.drained)
+        (omega arith);
     small = let few = can.few in omega (arith, few);
     fits = subst (λ ph. StoreFits (record v { calls = n }) seal count ph seal_part) (sym can.drawn)
-        (subst (λ q. StoreFits (record v { calls = n }) seal count (Drawn can.number) q) (sym (part_seal v.fixed.shape v.fixed.lane seal refl))
-        (record { all = refl; known = can.known; whole = can.whole; below = can.below; drained = can.drained }));
+        (subst (λ q. StoreFits (record v { calls = n }) seal count (Drawn can.number) q)
+        (sym (part_seal v.fixed.shape v.fixed.lane seal refl))
+        (record {
+          all = refl;
+          known = can.known;
+          whole = can.whole;
+          below = can.below;
+          drained = can.drained;
+        }));
   }
 
-  seal_stores : (n : ℕ) → after (record v { calls = n }) (Store seal count) ≡ stored_as v seal count (value_in v seal) sealing v.log decided false (n + 1)
+  seal_stores : (n : ℕ) → after (record v { calls = n }) (Store seal count) ≡ stored_as v seal count
+      (value_in v seal) sealing v.log decided false (n + 1)
   seal_stores n =
-      ap (λ ph. changed_from (record v { calls = n }) seal all_bits (was_of ph seal_part (value_in v seal)) count (marked_by ph seal_part count v.claims) (log_stored v.fixed.shape (class v.claims) ph seal_part count v.log)) can.drawn
-      ∙ (ap (λ q. changed_from (record v { calls = n }) seal all_bits (was_of (Drawn can.number) q (value_in v seal)) count (marked_by (Drawn can.number) q count v.claims) (log_stored v.fixed.shape (class v.claims) (Drawn can.number) q count v.log)) (part_seal v.fixed.shape v.fixed.lane seal refl)
-      ∙ ap (λ changes. record v { claims = Knows seal count ∷ v.claims; changes = change v seal count (value_in v seal) sealing v.log decided false ∷ changes; calls = n + 1; log = sealing }) can.drained)
+      ap (λ ph. changed_from (record v { calls = n }) seal all_bits
+      (was_of ph seal_part (value_in v seal)) count (marked_by ph seal_part count v.claims)
+      (log_stored v.fixed.shape (class v.claims) ph seal_part count v.log)) can.drawn
+      ∙ (ap (λ q. changed_from (record v { calls = n }) seal all_bits
+      (was_of (Drawn can.number) q (value_in v seal)) count
+      (marked_by (Drawn can.number) q count v.claims) (log_stored v.fixed.shape (class v.claims)
+      (Drawn can.number) q count v.log)) (part_seal v.fixed.shape v.fixed.lane seal refl)
+      ∙ ap (λ changes. record v {
+        claims = Knows seal count ∷ v.claims;
+        changes = change v seal count (value_in v seal) sealing v.log decided false ∷ changes;
+        calls = n + 1;
+        log = sealing;
+      }) can.drained)
 
   pub seal_lawful : Ready v (seals v) × IsSealed v (after_all v (seals v))
   unfolding seals
   seal_lawful =
-      let t = seal_goes v seal count (value_in v seal) sealing (record v.log { phase = Applying v.log.entries }) decided can.drained seal_may seal_stores (λ n. refl) v refl in
+      let t = seal_goes v seal count (value_in v seal) sealing
+      (record v.log { phase = Applying v.log.entries }) decided can.drained seal_may seal_stores
+      (λ n. refl) v refl in
       let u : View = after_all v (writes_seal seal count v) in (
         t.0,
         record {
           same = t.1;
-          seal = ap (λ (z : View). value_in z seal) t.1 ∙ cond-true (seal == seal) (Some count) (pictured v.fixed.shape v.claims seal) (eq-eqb seal seal refl);
-          seen = λ y other. ap (λ (z : View). value_in z y) t.1 ∙ cond-false (seal == y) (Some count) (pictured v.fixed.shape v.claims y) (ne_eqb seal y (λ e. other (sym e)));
+          seal = ap (λ (z : View). value_in z seal) t.1 ∙ cond-true (seal == seal) (Some count)
+              (pictured v.fixed.shape v.claims seal) (eq-eqb seal seal refl);
+          seen = λ y other. ap (λ (z : View). value_in z y) t.1
+              ∙ cond-false (seal == y) (Some count) (pictured v.fixed.shape v.claims y)
+              (ne_eqb seal y (λ e. other (sym e)));
         },
       )
 
@@ -140,34 +206,62 @@ module _ (v : View) (can : CanClear v) where
   clear_may : (n : ℕ) → MayStore (record v { calls = n }) seal_at 0
   clear_may n = record {
     inside = let low = can.lane in omega (arith, low);
-    room = subst (λ (changes : List Undrained). length changes < 512) (sym can.drained) (omega arith);
+    room = subst (λ (changes : List Undrained). length changes < 512) (sym can.drained)
+        (omega arith);
     small = omega arith;
-    fits = subst (λ ph. StoreFits (record v { calls = n }) seal_at 0 ph cleared_part) (sym can.applied)
-        (subst (λ q. StoreFits (record v { calls = n }) seal_at 0 (Applying []) q) (sym (part_seal v.fixed.shape v.fixed.lane seal_at refl))
+    fits = subst (λ ph. StoreFits (record v { calls = n }) seal_at 0 ph cleared_part)
+        (sym can.applied)
+        (subst (λ q. StoreFits (record v { calls = n }) seal_at 0 (Applying []) q)
+        (sym (part_seal v.fixed.shape v.fixed.lane seal_at refl))
         (record { zero_ = refl; known = can.known; all = refl; drained = can.drained }));
   }
 
-  clear_stores : (n : ℕ) → after (record v { calls = n }) (Store seal_at 0) ≡ stored_as v seal_at 0 (value_in v seal_at) clearing v.log cleared false (n + 1)
+  clear_stores : (n : ℕ) → after (record v { calls = n }) (Store seal_at 0) ≡ stored_as v seal_at 0
+      (value_in v seal_at) clearing v.log cleared false (n + 1)
   clear_stores n =
-      ap (λ ph. changed_from (record v { calls = n }) seal_at all_bits (was_of ph cleared_part (value_in v seal_at)) 0 (marked_by ph cleared_part 0 v.claims) (log_stored v.fixed.shape (class v.claims) ph cleared_part 0 v.log)) can.applied
-      ∙ (ap (λ q. changed_from (record v { calls = n }) seal_at all_bits (was_of (Applying []) q (value_in v seal_at)) 0 (marked_by (Applying []) q 0 v.claims) (log_stored v.fixed.shape (class v.claims) (Applying []) q 0 v.log)) (part_seal v.fixed.shape v.fixed.lane seal_at refl)
-      ∙ ap (λ changes. record v { claims = Knows seal_at 0 ∷ v.claims; changes = change v seal_at 0 (value_in v seal_at) clearing v.log cleared false ∷ changes; calls = n + 1; log = clearing }) can.drained)
+      ap (λ ph. changed_from (record v { calls = n }) seal_at all_bits
+      (was_of ph cleared_part (value_in v seal_at)) 0 (marked_by ph cleared_part 0 v.claims)
+      (log_stored v.fixed.shape (class v.claims) ph cleared_part 0 v.log)) can.applied
+      ∙ (ap (λ q. changed_from (record v { calls = n }) seal_at all_bits
+      (was_of (Applying []) q (value_in v seal_at)) 0 (marked_by (Applying []) q 0 v.claims)
+      (log_stored v.fixed.shape (class v.claims) (Applying []) q 0 v.log))
+      (part_seal v.fixed.shape v.fixed.lane seal_at refl)
+      ∙ ap (λ changes. record v {
+        claims = Knows seal_at 0 ∷ v.claims;
+        changes = change v seal_at 0 (value_in v seal_at) clearing v.log cleared false ∷ changes;
+        calls = n + 1;
+        log = clearing;
+      }) can.drained)
 
   pub clear_lawful : Ready v (clears v) × IsCleared v (after_all v (clears v))
   unfolding clears
   clear_lawful =
-      let t = seal_goes v seal_at 0 (value_in v seal_at) clearing (next_log Idle v.log) cleared can.drained clear_may clear_stores (λ n. refl) v refl in
+      let t = seal_goes v seal_at 0 (value_in v seal_at) clearing (next_log Idle v.log) cleared
+      can.drained clear_may clear_stores (λ n. refl) v refl in
       let u : View = after_all v (writes_seal seal_at 0 v) in
       let claims : u.claims ≡ cleared = ap (λ (y : View). y.claims) t.1 in (
         t.0,
         record {
-          same = t.1 ∙ ap (λ c. record v { claims = c; changes = []; calls = u.calls; log = next_log Idle v.log }) (sym claims);
-          noted = record { notes = DrainedTo [] ∷ Valued seal_at 0 ∷ []; are = claims; each = (can.unmaking, (tt, tt)) };
-          seal = ap (λ (z : View). value_in z seal_at) t.1 ∙ cond-true (seal_at == seal_at) (Some 0) (pictured v.fixed.shape v.claims seal_at) (eq-eqb seal_at seal_at refl);
+          same = t.1 ∙ ap (λ c. record v {
+            claims = c;
+            changes = [];
+            calls = u.calls;
+            log = next_log Idle v.log;
+          }) (sym claims);
+          noted = record {
+            notes = DrainedTo [] ∷ Valued seal_at 0 ∷ [];
+            are = claims;
+            each = (can.unmaking, (tt, tt));
+          };
+          seal = ap (λ (z : View). value_in z seal_at) t.1 ∙ cond-true (seal_at == seal_at) (Some 0)
+              (pictured v.fixed.shape v.claims seal_at) (eq-eqb seal_at seal_at refl);
           known = λ y other. (
             ap (λ (z : View). known z.fixed.shape (runs_one z) z.claims y) t.1
-                ∙ (known_noted v.fixed.shape (Knows seal_at 0 ∷ v.claims) (runs_one v) (DrainedTo []) can.unmaking y tt ∙ known_noted v.fixed.shape v.claims (runs_one v) (Valued seal_at 0) tt y (λ e. other (sym e))),
-            ap (λ (z : View). value_in z y) t.1 ∙ cond-false (seal_at == y) (Some 0) (pictured v.fixed.shape v.claims y) (ne_eqb seal_at y (λ e. other (sym e))),
+                ∙ (known_noted v.fixed.shape (Knows seal_at 0 ∷ v.claims) (runs_one v)
+                (DrainedTo []) can.unmaking y tt ∙ known_noted v.fixed.shape v.claims
+                (runs_one v) (Valued seal_at 0) tt y (λ e. other (sym e))),
+            ap (λ (z : View). value_in z y) t.1 ∙ cond-false (seal_at == y) (Some 0)
+                (pictured v.fixed.shape v.claims y) (ne_eqb seal_at y (λ e. other (sym e))),
           );
         },
       )

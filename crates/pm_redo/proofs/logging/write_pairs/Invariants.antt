@@ -5,4 +5,5 @@ use Rattle.pm_redo.proofs.logging.write_pairs.Given as goal
 
 -- the first so many entries are stored
 abbrev pub invariant-loop-i : goal.invariant-loop-i
-invariant-loop-i g l = IsMade (g.M.LaneMem.at l.fn.mem) (g.M.LaneMem.at l.mem) (repeated (λ i. writes_pair l.shape l.lane i (entry_at l.entries i)) l.i)
+invariant-loop-i g l = IsMade (g.M.LaneMem.at l.fn.mem) (g.M.LaneMem.at l.mem)
+    (repeated (λ i. writes_pair l.shape l.lane i (entry_at l.entries i)) l.i)
