@@ -27,7 +27,7 @@ use Rattle.pm_plan.proofs.Going.{Goes, goes_nothing, goes_stores, goes_then}
 use Rattle.pm_plan.proofs.Notes.{known_noted, making_same, mine_noted}
 use Rattle.pm_redo.specs.Entries.{logged_entry}
 use Rattle.pm_redo.specs.Plans.{writes_pair}
-use Rattle.pm_redo.proofs.Parts.{entry_word, part_entry}
+use Rattle.pm_plan.proofs.AreaParts.{entry_word, part_entry}
 
 -- the pair of an entry spells it
 pub entered_back : (sh : Shape) (cl : ℕ → ℕ) (place : ℕ) (op : Op) (value : ℕ) → place % 8 ≡ 0

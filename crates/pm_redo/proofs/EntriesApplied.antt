@@ -27,7 +27,6 @@ use Rattle.pm_world.specs.Logs.{ends_with}
 use Rattle.pm_world.proofs.PlacesAt.{IsAt, is_at}
 use Rattle.pm_plan.specs.Notes.{AreNotes, DrainedTo, IsBeyond, Note, Valued, noted}
 use Rattle.pm_plan.specs.Plans.{IsPersisted, Plan, Ready, in_turn, persists_all, repeated}
-use Rattle.pm_plan.proofs.AreaParts.{part_generation}
 use Rattle.pm_plan.proofs.Going.{Goes, goes_repeated, goes_then}
 use Rattle.pm_plan.proofs.Notes.{known_noted, making_same}
 use Rattle.pm_redo.specs.Entries.{entry_at, last_made, listed_entry, no_entry}
@@ -35,7 +34,7 @@ use Rattle.pm_redo.specs.Plans.{applies, applies_all, applies_each, applies_entr
 use Rattle.pm_redo.specs.Stages.{CanApply, IsApplied, IsOfPlace}
 use Rattle.pm_redo.proofs.Carrying.{at_index, goes_does, goes_persist, step_of}
 use Rattle.pm_redo.proofs.LastMade.{first_first, last_more, last_none, made_by, not_made}
-use Rattle.pm_redo.proofs.Parts.{by_part, place_outside}
+use Rattle.pm_plan.proofs.AreaParts.{by_part, part_generation, place_outside}
 
 pub inside_pool : (sh : Shape) (class : ℕ → ℕ) (w : ℕ) (p : Place) → IsAt sh class w p
     → w < words_of sh

@@ -1,4 +1,3 @@
-pub mod Parts
 pub mod Seals
 pub mod Carrying
 pub mod LastMade
@@ -9,3 +8,4 @@ pub mod Telling
 pub mod Engines
 pub mod Performed
 pub mod Numbered
+pub mod Chained

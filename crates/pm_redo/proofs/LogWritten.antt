@@ -28,7 +28,7 @@ use Rattle.pm_redo.specs.Stages.{AreOfPlaces, CanEnter, CanLog, IsLogged, IsOfPl
 use Rattle.pm_redo.proofs.EntriesApplied.{inside_pool}
 use Rattle.pm_redo.proofs.Carrying.{at_index, goes_persist}
 use Rattle.pm_redo.proofs.Entering.{CanPut, Entered, Entering, now, pair_goes, stays}
-use Rattle.pm_redo.proofs.Parts.{no_place}
+use Rattle.pm_plan.proofs.AreaParts.{no_place}
 
 module _ (v : View) (given : List Redo) (can : CanLog v given) where
   abbrev shape : Shape

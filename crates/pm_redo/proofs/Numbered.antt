@@ -15,7 +15,7 @@ use Rattle.pm_view.specs.Views.{after, value_in}
 use Rattle.pm_world.specs.Logs.{ends_with}
 use Rattle.pm_redo.specs.Entries.{logged_entry}
 use Rattle.pm_redo.specs.Stages.{CanLog, CanPerform, IsLogged, IsOfPlace, generation_word, seal_word}
-use Rattle.pm_redo.proofs.Parts.{not_le}
+use Rattle.pm_plan.proofs.AreaParts.{not_le}
 
 -- a call with entries has yet to be decided
 drawn_so : (n : ℕ) (records : List Recorded) (front : List Entry) (e : Entry)

@@ -19,7 +19,7 @@ use Rattle.pm_redo.specs.Plans.{applies, clears, performs, seals}
 use Rattle.pm_redo.specs.Stages.{CanApply, CanClear, CanPerform, IsApplied, IsCleared, IsOfPlace, IsPerformed, IsSealed, decided}
 use Rattle.pm_redo.proofs.EntriesApplied.{apply_lawful}
 use Rattle.pm_redo.proofs.LastMade.{last_none}
-use Rattle.pm_redo.proofs.Parts.{place_outside}
+use Rattle.pm_plan.proofs.AreaParts.{place_outside}
 use Rattle.pm_redo.proofs.Seals.{clear_lawful, seal_lawful}
 use Rattle.pm_plan.specs.Notes.{IsBeyond}
 

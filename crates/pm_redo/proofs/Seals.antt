@@ -21,7 +21,7 @@ use Rattle.pm_plan.proofs.Going.{Goes, goes_one, goes_stores, goes_then}
 use Rattle.pm_plan.proofs.Notes.{known_noted}
 use Rattle.pm_redo.specs.Plans.{clears, seals, writes_seal}
 use Rattle.pm_redo.specs.Stages.{CanClear, CanSeal, IsCleared, IsSealed}
-use Rattle.pm_redo.proofs.Parts.{part_seal}
+use Rattle.pm_plan.proofs.AreaParts.{part_seal}
 
 is_true : (b : Bool) → b ≡ true → IsTrue b
 is_true true e = search Rattle.std.proofs.Common.rules

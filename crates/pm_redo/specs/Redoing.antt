@@ -12,8 +12,8 @@ use Rattle.pm_view.specs.Views.{after_all}
 use Rattle.pm_world.specs.declared.lane.Lane.{Lane}
 use Rattle.pm_plan.specs.Plans.{Plan}
 use Rattle.pm_redo.specs.Entries.{listed_entries}
-use Rattle.pm_redo.specs.Plans.{applies, clears, seals, writes_log}
-use Rattle.pm_redo.specs.Stages.{CanApply, CanClear, CanLog, CanSeal}
+use Rattle.pm_redo.specs.Plans.{applies, clears, performs, seals, writes_log}
+use Rattle.pm_redo.specs.Stages.{CanApply, CanClear, CanLog, CanPerform, CanSeal}
 
 -- ---- listing an entry
 
@@ -81,21 +81,27 @@ unfoldable pub Applied : {M : Type 0} → (M → View → Type 0) → Lane M →
 Applied at old new result = (found : ℕ → ℕ)
     × ((v : View) → KeepsEntries at old v → CanApply v → CarriedAs at v (applies found) old new result)
 
--- ---- clearing the seal
+-- ---- clearing the seal, and performing the log
 
 -- the plan was carried out, and no entry and no record is listed; or the first of it was
-abbrev pub ClearedAs : {M : Type 0} → (M → View → Type 0) → View → Lane M → Lane M
+abbrev pub EmptiedAs : {M : Type 0} → (M → View → Type 0) → View → Plan → Lane M → Lane M
     → Result (Unit {0}) Stopped → Type 0
-ClearedAs at v old new (Ok done) =
-    KeepsEntries at new (after_all v (clears v)) × (new.records.items ≡ [])
+EmptiedAs at v plan old new (Ok done) =
+    KeepsEntries at new (after_all v (plan v)) × (new.records.items ≡ [])
     × (new ≡ record old { memory = new.memory; records = new.records; entries = new.entries })
-ClearedAs at v old new (Err stopped) =
-    Stops (at new.memory) v (clears v) × (new ≡ record old { memory = new.memory })
+EmptiedAs at v plan old new (Err stopped) =
+    Stops (at new.memory) v (plan v) × (new ≡ record old { memory = new.memory })
 
 unfoldable pub Cleared : {M : Type 0} → (M → View → Type 0) → Lane M → Lane M
     → Result (Unit {0}) Stopped → Type 0
 Cleared at old new result =
-    (v : View) → KeepsEntries at old v → CanClear v → ClearedAs at v old new result
+    (v : View) → KeepsEntries at old v → CanClear v → EmptiedAs at v clears old new result
+
+-- for what each OR and AND found
+unfoldable pub Performed : {M : Type 0} → (M → View → Type 0) → Lane M → Lane M
+    → Result (Unit {0}) Stopped → Type 0
+Performed at old new result = (found : ℕ → ℕ)
+    × ((v : View) → KeepsEntries at old v → CanPerform v → EmptiedAs at v (performs found) old new result)
 
 -- the lane may be seen so that it may do this
 abbrev pub StandsTo : {M : Type 0} → (M → View → Type 0) → Lane M → (View → Type 0) → Type 0

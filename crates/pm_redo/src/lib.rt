@@ -12,6 +12,7 @@ mod applying;
 mod entries;
 mod laws;
 mod logging;
+mod performing;
 mod sealing;
 
 pub use applying::apply_all;
@@ -21,6 +22,7 @@ pub use laws::{
     numbered_logs_may_be_performed, seals_may_be_cleared,
 };
 pub use logging::log;
+pub use performing::perform;
 pub use sealing::{retire, seal};
 
 #[cfg(test)]
