@@ -133,3 +133,14 @@ IsStopped old new plan = (stopped : Stopped) × Runs {T = Unit {0}} old new plan
 abbrev pub RunsFinding : (View → Type 0) → (View → Type 0) → (ℕ → Plan) → Result ℕ Stopped → Type 0
 RunsFinding old new plans (Ok found) = Runs {T = ℕ} old new (plans found) (Ok found)
 RunsFinding old new plans (Err stopped) = (found : ℕ) → Runs {T = ℕ} old new (plans found) (Err stopped)
+
+-- ---- plans by what each of their ORs and ANDs finds: a function of its number
+
+-- such a plan may be carried out, whatever is found
+unfoldable pub IsReadyFor : (View → Type 0) → ((ℕ → ℕ) → Plan) → Type 0
+IsReadyFor old plans = (found : ℕ → ℕ) → IsReady old (plans found)
+
+-- for what was found it was carried out, or the first steps of it up to the lane's stop
+unfoldable pub RunsFor : {T : Type 0} → (View → Type 0) → (View → Type 0) → ((ℕ → ℕ) → Plan)
+    → Result T Stopped → Type 0
+RunsFor old new plans result = (found : ℕ → ℕ) × Runs old new (plans found) result

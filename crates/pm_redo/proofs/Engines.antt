@@ -10,9 +10,9 @@ use Rattle.pm_record.specs.declared.redo.Redo.{Redo}
 use Rattle.pm_view.specs.View.{View, Constants}
 use Rattle.pm_view.specs.Views.{after_all}
 use Rattle.pm_world.specs.declared.lane.Lane.{Lane}
-use Rattle.pm_plan.specs.Plans.{Plan, IsReady, Ready, Runs}
+use Rattle.pm_plan.specs.Plans.{Plan, IsReady, Ready, Runs, IsReadyFor, RunsFor}
 use Rattle.pm_redo.specs.Entries.{ending, listed_entries, listed_entry, logged_entry}
-use Rattle.pm_redo.specs.Plans.{IsReadyFor, RunsFor, applies, applies_all, clears, seals, writes_entries, writes_log, writes_seal}
+use Rattle.pm_redo.specs.Plans.{applies, applies_all, clears, seals, writes_entries, writes_log, writes_seal}
 use Rattle.pm_redo.specs.Redoing.{Applied, CarriedAs, Cleared, KeepsEntries, Logged, MayLog, Sealed, StandsTo}
 use Rattle.pm_redo.specs.Stages.{CanApply, CanClear, CanEnter, CanSeal}
 use Rattle.pm_redo.proofs.EntriesApplied.{apply_lawful}

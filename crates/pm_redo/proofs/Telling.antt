@@ -5,10 +5,10 @@ use Rattle.pm_memory.specs.declared.lane_mem.Stopped.{Stopped}
 use Rattle.pm_record.specs.declared.redo.Op.TheVariants.{Set, Or, And}
 use Rattle.pm_record.specs.declared.redo.Redo.{Redo}
 use Rattle.pm_view.specs.View.{View}
-use Rattle.pm_plan.specs.Plans.{IsMade, IsReady, Plan, Runs, RunsFinding, ands, in_turn, ors, persists_all, repeated, stores}
+use Rattle.pm_plan.specs.Plans.{IsMade, IsReady, Plan, Runs, RunsFinding, ands, in_turn, ors, persists_all, repeated, stores, IsReadyFor, RunsFor}
 use Rattle.pm_plan.proofs.Plans.{answered_by_error, ready_first, ready_then, runs_err, runs_then, repeated_err, repeated_more, repeated_next}
 use Rattle.pm_redo.specs.Entries.{entry_at}
-use Rattle.pm_redo.specs.Plans.{IsReadyFor, RunsFor, applies_all, applies_each, applies_entry, does}
+use Rattle.pm_redo.specs.Plans.{applies_all, applies_each, applies_entry, does}
 
 -- ---- one entry, by its operation
 pub set_is : (e : Redo) (found : ℕ) → e.op ≡ Set → applies_entry e found ≡ stores (e.place / 8)

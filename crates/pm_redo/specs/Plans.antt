@@ -1,14 +1,12 @@
 -- THE PLANS OF REDO LOGGING: docs/FORMAT.md, "Sequences".
-use Rattle.std.specs.Prelude.{ℕ, ◌/◌, List, length, Result}
+use Rattle.std.specs.Prelude.{ℕ, ◌/◌, List, length}
 use Rattle.pm_layout.specs.declared.shape.Shape.{Shape}
 use Rattle.pm_layout.specs.Areas.{word_of_entry, word_of_seal}
-use Rattle.pm_memory.specs.declared.lane_mem.Stopped.{Stopped}
 use Rattle.pm_record.specs.Redo.{redo_words}
 use Rattle.pm_record.specs.declared.redo.Op.{Op}
 use Rattle.pm_record.specs.declared.redo.Op.TheVariants.{Set, Or, And}
 use Rattle.pm_record.specs.declared.redo.Redo.{Redo}
-use Rattle.pm_view.specs.View.{View}
-use Rattle.pm_plan.specs.Plans.{IsReady, Plan, Runs, ands, in_turn, ors, persists, persists_all, repeated, stores, stores_from}
+use Rattle.pm_plan.specs.Plans.{Plan, ands, in_turn, ors, persists, persists_all, repeated, stores, stores_from}
 use Rattle.pm_redo.specs.Entries.{ending, entry_at, listed_entries}
 
 -- ---- writing a log
@@ -68,15 +66,6 @@ applies_each entries found =
 -- and all is made persistent
 unfoldable pub applies_all : List Redo → (ℕ → ℕ) → Plan
 applies_all entries found = in_turn (applies_each entries found) persists_all
-
--- such a plan may be carried out, whatever is found
-unfoldable pub IsReadyFor : (View → Type 0) → ((ℕ → ℕ) → Plan) → Type 0
-IsReadyFor old plans = (found : ℕ → ℕ) → IsReady old (plans found)
-
--- for what was found it was carried out, or the first steps of it up to the lane's stop
-unfoldable pub RunsFor : {T : Type 0} → (View → Type 0) → (View → Type 0) → ((ℕ → ℕ) → Plan)
-    → Result T Stopped → Type 0
-RunsFor old new plans result = (found : ℕ → ℕ) × Runs old new (plans found) result
 
 -- the log's entries are applied
 unfoldable pub applies : (ℕ → ℕ) → Plan

@@ -28,81 +28,72 @@ HasPut entry old new (Err refusal.ActionsFull) =
     (redo_entries old.shape ≤ length old.entries.items + 1) × (new ≡ old)
 HasPut entry old new (Err r) = ⊥
 
--- ---- writing the log
+module _ {M : Type 0} (at : M → View → Type 0) where
+  -- ---- writing the log
 
--- the lane's memory may be seen so, and its list may be logged with this generation
-pub record MayLog {M : Type 0} (at : M → View → Type 0) (lane : Lane M) (generation : ℕ) (v : View)
-    : Type 0 where
-  pub memory : at lane.memory v
-  pub shape : lane.shape ≡ v.fixed.shape
-  pub generation_ : generation ≡ v.log.generation
-  pub can : CanLog v lane.entries.items
+  -- the lane's memory may be seen so, and its list may be logged with this generation
+  pub record MayLog (lane : Lane M) (generation : ℕ) (v : View) : Type 0 where
+    pub memory : at lane.memory v
+    pub shape : lane.shape ≡ v.fixed.shape
+    pub generation_ : generation ≡ v.log.generation
+    pub can : CanLog v lane.entries.items
 
--- THE LANE'S MEMORY MAY BE SEEN SO, and its list is of the entries that this view has in its log
-pub record KeepsEntries {M : Type 0} (at : M → View → Type 0) (lane : Lane M) (v : View)
-    : Type 0 where
-  pub memory : at lane.memory v
-  pub shape : lane.shape ≡ v.fixed.shape
-  pub entries : lane.entries.items ≡ listed_entries v
+  -- THE LANE'S MEMORY MAY BE SEEN SO, and its list is of the entries that this view has in its log
+  pub record KeepsEntries (lane : Lane M) (v : View) : Type 0 where
+    pub memory : at lane.memory v
+    pub shape : lane.shape ≡ v.fixed.shape
+    pub entries : lane.entries.items ≡ listed_entries v
 
--- the list was logged, and has the entry that ends the generation too; or the lane came to its stop
-abbrev pub LoggedAs : {M : Type 0} → (M → View → Type 0) → View → Lane M → Lane M
-    → Result (Unit {0}) Stopped → Type 0
-LoggedAs at v old new (Ok done) =
-    KeepsEntries at new (after_all v (writes_log old.entries.items v))
-    × (new ≡ record old { memory = new.memory; entries = new.entries })
-LoggedAs at v old new (Err stopped) =
-    Stops (at new.memory) v (writes_log old.entries.items v)
-    × (new ≡ record old { memory = new.memory })
+  -- the list was logged, and has the entry that ends the generation too; or the lane came to its stop
+  abbrev pub LoggedAs : View → Lane M → Lane M → Result (Unit {0}) Stopped → Type 0
+  LoggedAs v old new (Ok done) =
+      KeepsEntries new (after_all v (writes_log old.entries.items v))
+      × (new ≡ record old { memory = new.memory; entries = new.entries })
+  LoggedAs v old new (Err stopped) =
+      Stops (at new.memory) v (writes_log old.entries.items v)
+      × (new ≡ record old { memory = new.memory })
 
-unfoldable pub Logged : {M : Type 0} → (M → View → Type 0) → ℕ → Lane M → Lane M
-    → Result (Unit {0}) Stopped → Type 0
-Logged at generation old new result =
-    (v : View) → MayLog at old generation v → LoggedAs at v old new result
+  unfoldable pub Logged : ℕ → Lane M → Lane M → Result (Unit {0}) Stopped → Type 0
+  Logged generation old new result =
+      (v : View) → MayLog old generation v → LoggedAs v old new result
 
--- ---- sealing it, and applying it
+  -- ---- sealing it, and applying it
 
--- the plan was carried out, and the list stays; or the first of it was, up to the stop
-abbrev pub CarriedAs : {M : Type 0} → (M → View → Type 0) → View → Plan → Lane M → Lane M
-    → Result (Unit {0}) Stopped → Type 0
-CarriedAs at v plan old new (Ok done) =
-    KeepsEntries at new (after_all v (plan v)) × (new ≡ record old { memory = new.memory })
-CarriedAs at v plan old new (Err stopped) =
-    Stops (at new.memory) v (plan v) × (new ≡ record old { memory = new.memory })
+  -- the plan was carried out, and the list stays; or the first of it was, up to the stop
+  abbrev pub CarriedAs : View → Plan → Lane M → Lane M → Result (Unit {0}) Stopped → Type 0
+  CarriedAs v plan old new (Ok done) =
+      KeepsEntries new (after_all v (plan v)) × (new ≡ record old { memory = new.memory })
+  CarriedAs v plan old new (Err stopped) =
+      Stops (at new.memory) v (plan v) × (new ≡ record old { memory = new.memory })
 
-unfoldable pub Sealed : {M : Type 0} → (M → View → Type 0) → Lane M → Lane M
-    → Result (Unit {0}) Stopped → Type 0
-Sealed at old new result =
-    (v : View) → KeepsEntries at old v → CanSeal v → CarriedAs at v seals old new result
+  unfoldable pub Sealed : Lane M → Lane M → Result (Unit {0}) Stopped → Type 0
+  Sealed old new result =
+      (v : View) → KeepsEntries old v → CanSeal v → CarriedAs v seals old new result
 
--- that was the plan for what each OR and AND found
-unfoldable pub Applied : {M : Type 0} → (M → View → Type 0) → Lane M → Lane M
-    → Result (Unit {0}) Stopped → Type 0
-Applied at old new result = (found : ℕ → ℕ)
-    × ((v : View) → KeepsEntries at old v → CanApply v → CarriedAs at v (applies found) old new result)
+  -- that was the plan for what each OR and AND found
+  unfoldable pub Applied : Lane M → Lane M → Result (Unit {0}) Stopped → Type 0
+  Applied old new result = (found : ℕ → ℕ)
+      × ((v : View) → KeepsEntries old v → CanApply v → CarriedAs v (applies found) old new result)
 
--- ---- clearing the seal, and performing the log
+  -- ---- clearing the seal, and performing the log
 
--- the plan was carried out, and no entry and no record is listed; or the first of it was
-abbrev pub EmptiedAs : {M : Type 0} → (M → View → Type 0) → View → Plan → Lane M → Lane M
-    → Result (Unit {0}) Stopped → Type 0
-EmptiedAs at v plan old new (Ok done) =
-    KeepsEntries at new (after_all v (plan v)) × (new.records.items ≡ [])
-    × (new ≡ record old { memory = new.memory; records = new.records; entries = new.entries })
-EmptiedAs at v plan old new (Err stopped) =
-    Stops (at new.memory) v (plan v) × (new ≡ record old { memory = new.memory })
+  -- the plan was carried out, and no entry and no record is listed; or the first of it was
+  abbrev pub EmptiedAs : View → Plan → Lane M → Lane M → Result (Unit {0}) Stopped → Type 0
+  EmptiedAs v plan old new (Ok done) =
+      KeepsEntries new (after_all v (plan v)) × (new.records.items ≡ [])
+      × (new ≡ record old { memory = new.memory; records = new.records; entries = new.entries })
+  EmptiedAs v plan old new (Err stopped) =
+      Stops (at new.memory) v (plan v) × (new ≡ record old { memory = new.memory })
 
-unfoldable pub Cleared : {M : Type 0} → (M → View → Type 0) → Lane M → Lane M
-    → Result (Unit {0}) Stopped → Type 0
-Cleared at old new result =
-    (v : View) → KeepsEntries at old v → CanClear v → EmptiedAs at v clears old new result
+  unfoldable pub Cleared : Lane M → Lane M → Result (Unit {0}) Stopped → Type 0
+  Cleared old new result =
+      (v : View) → KeepsEntries old v → CanClear v → EmptiedAs v clears old new result
 
--- for what each OR and AND found
-unfoldable pub Performed : {M : Type 0} → (M → View → Type 0) → Lane M → Lane M
-    → Result (Unit {0}) Stopped → Type 0
-Performed at old new result = (found : ℕ → ℕ)
-    × ((v : View) → KeepsEntries at old v → CanPerform v → EmptiedAs at v (performs found) old new result)
+  -- for what each OR and AND found
+  unfoldable pub Performed : Lane M → Lane M → Result (Unit {0}) Stopped → Type 0
+  Performed old new result = (found : ℕ → ℕ)
+      × ((v : View) → KeepsEntries old v → CanPerform v → EmptiedAs v (performs found) old new result)
 
--- the lane may be seen so that it may do this
-abbrev pub StandsTo : {M : Type 0} → (M → View → Type 0) → Lane M → (View → Type 0) → Type 0
-StandsTo at lane P = (v : View) × KeepsEntries at lane v × P v
+  -- the lane may be seen so that it may do this
+  abbrev pub StandsTo : Lane M → (View → Type 0) → Type 0
+  StandsTo lane P = (v : View) × KeepsEntries lane v × P v

@@ -29,6 +29,10 @@ generation_word v = word_of_generation v.fixed.shape v.fixed.lane
 abbrev pub seal_word : View → ℕ
 seal_word v = word_of_seal v.fixed.shape v.fixed.lane
 
+-- v with what w knows and counted, with nothing undrained and this log
+abbrev pub drained_as : View → View → Log → View
+drained_as v w log = record v { claims = w.claims; changes = []; calls = w.calls; log = log }
+
 -- ---- writing the log
 
 -- THE LANE MAY ENTER IT: its word is a place where the lane has the right to that, and it gives
@@ -79,7 +83,7 @@ with_log v entries = record v.log {
 -- generation; nothing is undrained, and all words but those of pairs are known as they were. Of
 -- the root word, the lines are locked that are to guard it
 pub record IsLogged (v : View) (entries : List Redo) (w : View) : Type 0 where
-  pub same : w ≡ record v { claims = w.claims; changes = []; calls = w.calls; log = with_log v entries }
+  pub same : w ≡ drained_as v w (with_log v entries)
   pub noted : HasNoted v w
   pub known : (u : ℕ) → is_entry_word v.fixed.shape v.fixed.lane u ≡ false
       → (knows w u ≡ knows v u) × (value_in w u ≡ value_in v u)
@@ -133,12 +137,7 @@ pub record CanApply (v : View) : Type 0 where
 -- EVERY ENTRY HAS ITS EFFECT, in order, where these values were found, and that is persistent; other
 -- words are known as they were
 pub record IsApplied (v : View) (found : ℕ → ℕ) (w : View) : Type 0 where
-  pub same : w ≡ record v {
-    claims = w.claims;
-    changes = [];
-    calls = w.calls;
-    log = record v.log { phase = Applying []; bumped = true };
-  }
+  pub same : w ≡ drained_as v w (record v.log { phase = Applying []; bumped = true })
   pub noted : HasNoted v w
   pub made : (u : ℕ) → value_in w u ≡ first_of_two (last_made found v.log.entries u) (value_in v u)
   pub known : (u : ℕ) → last_made found v.log.entries u ≡ None → knows w u ≡ knows v u
@@ -155,12 +154,7 @@ pub record CanClear (v : View) : Type 0 where
 
 -- THE LOG IS RETIRED: no call is open, the lane is of its next generation, and its seal is 0, drained
 pub record IsCleared (v w : View) : Type 0 where
-  pub same : w ≡ record v {
-    claims = w.claims;
-    changes = [];
-    calls = w.calls;
-    log = next_log Idle v.log;
-  }
+  pub same : w ≡ drained_as v w (next_log Idle v.log)
   pub noted : HasNoted v w
   pub seal : value_in w (seal_word v) ≡ Some 0
   pub known : (u : ℕ) → u ≢ seal_word v → (knows w u ≡ knows v u) × (value_in w u ≡ value_in v u)
@@ -175,12 +169,7 @@ pub record CanPerform (v : View) : Type 0 where
 
 -- THE LOG IS PERFORMED: the call was decided, every entry has its effect, and no call is open
 pub record IsPerformed (v : View) (found : ℕ → ℕ) (w : View) : Type 0 where
-  pub same : w ≡ record v {
-    claims = w.claims;
-    changes = [];
-    calls = w.calls;
-    log = next_log Idle v.log;
-  }
+  pub same : w ≡ drained_as v w (next_log Idle v.log)
   pub noted : HasNoted (decided v) w
   pub made : (u : ℕ) → u ≢ seal_word v
       → value_in w u ≡ first_of_two (last_made found v.log.entries u) (value_in v u)

@@ -1,6 +1,6 @@
 ghost use Rattle.std.specs.Prelude.{ℕ};
-ghost use Rattle.pm_plan.specs.Plans.{IsReady, RunsFinding};
-ghost use Rattle.pm_redo.specs.Plans.{IsReadyFor, RunsFor, applies_all, applies_each, applies_entry};
+ghost use Rattle.pm_plan.specs.Plans.{IsReady, RunsFinding, IsReadyFor, RunsFor};
+ghost use Rattle.pm_redo.specs.Plans.{applies_all, applies_each, applies_entry};
 ghost use Rattle.pm_redo.specs.Redoing.{Applied, StandsTo};
 ghost use Rattle.pm_redo.specs.Stages.{CanApply};
 
