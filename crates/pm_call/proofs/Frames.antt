@@ -10,8 +10,8 @@ use Rattle.pm_view.specs.View.{View}
 use Rattle.pm_world.specs.Sights.{Hold, hold_of, is_recorded}
 use Rattle.pm_crash.specs.Footprints.{bit_before, has_found}
 use Rattle.pm_crash.specs.Sim.{Grows, IsSamePlace, sees_at}
-use Rattle.pm_undo.specs.Working.{Note, noted, AreNotes}
-use Rattle.pm_undo.proofs.Notes as notes
+use Rattle.pm_plan.specs.Notes.{Note, noted, AreNotes}
+use Rattle.pm_plan.proofs.Notes as notes
 
 module _ (sh : Shape) (ns : List Note) (t : List Claim) (are : AreNotes sh t ns) (none : (c : ℕ) → making sh t c ≡ false) where
   making_so : (c : ℕ) → making sh (noted ns t) c ≡ making sh t c

@@ -22,9 +22,10 @@ use Rattle.pm_crash.specs.Looked.{size_seen, word_place}
 use Rattle.pm_crash.specs.Sim.{SameBits, change_so_far, sees_at}
 use Rattle.pm_undo.specs.Ranges.{block_bytes}
 use Rattle.pm_world.specs.Lanes.{is_occupancy}
-use Rattle.pm_undo.specs.Working.{IsStanding, IsWorking, Note, Valued, Looked, noted, AreNotes, IsBeyond}
-use Rattle.pm_undo.proofs.AreaParts.{OfChunk, data_beyond, data_part}
-use Rattle.pm_undo.proofs.Notes as notes
+use Rattle.pm_plan.specs.Notes.{Note, Valued, Looked, noted, AreNotes, IsBeyond}
+use Rattle.pm_undo.specs.Working.{IsStanding, IsWorking}
+use Rattle.pm_plan.proofs.AreaParts.{OfChunk, data_beyond, data_part}
+use Rattle.pm_plan.proofs.Notes as notes
 use Rattle.pm_undo.proofs.Standing.{all_still}
 use Rattle.pm_call.specs.At.{At, IsAt, IsDataOf, entries_so_far}
 use Rattle.pm_call.specs.Held.{IsObjectWord, Looks, LooksAt, SizesFit}

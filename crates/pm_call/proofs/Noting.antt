@@ -24,8 +24,9 @@ use Rattle.pm_crash.specs.Sim.{SameBits, Sim, lists_of, sees_at}
 use Rattle.pm_crash.proofs.Simulation.{sim_stays}
 use Rattle.pm_lock.specs.Holding.{IsHeldAs}
 use Rattle.pm_undo.specs.Ranges.{block_bytes}
-use Rattle.pm_undo.specs.Working.{IsStanding, IsWorking, Note, noted, AreNotes}
-use Rattle.pm_undo.proofs.Notes as notes
+use Rattle.pm_plan.specs.Notes.{Note, noted, AreNotes}
+use Rattle.pm_undo.specs.Working.{IsStanding, IsWorking}
+use Rattle.pm_plan.proofs.Notes as notes
 use Rattle.pm_call.specs.At.{AreLists, IsAt, IsDataOf, MaySet, entries_so_far}
 use Rattle.pm_call.specs.Held.{AreHeld, HasObject, IsHeld, IsObjectWord, SizesFit, has_line, line_of}
 use Rattle.pm_call.proofs.KnownObjects.{size_known}

@@ -38,7 +38,7 @@ ready_both v [] ys r s = s
 ready_both v (x ∷ xs) ys r s = (r.0, r.1, ready_both (after v x) xs ys r.2 s)
 
 -- stopped among the first steps, or after them
-stops_left : (new : View → Type 0) (v : View) (xs ys : List Step) → Stops new v xs → Stops new v (xs ++ ys)
+pub stops_left : (new : View → Type 0) (v : View) (xs ys : List Step) → Stops new v xs → Stops new v (xs ++ ys)
 stops_left new v xs ys s =
     let same : take s.made (xs ++ ys) ≡ take s.made xs = take-append-le s.made xs ys (omega (arith, s.fewer)) in
     record {
@@ -49,7 +49,7 @@ stops_left new v xs ys s =
       due = ap calls_in (take-append-le (s.made + 1) xs ys (omega (arith, s.fewer))) ∙ s.due ∙ ap (λ (steps : List Step). calls_in steps + 1) (sym same);
     }
 
-stops_right : (new : View → Type 0) (v : View) (xs ys : List Step) → Stops new (after_all v xs) ys → Stops new v (xs ++ ys)
+pub stops_right : (new : View → Type 0) (v : View) (xs ys : List Step) → Stops new (after_all v xs) ys → Stops new v (xs ++ ys)
 unfolding after_all
 stops_right new v [] ys s = s
 stops_right new v (x ∷ xs) ys s = stops_after new v x (xs ++ ys) (stops_right new (after v x) xs ys s)

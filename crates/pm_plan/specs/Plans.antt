@@ -1,5 +1,5 @@
 -- PLANS: the exact memory calls of an operation, as a function of the lane's view before them (docs/FORMAT.md, "Sequences").
-use Rattle.std.specs.Prelude.{◌≡◌, ◌⊎◌, ◌≤◌, ℕ, zero, suc, ◌==◌, nat_lt, if◌then◌else◌, List, [], ◌∷◌, ◌++◌, length, map, Some, unwrap_or, Result, Ok, Err}
+use Rattle.std.specs.Prelude.{◌≡◌, ◌⊎◌, ◌≤◌, ℕ, zero, suc, ◌+◌, ◌==◌, nat_lt, if◌then◌else◌, List, [], ◌∷◌, ◌++◌, length, map, slice_index, Some, unwrap_or, Result, Ok, Err}
 use Rattle.pm_memory.specs.Runs.{Ran}
 use Rattle.pm_memory.specs.declared.lane_mem.Stopped.{Stopped}
 use Rattle.pm_view.specs.Changes.{Undrained}
@@ -8,7 +8,7 @@ use Rattle.pm_view.specs.Counts.{HasRoom, max_changes, unflushed_lines}
 use Rattle.pm_view.specs.Founds.{knows}
 use Rattle.pm_view.specs.Log.{Log}
 use Rattle.pm_view.specs.Steps.{Step}
-use Rattle.pm_view.specs.Steps.Step.{Load, Store, Flush, Drain}
+use Rattle.pm_view.specs.Steps.Step.{Load, Store, Or, And, Flush, Drain}
 use Rattle.pm_view.specs.View.{View}
 use Rattle.pm_view.specs.Views.{after, after_all, claims_drained, log_left}
 use Rattle.pm_world.specs.Lawful.{Allowed}
@@ -72,6 +72,17 @@ makes_room v = if nat_lt (length v.changes) max_changes then [] else persists_al
 unfoldable pub stores : ℕ → ℕ → Plan
 stores w x = in_turn makes_room (one (Store w x))
 
+-- stores of consecutive words
+unfoldable pub stores_from : ℕ → List ℕ → Plan
+stores_from word values = repeated (λ i. stores (word + i) (slice_index values i)) (length values)
+
+-- an OR or an AND of a word, with room made for its change: for what is found in the word
+unfoldable pub ors : ℕ → ℕ → ℕ → Plan
+ors w bits found = in_turn makes_room (one (Or w bits found))
+
+unfoldable pub ands : ℕ → ℕ → ℕ → Plan
+ands w bits found = in_turn makes_room (one (And w bits found))
+
 -- what a lane's claims and its log become once these changes, if there are any, are drained
 abbrev pub claims_persisted : List Undrained → Log → List Claim → List Claim
 claims_persisted [] log claims = claims
@@ -116,3 +127,20 @@ IsMade old new plan = Runs {T = Unit {0}} old new plan (Ok tt)
 -- the first steps of it were, up to the lane's stop
 abbrev pub IsStopped : (View → Type 0) → (View → Type 0) → Plan → Type 0
 IsStopped old new plan = (stopped : Stopped) × Runs {T = Unit {0}} old new plan (Err stopped)
+
+-- A STEP WAS MADE THAT FINDS SOMETHING: its plan for what was found was carried out; or, whatever would have been found, the first steps up to the
+-- lane's stop
+abbrev pub RunsFinding : (View → Type 0) → (View → Type 0) → (ℕ → Plan) → Result ℕ Stopped → Type 0
+RunsFinding old new plans (Ok found) = Runs {T = ℕ} old new (plans found) (Ok found)
+RunsFinding old new plans (Err stopped) = (found : ℕ) → Runs {T = ℕ} old new (plans found) (Err stopped)
+
+-- ---- plans by what each of their ORs and ANDs finds: a function of its number
+
+-- such a plan may be carried out, whatever is found
+unfoldable pub IsReadyFor : (View → Type 0) → ((ℕ → ℕ) → Plan) → Type 0
+IsReadyFor old plans = (found : ℕ → ℕ) → IsReady old (plans found)
+
+-- for what was found it was carried out, or the first steps of it up to the lane's stop
+unfoldable pub RunsFor : {T : Type 0} → (View → Type 0) → (View → Type 0) → ((ℕ → ℕ) → Plan)
+    → Result T Stopped → Type 0
+RunsFor old new plans result = (found : ℕ → ℕ) × Runs old new (plans found) result

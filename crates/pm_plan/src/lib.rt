@@ -1,4 +1,4 @@
-//! What engines step with: plans, and the loads, stores, flushes and drains that carry them out.
+//! What engines step with: plans, and the memory calls that carry them out.
 //!
 //! A plan is the exact list of memory calls of an operation, as a function of the lane's view before
 //! them. Promises an engine, over any lawful memory, that each part makes exactly the calls of its
@@ -13,4 +13,4 @@ mod stores;
 
 pub use laws::{all_may_be_persisted, room_may_be_made};
 pub use steps::{drain, flush, look, persist};
-pub use stores::{persist_all, store};
+pub use stores::{and, or, persist_all, store, store_all};

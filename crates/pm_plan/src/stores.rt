@@ -1,4 +1,6 @@
-ghost use Rattle.pm_plan.specs.Plans.{IsReady, Runs, drains, flushes, makes_room, persists_all, stores};
+ghost use Rattle.std.specs.Prelude.{ℕ, ◌+◌, ◌^◌, ◌<◌, length};
+ghost use Rattle.pm_view.specs.Steps.Step.{Or, And};
+ghost use Rattle.pm_plan.specs.Plans.{IsReady, Runs, RunsFinding, ands, drains, flushes, makes_room, one, ors, persists_all, stores, stores_from};
 
 use crate::steps::store_once;
 use pm_memory::{MAX_CHANGES, Stopped};
@@ -61,4 +63,50 @@ pub fn store<M: LawfulMem>(mem: &mut M, word: u64, value: u64) -> Result<(), Sto
 {
     make_room(mem)?;
     store_once(mem, word, value)
+}
+
+/// Stores consecutive words.
+pub fn store_all<M: LawfulMem>(mem: &mut M, first: u64, values: &[u64]) -> Result<(), Stopped>
+    requires inside { first + length values.now < 2 ^ 64 }
+    requires ready { IsReady (M.at mem.old) (stores_from first values.now) }
+    ensures { Runs (M.at mem.old) (M.at mem.new) (stores_from first values.now) result }
+{
+    for (i, value) in values.iter().enumerate() {
+        store(mem, first + i as u64, *value)?;
+    }
+    Ok(())
+}
+
+/// Sets these bits of a word, where there is room for the change, and tells the word before.
+fn or_once<M: LawfulMem>(mem: &mut M, word: u64, bits: u64) -> Result<u64, Stopped>
+    requires { (found : ℕ) → IsReady (M.at mem.old) (one (Or word bits found)) }
+    ensures { RunsFinding (M.at mem.old) (M.at mem.new) (λ found. one (Or word bits found)) result }
+{
+    mem.or(word, bits)
+}
+
+/// Clears the other bits of a word, where there is room for the change, and tells the word before.
+fn and_once<M: LawfulMem>(mem: &mut M, word: u64, bits: u64) -> Result<u64, Stopped>
+    requires { (found : ℕ) → IsReady (M.at mem.old) (one (And word bits found)) }
+    ensures { RunsFinding (M.at mem.old) (M.at mem.new) (λ found. one (And word bits found)) result }
+{
+    mem.and(word, bits)
+}
+
+/// Sets these bits of a word, with room made for the change, and tells the word before.
+pub fn or<M: LawfulMem>(mem: &mut M, word: u64, bits: u64) -> Result<u64, Stopped>
+    requires { (found : ℕ) → IsReady (M.at mem.old) (ors word bits found) }
+    ensures { RunsFinding (M.at mem.old) (M.at mem.new) (ors word bits) result }
+{
+    make_room(mem)?;
+    or_once(mem, word, bits)
+}
+
+/// Clears the other bits of a word, with room made for the change, and tells the word before.
+pub fn and<M: LawfulMem>(mem: &mut M, word: u64, bits: u64) -> Result<u64, Stopped>
+    requires { (found : ℕ) → IsReady (M.at mem.old) (ands word bits found) }
+    ensures { RunsFinding (M.at mem.old) (M.at mem.new) (ands word bits) result }
+{
+    make_room(mem)?;
+    and_once(mem, word, bits)
 }

@@ -14,11 +14,13 @@ use Rattle.pm_plan.specs.Plans.{known_word}
 use Rattle.pm_undo.specs.Plans.{looked_first, looked_span, looked_words, looks_first, looks_from}
 use Rattle.pm_undo.specs.Records.{kept_in, recorded_in}
 use Rattle.pm_undo.specs.Spans.{no_span, span_at}
-use Rattle.pm_undo.specs.Working.{IsBeyond, IsWorking}
+use Rattle.pm_plan.specs.Notes.{IsBeyond}
+use Rattle.pm_undo.specs.Working.{IsWorking}
 use Rattle.pm_world.specs.declared.lane.KeptRecord.{KeptRecord}
-use Rattle.pm_undo.proofs.AreaParts.{data_beyond}
+use Rattle.pm_plan.proofs.AreaParts.{data_beyond}
+use Rattle.pm_undo.proofs.Logging.{knows_so}
 use Rattle.pm_undo.proofs.Snapshotted.{at_index, looks_so}
-use Rattle.pm_undo.proofs.Snapshotting.{HasClean, looks_firsts, looks_some, starts}
+use Rattle.pm_undo.proofs.Snapshotting.{HasClean, clean_start, looks_firsts, looks_some}
 
 module _ (v : View) (working : IsWorking v) where
   module _ (s : Span) (can : CanRecord v (recorded_in v s)) (u : View) (clean : HasClean v working v.log.records u) where
@@ -29,9 +31,9 @@ module _ (v : View) (working : IsWorking v) where
         let less : m < s.count = omega (arith, most) in
         let l = looks_so v s can m less in
         let far : IsBeyond v.fixed.shape (s.word + m) = subst (IsBeyond v.fixed.shape) (is_at v.fixed.shape (Rattle.pm_view.specs.Claims.class v.claims) (s.word + m) l.place l.at).word (data_beyond v.fixed.shape l.place l.plain) in
-        let t = looks_some v working (s ∷ []) (can, tt) s can m (omega (arith, less)) u clean in
+        let t = looks_some v working s can m (omega (arith, less)) u clean in
         ap (λ ws. ws ++ known_word (after_all u (looks_from s.word m u)) (s.word + m) ∷ []) (words_known m (omega (arith, less)))
-        ∙ (ap (λ x. map (known_word v) (range_with_len s.word m) ++ x ∷ []) (ap (λ (o : Option ℕ). unwrap_or o 0) (t.1.0.known_ (s.word + m) far))
+        ∙ (ap (λ x. map (known_word v) (range_with_len s.word m) ++ x ∷ []) (ap (λ (o : Option ℕ). unwrap_or o 0) (knows_so t.1.0 (s.word + m) far))
         ∙ (sym (map-range_with_len_more (known_word v) s.word m (s.word + m) refl) ∙ ap (λ n. map (known_word v) (range_with_len s.word n)) (let e : m + 1 ≡ suc m = omega arith in e)))
 
     pub span_known : looked_span s u ≡ kept_in v s
@@ -46,7 +48,7 @@ module _ (v : View) (working : IsWorking v) where
     first_known zero most = refl
     first_known (suc n) most =
         let low : n < length spans = omega (arith, most) in
-        let clean = (looks_firsts v working spans can n (omega (arith, low)) v (starts v working)).1 in
+        let clean = (looks_firsts v working spans can n (omega (arith, low)) v (clean_start v working)).1 in
         ap (λ l. l ++ looked_span (span_at spans n) (after_all v (looks_first spans n v)) ∷ []) (first_known n (omega (arith, low)))
         ∙ (ap (λ k. map (kept_in v) (take n spans) ++ k ∷ []) (span_known (span_at spans n) (at_index (λ (s : Span). CanRecord v (recorded_in v s)) spans no_span n can low) (after_all v (looks_first spans n v)) clean)
         ∙ (sym (map-append (kept_in v) (take n spans) (span_at spans n ∷ [])) ∙ ap (map (kept_in v)) (sym (take_more spans n no_span low) ∙ ap (λ m. take m spans) (let e : n + 1 ≡ suc n = omega arith in e))))

@@ -1,5 +1,3 @@
-pub mod Notes
-pub mod AreaParts
 pub mod Moved
 pub mod Logging
 pub mod Slots
@@ -9,7 +7,9 @@ pub mod Apart
 pub mod Snapshotted
 pub mod Snapshotting
 pub mod Standing
+pub mod RecordedWords
 pub mod Putting
+pub mod WordsWritten
 pub mod Restored
 pub mod Retired
 pub mod Planning
@@ -19,3 +19,4 @@ pub mod Kept
 pub mod Fitting
 pub mod Snapped
 pub mod Ranges
+pub mod Holdings

@@ -1,138 +1,293 @@
--- One step of a lane that logs: where its view has come since the log began to grow.
-use Rattle.std.proofs.Common.{◌≡◌, ◌≢◌, ℕ, ◌+◌, ◌*◌, ◌^◌, ◌<◌, ◌⊎◌, inl, inr, ⊎_elim, false, List, [], ◌∷◌, ◌++◌, length, take, refl, sym, ap, ◌∙◌, subst, None}
+-- Where a lane's view has come since its log began to grow, or to be put back: what it noted, its
+-- changes and its log.
+use Rattle.std.proofs.Common.{◌≡◌, ◌≢◌, ℕ, ◌+◌, ◌*◌, ◌^◌, ◌<◌, ◌≤◌, false, List, [], ◌∷◌, ◌++◌, length, take, refl, sym, ap, ◌∙◌, subst, None}
+use Rattle.std.specs.List.{AllByRecursion}
+use Rattle.pm_layout.specs.declared.shape.Shape.{Shape}
 use Rattle.pm_layout.specs.Areas.{line_of_slot, word_of_generation}
 use Rattle.pm_layout.specs.Chunks.{words_of}
 use Rattle.pm_view.specs.Bits.{all_bits}
 use Rattle.pm_view.specs.Changes.{Undrained}
-use Rattle.pm_view.specs.Claims.{Claim, Knows, class, first, here, known, making, pictured}
+use Rattle.pm_view.specs.Claims.{Claim, Knows, Drained, class, first, here, known, making, pictured}
 use Rattle.pm_view.specs.Counts.{HasRoom}
 use Rattle.pm_view.specs.Founds.{knows}
-use Rattle.pm_view.specs.Log.{Log, Phase, Open, Recorded, log_stored, with_slot}
-use Rattle.pm_view.specs.Parts.{SlotPart}
-use Rattle.pm_view.specs.Places.{place_after}
+use Rattle.pm_view.specs.Log.{Log, Open, Recorded, log_stored, place_at, with_slot}
+use Rattle.pm_view.specs.Parts.{SlotPart, part_of}
+use Rattle.pm_view.specs.Places.{place_after, word_of}
 use Rattle.pm_view.specs.Steps.Step.{Store}
 use Rattle.pm_view.specs.View.{View, runs_one}
-use Rattle.pm_view.specs.Views.{after, part_in, learned, marked_by, value_in, was_of, changed_from}
+use Rattle.pm_view.specs.Views.{after, changed_from, claims_drained, marked_by, value_in, was_of}
 use Rattle.pm_world.specs.Lawful.{CanRecord, MayStore, StoreFits}
 use Rattle.pm_world.specs.Logs.{spelled}
 use Rattle.pm_world.specs.Sights.{is_recorded}
 use Rattle.pm_plan.specs.Plans.{IsPersisted, claims_persisted, log_persisted}
-use Rattle.pm_undo.specs.Working.{Note, Valued, DrainedTo, noted, AreNotes, IsBeyond}
+use Rattle.pm_plan.specs.Notes.{AreNotes, IsBeyond, IsNote, Note, Valued, DrainedTo, claim_of, noted}
+use Rattle.pm_undo.specs.Working.{AreOnce, IsStanding, IsWorking}
 use Rattle.pm_undo.proofs.Moved.{moved_record}
-use Rattle.pm_undo.proofs.Notes.{class_same, first_same, here_same, making_same, known_noted, known_again, pictured_noted}
+use Rattle.pm_plan.proofs.Notes.{IsOther, class_same, first_same, here_same, known_noted, making_same, pictured_noted}
 
--- since v the lane noted something, knows all words past the lanes' areas as it did, and its log has these records and words of a slot
-pub record Logging (v : View) (records : List Recorded) (slot : List ℕ) (u : View) : Type 0 where
+-- the log of an open call with these records and words of a slot, and no entries; and the view with
+-- it
+abbrev pub log_with : View → List Recorded → List ℕ → Log
+log_with v records slot = record v.log {
+  phase = Open;
+  records = records;
+  slot = slot;
+  entries = [];
+  pair = [];
+}
+
+abbrev pub view_with : View → List Claim → List Undrained → ℕ → List Recorded → List ℕ → View
+view_with v claims changes calls records slot = record v {
+  claims = claims;
+  changes = changes;
+  calls = calls;
+  log = log_with v records slot;
+}
+
+abbrev pub generation_word : View → ℕ
+generation_word v = word_of_generation v.fixed.shape v.fixed.lane
+
+-- SINCE v the lane noted something, its log has these records and words of a slot, and it knows
+-- these words as it did
+pub record Logging (v : View) (stay : ℕ → Type 0) (records : List Recorded) (slot : List ℕ)
+    (u : View) : Type 0 where
   pub notes : List Note
   pub are : u.claims ≡ noted notes v.claims
   pub each : AreNotes v.fixed.shape v.claims notes
-  pub same : u ≡ record v { claims = u.claims; changes = u.changes; calls = u.calls; log = record v.log { records = records; slot = slot } }
-  pub known_ : (w : ℕ) → IsBeyond v.fixed.shape w → knows u w ≡ knows v w
-  pub ends : pictured v.fixed.shape u.claims (word_of_generation v.fixed.shape v.fixed.lane) ≡ pictured v.fixed.shape v.claims (word_of_generation v.fixed.shape v.fixed.lane)
+  pub same : u ≡ view_with v u.claims u.changes u.calls records slot
+  pub known_ : (w : ℕ) → stay w → known v.fixed.shape (runs_one v) u.claims w ≡ knows v w
+  pub ends : pictured v.fixed.shape u.claims (generation_word v) ≡ pictured v.fixed.shape v.claims
+      (generation_word v)
 
-module _ (v : View) (unmaking : (c : ℕ) → making v.fixed.shape v.claims c ≡ false) (is_open : v.log.phase ≡ Open) (records : List Recorded) (slot : List ℕ) (u : View) (at : Logging v records slot u) where
+abbrev pub AreBeyond : Shape → List Undrained → Type 0
+AreBeyond sh changes = AllByRecursion (λ (c : Undrained). IsBeyond sh c.word) changes
+
+module _ (v : View) (working : IsWorking v) where
+  -- a lane at work is such
+  pub log_again : (records : List Recorded) → record v.log { records = records } ≡ log_with v
+      records []
+  log_again records = ap (λ ph. record v.log { records = records; phase = ph }) working.is_open
+      ∙ (ap (λ s. record v.log { records = records; phase = Open; slot = s }) working.whole.0
+      ∙ (ap (λ es. record v.log { records = records; phase = Open; slot = []; entries = es })
+      working.unentered
+      ∙ ap (λ p. record v.log {
+        records = records;
+        phase = Open;
+        slot = [];
+        entries = [];
+        pair = p;
+      }) working.whole.1))
+
+  pub starts : (stay : ℕ → Type 0) → Logging v stay v.log.records [] v
+  starts stay = record {
+    notes = [];
+    are = refl;
+    each = tt;
+    same = ap (λ l. record v { log = l }) (log_again v.log.records);
+    known_ = λ w s. refl;
+    ends = refl;
+  }
+
+module _ {v : View} {stay : ℕ → Type 0} {records : List Recorded} {slot : List ℕ} {u : View}
+    (at : Logging v stay records slot u) where
   pub fixed_so : u.fixed ≡ v.fixed
   fixed_so = ap (λ (y : View). y.fixed) at.same
 
-  pub log_so : u.log ≡ record v.log { records = records; slot = slot }
-  log_so = ap (λ (y : View). y.log) at.same
-
-  pub phase_so : u.log.phase ≡ Open
-  phase_so = ap (λ (l : Log). l.phase) log_so ∙ is_open
+  pub knows_so : (w : ℕ) → stay w → knows u w ≡ knows v w
+  knows_so w s = ap (λ (y : View). knows y w) at.same ∙ at.known_ w s
 
   pub class_so : class u.claims ≡ class v.claims
   class_so = ap class at.are ∙ class_same at.notes v.claims
 
-  pub no_making : (c : ℕ) → making v.fixed.shape u.claims c ≡ false
-  no_making = subst (λ t. (c : ℕ) → making v.fixed.shape t c ≡ false) (sym at.are) (making_same v.fixed.shape at.notes v.claims at.each unmaking)
+  -- one note more, and whatever changes and log
+  pub noted_more : (n : Note) → IsNote v.fixed.shape u.claims n → IsOther n (generation_word v)
+      → ((w : ℕ) → stay w → known v.fixed.shape (runs_one v) (claim_of n ∷ u.claims) w ≡ known
+      v.fixed.shape (runs_one v) u.claims w)
+      → (changes : List Undrained) (calls : ℕ) (records' : List Recorded) (slot' : List ℕ)
+      → Logging v stay records' slot' (view_with v (claim_of n ∷ u.claims) changes calls
+      records' slot')
+  noted_more n is other stays changes calls records' slot' = record {
+    notes = n ∷ at.notes;
+    are = ap (λ t. claim_of n ∷ t) at.are;
+    each = (subst (λ t. IsNote v.fixed.shape t n) at.are is, at.each);
+    same = refl;
+    known_ = λ w s. stays w s ∙ at.known_ w s;
+    ends = pictured_noted v.fixed.shape u.claims n is (generation_word v) other ∙ at.ends;
+  }
 
-  -- a record that could be written may still be, where its words have no other record since
-  pub can_still : (r : Recorded) → ((i : ℕ) → i < length r.old → is_recorded records (place_after r.place i) ≡ false) → CanRecord v r → CanRecord u r
-  can_still r new can = subst (λ (y : View). CanRecord y r) (sym at.same)
-      (moved_record v u.claims u.changes u.calls (record v.log { records = records; slot = slot }) class_so
-      (ap (first v.fixed.shape) at.are ∙ first_same v.fixed.shape at.notes v.claims)
-      (λ B. ap (λ t. here v.fixed.shape t B) at.are ∙ here_same v.fixed.shape at.notes v.claims at.each B)
-      (λ w far. ap (λ (y : View). known y.fixed.shape (runs_one y) u.claims w) (sym at.same) ∙ at.known_ w far) r new can)
+  -- where fewer words are asked of
+  pub logging_weaker : (stay' : ℕ → Type 0) → ((y : ℕ) → stay' y → stay y)
+      → Logging v stay' records slot u
+  logging_weaker stay' fewer = record {
+    notes = at.notes;
+    are = at.are;
+    each = at.each;
+    same = at.same;
+    known_ = λ w s. at.known_ w (fewer w s);
+    ends = at.ends;
+  }
 
-  -- ---- all is made persistent
-  persisted_claims : (changes : List Undrained) (log : Log) (t : List Claim) → log.phase ≡ Open → (claims_persisted changes log t ≡ t) ⊎ (claims_persisted changes log t ≡ Rattle.pm_view.specs.Claims.Drained [] ∷ t)
-  persisted_claims [] log t open_ = inl refl
-  persisted_claims (c ∷ changes) log t open_ = inr (ap (λ ph. Rattle.pm_view.specs.Views.decided_by ph log.entries (Rattle.pm_view.specs.Claims.Drained [] ∷ t)) open_)
+  module _ (working : IsWorking v) where
+    pub no_making : (c : ℕ) → making v.fixed.shape u.claims c ≡ false
+    no_making = subst (λ t. (c : ℕ) → making v.fixed.shape t c ≡ false) (sym at.are)
+        (making_same v.fixed.shape at.notes v.claims at.each working.unmaking)
 
-  persisted_log : (changes : List Undrained) (log : Log) → log.phase ≡ Open → log_persisted changes log ≡ log
-  persisted_log [] log open_ = refl
-  persisted_log (c ∷ changes) log open_ = ap (λ ph. Rattle.pm_view.specs.Log.log_drained ph log) open_
+    pub drained_more : (left : List Undrained) (calls : ℕ) → Logging v stay records slot
+        (view_with v (Drained left ∷ u.claims) left calls records slot)
+    drained_more left calls = noted_more (DrainedTo left) no_making tt
+        (λ w s. known_noted v.fixed.shape u.claims (runs_one v) (DrainedTo left) no_making w tt)
+        left calls records slot
 
-  pub still_logging : (w : View) → IsPersisted u w → Logging v records slot w × (w.changes ≡ [])
-  still_logging w is = (
-    ⊎_elim
-        (λ (e : claims_persisted u.changes u.log u.claims ≡ u.claims). record {
-          notes = at.notes;
-          are = claims_so ∙ (e ∙ at.are);
-          each = at.each;
-          same = all_same;
-          known_ = λ x far. knows_so x ∙ (ap (λ t. known u.fixed.shape (runs_one u) t x) e ∙ at.known_ x far);
-          ends = ap (λ t. pictured v.fixed.shape t (word_of_generation v.fixed.shape v.fixed.lane)) (claims_so ∙ e) ∙ at.ends;
-        })
-        (λ (e : claims_persisted u.changes u.log u.claims ≡ Rattle.pm_view.specs.Claims.Drained [] ∷ u.claims). record {
-          notes = DrainedTo [] ∷ at.notes;
-          are = claims_so ∙ (e ∙ ap (λ t. Rattle.pm_view.specs.Claims.Drained [] ∷ t) at.are);
-          each = (subst (λ t. (c : ℕ) → making v.fixed.shape t c ≡ false) at.are no_making, at.each);
-          same = all_same;
-          known_ = λ x far. knows_so x ∙ (ap (λ t. known u.fixed.shape (runs_one u) t x) e
-              ∙ (known_noted u.fixed.shape u.claims (runs_one u) (DrainedTo []) (subst (λ f. (c : ℕ) → making f u.claims c ≡ false) (ap (λ (y : Rattle.pm_view.specs.View.Constants). y.shape) (sym fixed_so)) no_making) x tt ∙ at.known_ x far));
-          ends = ap (λ t. pictured v.fixed.shape t (word_of_generation v.fixed.shape v.fixed.lane)) (claims_so ∙ e) ∙ at.ends;
-        })
-        (persisted_claims u.changes u.log u.claims phase_so),
-    ap (λ (y : View). y.changes) is,
-  )
-    where
-      claims_so : w.claims ≡ claims_persisted u.changes u.log u.claims
-      claims_so = ap (λ (y : View). y.claims) is
+    -- all is made persistent; the lane pictures what it did
+    pub still_logging : (w : View) → IsPersisted u w → Logging v stay records slot w
+        × (w.changes ≡ [])
+    still_logging w is = (
+      go u.changes
+          (is ∙ ap (λ (y : View). record y {
+            claims = claims_persisted y.changes y.log y.claims;
+            changes = [];
+            calls = w.calls;
+            log = log_persisted y.changes y.log;
+          }) at.same),
+      ap (λ (y : View). y.changes) is,
+    )
+      where
+        go : (changes : List Undrained)
+            → w ≡ record v {
+              claims = claims_persisted changes (log_with v records slot) u.claims;
+              changes = [];
+              calls = w.calls;
+              log = log_persisted changes (log_with v records slot);
+            }
+            → Logging v stay records slot w
+        go [] e = subst (Logging v stay records slot) (sym e)
+            (record {
+              notes = at.notes;
+              are = at.are;
+              each = at.each;
+              same = refl;
+              known_ = at.known_;
+              ends = at.ends;
+            })
+        go (c ∷ changes) e = subst (Logging v stay records slot) (sym e) (drained_more [] w.calls)
 
-      knows_so : (x : ℕ) → knows w x ≡ known u.fixed.shape (runs_one u) (claims_persisted u.changes u.log u.claims) x
-      knows_so x = ap (λ (y : View). knows y x) is
+    pub pictured_still : (w : View) → IsPersisted u w → (y : ℕ) → pictured v.fixed.shape w.claims
+        y ≡ pictured v.fixed.shape u.claims y
+    pictured_still w is y = ap (λ (z : View). pictured v.fixed.shape z.claims y) is ∙ go u.changes
+      where
+        go : (changes : List Undrained)
+            → pictured v.fixed.shape (claims_persisted changes u.log u.claims) y ≡ pictured
+            v.fixed.shape u.claims y
+        go [] = refl
+        go (c ∷ changes) =
+            ap (λ (z : View). pictured v.fixed.shape
+            (claims_drained [] z.log (Drained [] ∷ u.claims)) y) at.same
 
-      all_same : w ≡ record v { claims = w.claims; changes = w.changes; calls = w.calls; log = record v.log { records = records; slot = slot } }
-      all_same = is ∙ (ap (λ l. record u { claims = claims_persisted u.changes u.log u.claims; changes = []; calls = w.calls; log = l }) (persisted_log u.changes u.log phase_so ∙ log_so)
-          ∙ (ap (λ (y : View). record y { claims = claims_persisted u.changes u.log u.claims; changes = []; calls = w.calls; log = record v.log { records = records; slot = slot } }) at.same
-          ∙ ap (λ (y : View). record v { claims = y.claims; changes = y.changes; calls = w.calls; log = record v.log { records = records; slot = slot } }) (sym is)))
+    pub known_still : (w : View) → IsPersisted u w → (y : ℕ) → known v.fixed.shape (runs_one v)
+        w.claims y ≡ known v.fixed.shape (runs_one v) u.claims y
+    known_still w is y = ap (λ (z : View). known v.fixed.shape (runs_one v) z.claims y) is
+        ∙ go u.changes
+      where
+        go : (changes : List Undrained) → known v.fixed.shape (runs_one v)
+            (claims_persisted changes u.log u.claims) y ≡ known v.fixed.shape (runs_one v) u.claims
+            y
+        go [] = refl
+        go (c ∷ changes) =
+            ap (λ (z : View). known v.fixed.shape (runs_one v)
+            (claims_drained [] z.log (Drained [] ∷ u.claims)) y) at.same ∙ known_noted v.fixed.shape
+            u.claims (runs_one v) (DrainedTo []) no_making y tt
 
-  -- ---- a store of a slot's next word
-  module _ (lane_low : v.fixed.lane < v.fixed.shape.lanes) (w x : ℕ) (part : part_in u w ≡ SlotPart) where
-    abbrev pub changed_slot : Undrained
-    changed_slot = record { word = w; mask = all_bits; old = None; flushed = false }
-
-    pub slot_stored : after u (Store w x) ≡ record u { claims = Knows w x ∷ u.claims; changes = changed_slot ∷ u.changes; calls = u.calls + 1; log = with_slot u.fixed.shape (class u.claims) (u.log.slot ++ x ∷ []) u.log }
-    slot_stored = ap (λ ph. changed_from u w all_bits (was_of ph (part_in u w) (value_in u w)) x (marked_by ph (part_in u w) x u.claims) (log_stored u.fixed.shape (class u.claims) ph (part_in u w) x u.log)) phase_so
-        ∙ ap (λ q. changed_from u w all_bits (was_of Open q (value_in u w)) x (marked_by Open q x u.claims) (log_stored u.fixed.shape (class u.claims) Open q x u.log)) part
-
-    -- the log after it
-    pub slot_logging : (records' : List Recorded) (slot' : List ℕ) → ((y : ℕ) → IsBeyond v.fixed.shape y → Rattle.pm_undo.proofs.Notes.IsOther (Valued w x) y)
-        → w ≢ word_of_generation v.fixed.shape v.fixed.lane
-        → with_slot v.fixed.shape (class v.claims) (slot ++ x ∷ []) (record v.log { records = records; slot = slot }) ≡ record v.log { records = records'; slot = slot' } → Logging v records' slot' (after u (Store w x))
-    slot_logging records' slot' other apart grows = subst (Logging v records' slot') (sym slot_stored) (record {
-      notes = Valued w x ∷ at.notes;
-      are = ap (λ t. Knows w x ∷ t) at.are;
-      each = (tt, at.each);
-      same = ap (λ l. record u { claims = Knows w x ∷ u.claims; changes = changed_slot ∷ u.changes; calls = u.calls + 1; log = l }) log_grows
-          ∙ ap (λ (y : View). record y { claims = Knows w x ∷ u.claims; changes = changed_slot ∷ u.changes; calls = u.calls + 1; log = record v.log { records = records'; slot = slot' } }) at.same;
-      known_ = λ y far. known_noted u.fixed.shape u.claims (runs_one u) (Valued w x) tt y (other y far) ∙ at.known_ y far;
-      ends = pictured_noted v.fixed.shape u.claims (Valued w x) tt (word_of_generation v.fixed.shape v.fixed.lane) apart ∙ at.ends;
+    -- the lane is at work where its records may be put back
+    pub still_working : AreBeyond v.fixed.shape u.changes → slot ≡ [] → length records ≤ 64
+        → AllByRecursion (IsStanding v) records → AreOnce records → IsWorking u
+    still_working far whole few standing once = subst IsWorking (sym at.same) (record {
+      is_open = refl;
+      whole = (whole, refl);
+      unentered = refl;
+      below = working.below;
+      lane = working.lane;
+      lanes = working.lanes;
+      zones = working.zones;
+      unmaking = no_making;
+      clean = far;
+      few = few;
+      standing = all_still records standing;
+      once = once;
+      known = at.ends ∙ working.known;
     })
       where
-        log_grows : with_slot u.fixed.shape (class u.claims) (u.log.slot ++ x ∷ []) u.log ≡ record v.log { records = records'; slot = slot' }
-        log_grows = ap (λ (l : Log). with_slot u.fixed.shape (class u.claims) (l.slot ++ x ∷ []) l) log_so
-            ∙ (ap (λ (f : Rattle.pm_view.specs.View.Constants). with_slot f.shape (class u.claims) (slot ++ x ∷ []) (record v.log { records = records; slot = slot })) fixed_so
-            ∙ (ap (λ cl. with_slot v.fixed.shape cl (slot ++ x ∷ []) (record v.log { records = records; slot = slot })) class_so ∙ grows))
+        all_still : (rs : List Recorded) → AllByRecursion (IsStanding v) rs
+            → AllByRecursion (IsStanding (view_with v u.claims u.changes u.calls records slot)) rs
+        all_still [] all = tt
+        all_still (r ∷ rs) all = let s = all.0 in (
+          record {
+            some = s.some;
+            most = s.most;
+            data_ = s.data_;
+            row = s.row;
+            use_ = λ i low. ap
+                (λ c. place_at v.fixed.shape c (word_of v.fixed.shape (place_after r.place i)))
+                class_so ∙ s.use_ i low;
+            small = s.small;
+          },
+          all_still rs all.1,
+        )
 
-    pub may_store_slot : (r : Recorded) → CanRecord u r → w < words_of u.fixed.shape → x < 2 ^ 64 → HasRoom u.changes → u.log.entries ≡ [] → u.log.generation < Rattle.pm_layout.specs.Areas.greatest_generation u.fixed.shape
-        → length u.log.records < Rattle.pm_layout.specs.Areas.undo_slots u.fixed.shape
-        → u.log.slot ++ x ∷ [] ≡ take (length u.log.slot + 1) (spelled u.fixed.shape u.log.generation r) → w ≡ 8 * line_of_slot u.fixed.shape u.fixed.lane (length u.log.records) + length u.log.slot → MayStore u w x
-    may_store_slot r can inside small room unentered below free spells place = record {
-      inside = inside;
-      room = room;
-      small = small;
-      fits = subst (λ ph. StoreFits u w x ph (part_in u w)) (sym phase_so) (subst (λ q. StoreFits u w x Open q) (sym part)
-          (record { next = r; can = can; spells = spells; at = place; free = free; below = below; unentered = unentered }));
-    }
+-- ---- a store of a slot's next word
+abbrev pub slot_change : ℕ → Undrained
+slot_change w = record { word = w; mask = all_bits; old = None; flushed = false }
+
+module _ {v : View} {records : List Recorded} {slot : List ℕ} {u : View}
+    (at : Logging v (IsBeyond v.fixed.shape) records slot u) where
+  abbrev stored_view : ℕ → ℕ → List Recorded → List ℕ → View
+  stored_view w x records' slot' = view_with v (Knows w x ∷ u.claims) (slot_change w ∷ u.changes)
+      (u.calls + 1) records' slot'
+
+  pub slot_stored : (w x : ℕ) → part_of v.fixed.shape v.fixed.lane w ≡ SlotPart
+      → ((y : ℕ) → IsBeyond v.fixed.shape y → w ≢ y) → w ≢ generation_word v
+      → (records' : List Recorded) (slot' : List ℕ) → with_slot v.fixed.shape (class v.claims)
+      (slot ++ x ∷ []) (log_with v records slot) ≡ log_with v records' slot'
+      → (after u (Store w x) ≡ stored_view w x records' slot') × Logging v (IsBeyond v.fixed.shape)
+      records' slot' (stored_view w x records' slot')
+  slot_stored w x part other apart records' slot' grows = (
+    ap (λ (y : View). after y (Store w x)) at.same
+        ∙ (ap (λ q. changed_from here_ w all_bits (was_of Open q (value_in here_ w)) x
+        (marked_by Open q x u.claims) (log_stored v.fixed.shape (class u.claims) Open q x
+        (log_with v records slot))) part
+        ∙ ap (λ l. record (stored_view w x records slot) { log = l })
+        (ap (λ cl. with_slot v.fixed.shape cl (slot ++ x ∷ []) (log_with v records slot))
+        (class_so at) ∙ grows)),
+    noted_more at (Valued w x) tt apart (λ y far. known_noted v.fixed.shape u.claims (runs_one v)
+        (Valued w x) tt y (other y far)) (slot_change w ∷ u.changes) (u.calls + 1) records' slot',
+  )
+    where
+      here_ : View
+      here_ = view_with v u.claims u.changes u.calls records slot
+
+  -- it is lawful, where a record that could be written begins with the words
+  pub may_store_slot : IsWorking v → (w x : ℕ) → part_of v.fixed.shape v.fixed.lane w ≡ SlotPart
+      → w < words_of v.fixed.shape → x < 2 ^ 64 → HasRoom u.changes → length records < 64
+      → (r : Recorded) → CanRecord v r
+      → ((i : ℕ) → i < length r.old → is_recorded records (place_after r.place i) ≡ false)
+      → slot ++ x ∷ [] ≡ take (length slot + 1) (spelled v.fixed.shape v.log.generation r)
+      → w ≡ 8 * line_of_slot v.fixed.shape v.fixed.lane (length records) + length slot
+      → MayStore u w x
+  may_store_slot working w x part inside small room free r can new spells place =
+      subst (λ (y : View). MayStore y w x) (sym at.same) (record {
+        inside = inside;
+        room = room;
+        small = small;
+        fits = subst (λ q. StoreFits (view_with v u.claims u.changes u.calls records slot) w x Open q)
+            (sym part) (record {
+              next = r;
+              can = moved_record v u.claims u.changes u.calls (log_with v records slot) (class_so at)
+                  (ap (first v.fixed.shape) at.are ∙ first_same v.fixed.shape at.notes v.claims)
+                  (λ B. ap (λ t. here v.fixed.shape t B) at.are ∙ here_same v.fixed.shape at.notes v.claims
+                  at.each B) at.known_ r new can;
+              spells = spells;
+              at = place;
+              free = free;
+              below = working.below;
+              unentered = refl;
+            });
+      })

@@ -1,13 +1,12 @@
 -- Ending the generation is lawful.
-use Rattle.std.proofs.Common.{◌≡◌, ◌≢◌, ℕ, zero, suc, ◌+◌, ◌*◌, ◌/◌, ◌^◌, ◌<◌, ◌≤◌, Bool, true, false, cond, ◌==◌, List, [], ◌∷◌, length, refl, sym, ap, ◌∙◌, subst, arith, eq-eqb, Option, Some, None, IsTrue}
+use Rattle.std.proofs.Common.{◌≡◌, ℕ, ◌+◌, ◌/◌, ◌<◌, Bool, true, false, ◌==◌, List, [], ◌∷◌, length, refl, sym, ap, ◌∙◌, subst, arith, eq-eqb, Some}
 use Rattle.std.specs.Option.{option_map}
-use Rattle.std.proofs.lemmas.Bool.{both_ways, cond-true}
+use Rattle.std.proofs.lemmas.Bool.{cond-true}
 use Rattle.pm_layout.specs.declared.shape.Shape.{Shape}
 use Rattle.pm_layout.specs.Areas.{word_of_generation}
 use Rattle.pm_view.specs.Bits.{all_bits}
 use Rattle.pm_view.specs.Changes.{Undrained, is_in_line, mark}
 use Rattle.pm_view.specs.Claims.{Knows, Drained, class, known, pictured}
-use Rattle.pm_view.specs.Counts.{HasRoom}
 use Rattle.pm_view.specs.Log.{Phase, Idle, Open, Drawn, Sealing, Applying, Clearing, Retiring, Voiding, log_stored, next_log}
 use Rattle.pm_view.specs.Parts.{GenerationPart}
 use Rattle.pm_view.specs.Steps.Step.{Store, Flush, Drain}
@@ -17,18 +16,15 @@ use Rattle.pm_world.specs.Lawful.{MayStore, StoreFits}
 use Rattle.pm_plan.specs.Plans.{IsPersisted, Ready, claims_persisted, in_turn, log_persisted, one, persists, stores}
 use Rattle.pm_plan.proofs.Going.{Goes, goes_one, goes_stores, goes_then}
 use Rattle.pm_undo.specs.Plans.{ends_word, retires}
-use Rattle.pm_undo.specs.Working.{CanEndAt, CanRetire, DrainedTo, IsRetired, Valued, phase_ended}
-use Rattle.pm_undo.proofs.AreaParts.{part_generation}
-use Rattle.pm_undo.proofs.Notes.{known_noted, pictured_noted}
+use Rattle.pm_plan.specs.Notes.{DrainedTo, Valued}
+use Rattle.pm_undo.specs.Working.{CanEndAt, CanRetire, IsRetired, phase_ended}
+use Rattle.pm_plan.proofs.AreaParts.{part_generation}
+use Rattle.pm_plan.proofs.Notes.{known_noted}
 
 -- how far the call is once the next generation is stored
 abbrev phase_stored : Phase → Phase
 phase_stored (Drawn n) = Retiring n
 phase_stored phase = Voiding
-
-is_true : (b : Bool) → b ≡ true → IsTrue b
-is_true true e = search Rattle.std.proofs.Common.rules
-is_true false e = absurd (both_ways false refl e)
 
 module _ (v : View) (can : CanRetire v) where
   abbrev sh : Shape
@@ -121,7 +117,7 @@ module _ (v : View) (can : CanRetire v) where
       (goes_stores Before (StoredSo false) w x stays (λ u same room. (subst (λ (y : View). MayStore y w x) (sym same) (may u.calls), stored u same)))
       (goes_then (StoredSo false) (StoredSo true) Ended (one (Flush line)) (one Drain)
       (goes_one (StoredSo false) (StoredSo true) (Flush line) (λ u same. (
-        subst (λ (y : View). Rattle.pm_view.specs.Counts.FlushesSome line y.changes) (sym same) (0, change false, omega arith, refl, (is_true (w / 8 == line) (eq-eqb (w / 8) line refl), refl)),
+        subst (λ (y : View). Rattle.pm_view.specs.Counts.FlushesSome line y.changes) (sym same) (0, change false, omega arith, refl, (eq-eqb (w / 8) line refl, refl)),
         tt,
         ap (λ (y : View). after y (Flush line)) same ∙ ap (λ c. record v { claims = Knows w x ∷ v.claims; changes = c ∷ []; calls = u.calls + 1; log = record v.log { phase = phase_stored v.log.phase; bumped = true } }) marked,
       )))
@@ -144,7 +140,6 @@ module _ (v : View) (can : CanRetire v) where
           noted = record { notes = DrainedTo [] ∷ Valued w x ∷ []; are = claims; each = (can.unmaking, (tt, tt)) };
           known = λ y far. ap (λ (z : View). known z.fixed.shape (runs_one z) z.claims y) t.1
               ∙ (known_noted sh (Knows w x ∷ v.claims) (runs_one v) (DrainedTo []) can.unmaking y tt ∙ known_noted sh v.claims (runs_one v) (Valued w x) tt y (λ e. let low = can.lane in omega (arith, e, low, far)));
-          others = λ y far. ap (λ (z : View). value_in z y) t.1 ∙ pictured_noted sh v.claims (Valued w x) tt y (λ e. far (sym e));
           next = ap (λ (z : View). value_in z w) t.1 ∙ cond-true (w == w) (Some x) (pictured sh v.claims w) (eq-eqb w w refl);
         },
       )

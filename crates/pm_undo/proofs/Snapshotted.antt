@@ -1,5 +1,5 @@
 -- A snapshot is lawful, and leaves its records.
-use Rattle.std.proofs.Common.{◌≡◌, ◌≢◌, ℕ, zero, suc, ◌+◌, ◌<◌, inl, ⊎_elim, Bool, true, false, cond, not, nat_lt, List, [], ◌∷◌, length, map, get_or, refl, sym, ap, ◌∙◌, subst, arith, Option, None, Some}
+use Rattle.std.proofs.Common.{◌≡◌, ℕ, zero, suc, ◌+◌, ◌<◌, inl, ⊎_elim, Bool, true, false, cond, not, List, [], ◌∷◌, length, map, get_or, refl, sym, ap, ◌∙◌, subst, arith, Option, None, Some}
 use Rattle.std.specs.Prelude.{slice_index, unwrap_or}
 use Rattle.std.specs.List.{AllByRecursion}
 use Rattle.std.proofs.lemmas.Bool.{both_ways}
@@ -21,10 +21,10 @@ use Rattle.pm_world.proofs.PlacesAt.{is_at}
 use Rattle.pm_plan.specs.Plans.{known_word}
 use Rattle.pm_undo.specs.Records.{kept_in, recorded_in, words_of_span}
 use Rattle.pm_undo.specs.Spans.{ArePast}
-use Rattle.pm_undo.specs.Working.{IsBeyond}
+use Rattle.pm_plan.specs.Notes.{IsBeyond}
 use Rattle.pm_world.specs.declared.lane.KeptRecord.{KeptRecord}
 use Rattle.pm_undo.proofs.Apart.{span_of}
-use Rattle.pm_undo.proofs.AreaParts.{in_pool}
+use Rattle.pm_plan.proofs.AreaParts.{in_pool}
 use Rattle.pm_undo.proofs.OneRecord.{IsAside}
 
 module _ (v : View) (s : Span) (can : CanRecord v (recorded_in v s)) where

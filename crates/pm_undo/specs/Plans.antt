@@ -6,7 +6,7 @@ use Rattle.pm_view.specs.Steps.Step.{Flush, Drain}
 use Rattle.pm_view.specs.View.{View}
 use Rattle.pm_view.specs.Views.{after_all}
 use Rattle.pm_undo.specs.declared.spans.Span.{Span}
-use Rattle.pm_plan.specs.Plans.{Plan, known_word, nothing, one, in_turn, repeated, looks, stores, persists, persists_all}
+use Rattle.pm_plan.specs.Plans.{Plan, known_word, nothing, one, in_turn, repeated, looks, stores, stores_from, persists, persists_all}
 use Rattle.pm_world.specs.LaneFields.{padded}
 use Rattle.pm_undo.specs.Records.{kept_by, kept_in, record_at, slot_of}
 use Rattle.pm_undo.specs.Spans.{plan_of, span_at}
@@ -22,21 +22,24 @@ looks_first spans n = repeated (λ i. looks_from (span_at spans i).word (span_at
 unfoldable pub looks_at : List Span → Plan
 looks_at spans = looks_first spans (length spans)
 
--- stores of consecutive words
-unfoldable pub stores_from : ℕ → List ℕ → Plan
-stores_from word values = repeated (λ i. stores (word + i) (slice_index values i)) (length values)
-
 -- what they find
 unfoldable pub looked_words : ℕ → ℕ → View → List ℕ
 looked_words word zero v = []
-looked_words word (suc n) v = looked_words word n v ++ known_word (after_all v (looks_from word n v)) (word + n) ∷ []
+looked_words word (suc n) v = looked_words word n v
+    ++ known_word (after_all v (looks_from word n v)) (word + n) ∷ []
 
 abbrev pub looked_span : Span → View → KeptRecord
-looked_span s v = record { word = s.word; count = s.count; old = padded (looked_words s.word s.count v) }
+looked_span s v = record {
+  word = s.word;
+  count = s.count;
+  old =
+      padded (looked_words s.word s.count v);
+}
 
 unfoldable pub looked_first : List Span → ℕ → View → List KeptRecord
 looked_first spans zero v = []
-looked_first spans (suc n) v = looked_first spans n v ++ looked_span (span_at spans n) (after_all v (looks_first spans n v)) ∷ []
+looked_first spans (suc n) v = looked_first spans n v ++ looked_span (span_at spans n)
+    (after_all v (looks_first spans n v)) ∷ []
 
 -- ---- a snapshot
 
@@ -45,15 +48,19 @@ unfoldable pub writes_slot : ℕ → List ℕ → Plan
 writes_slot line words = in_turn (stores_from (8 * line) words) (one (Flush line))
 
 abbrev pub writes_record : Shape → ℕ → ℕ → ℕ → KeptRecord → Plan
-writes_record sh lane generation slot r = writes_slot (line_of_slot sh lane slot) (slot_of generation r)
+writes_record sh lane generation slot r = writes_slot (line_of_slot sh lane slot)
+    (slot_of generation r)
 
 -- records in consecutive slots
 unfoldable pub writes_records : Shape → ℕ → ℕ → ℕ → List KeptRecord → Plan
-writes_records sh lane generation slot records = repeated (λ i. writes_record sh lane generation (slot + i) (record_at records i)) (length records)
+writes_records sh lane generation slot records =
+    repeated (λ i. writes_record sh lane generation (slot + i) (record_at records i))
+    (length records)
 
 -- and a drain, where there is any
 unfoldable pub writes_all : Shape → ℕ → ℕ → ℕ → List KeptRecord → Plan
-writes_all sh lane generation slot records = in_turn (writes_records sh lane generation slot records) (one Drain)
+writes_all sh lane generation slot records =
+    in_turn (writes_records sh lane generation slot records) (one Drain)
 
 unfoldable pub logs : Shape → ℕ → ℕ → ℕ → List KeptRecord → Plan
 logs sh lane generation slot [] = nothing
@@ -65,7 +72,8 @@ logs_here sh generation slot records v = logs sh v.fixed.lane generation slot re
 
 -- the words of these spans are looked at, and get records after those that there are
 unfoldable pub records_all : List Span → Plan
-records_all spans v = in_turn (looks_at spans) (logs_here v.fixed.shape v.log.generation (length v.log.records) (map (kept_in v) spans)) v
+records_all spans v = in_turn (looks_at spans) (logs_here v.fixed.shape v.log.generation
+    (length v.log.records) (map (kept_in v) spans)) v
 
 -- the words of a range that have no record get one
 unfoldable pub snapshots : ℕ → ℕ → Plan
@@ -80,7 +88,8 @@ restores_record r = stores_from r.word (take r.count r.old)
 unfoldable pub puts_back : List KeptRecord → Plan
 puts_back records = repeated (λ i. restores_record (record_at records i)) (length records)
 
--- every recorded word becomes what it was, in the order of the records, and all of it is made persistent
+-- every recorded word becomes what it was, in the order of the records, and all of it is made
+-- persistent
 unfoldable pub restores : Plan
 restores v = in_turn (puts_back (kept_by v)) persists_all v
 

@@ -32,7 +32,14 @@ record_at records i = slice_index_or records i no_record
 
 -- the words of its slot
 abbrev pub slot_of : ℕ → KeptRecord → List ℕ
-slot_of generation r = undo_words (record { generation = generation; place = 8 * r.word; count = r.count; old = r.old })
+slot_of generation r =
+    undo_words (record {
+      generation = generation;
+      place = 8 * r.word;
+      count = r.count;
+      old =
+          r.old;
+    })
 
 -- the records that a lane with this view keeps
 abbrev pub kept_by : View → List KeptRecord
@@ -40,4 +47,9 @@ kept_by v = map (kept_of v.fixed.shape) v.log.records
 
 -- A LANE'S FIELDS with the log that a view has
 abbrev pub with_log : View → Fields → Fields
-with_log v f = record f { shape = v.fixed.shape; generation = v.log.generation; records = kept_by v }
+with_log v f = record f {
+  shape = v.fixed.shape;
+  generation = v.log.generation;
+  records =
+      kept_by v;
+}

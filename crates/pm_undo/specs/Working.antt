@@ -1,5 +1,6 @@
--- A lane whose log may grow, be put back and be retired, on its view alone; and what each of these leaves of the view.
-use Rattle.std.specs.Prelude.{◌≡◌, ◌≢◌, ℕ, ◌+◌, ◌*◌, ◌^◌, ◌<◌, ◌≤◌, true, false, List, [], ◌∷◌, ◌++◌, length, map, slice_index, Some}
+-- A lane whose log may grow, be put back and be retired, on its view alone; and what each of
+-- these leaves of the view.
+use Rattle.std.specs.Prelude.{◌≡◌, ◌⊎◌, ℕ, ◌+◌, ◌*◌, ◌^◌, ◌<◌, ◌≤◌, true, false, List, [], ◌∷◌, ◌++◌, length, map, slice_index, Some, IsSome}
 use Rattle.std.specs.List.{AllByRecursion}
 use Rattle.pm_layout.specs.declared.shape.Shape.{Shape}
 use Rattle.pm_layout.specs.Areas.{greatest_generation, undo_slots, old_words, word_of_generation}
@@ -16,7 +17,9 @@ use Rattle.pm_world.specs.States.{given}
 use Rattle.pm_world.specs.Sights.{is_recorded, picture}
 use Rattle.pm_world.specs.Logs.{AreInRow, AreRestored}
 use Rattle.pm_undo.specs.declared.spans.Span.{Span}
-use Rattle.pm_undo.specs.Records.{recorded_in}
+use Rattle.pm_model.specs.Items.{is_among}
+use Rattle.pm_undo.specs.Records.{kept_by, recorded_in}
+use Rattle.pm_undo.specs.Spans.{words_in}
 
 -- a record that may be put back: its words are data of chunks of the pool, used as the lane knows
 pub record IsStanding (v : View) (r : Recorded) : Type 0 where
@@ -24,19 +27,18 @@ pub record IsStanding (v : View) (r : Recorded) : Type 0 where
   pub most : length r.old ≤ old_words v.fixed.shape
   pub data_ : (i : ℕ) → i < length r.old → is_data (place_after r.place i) ≡ true
   pub row : AreInRow v.fixed.shape r
-  pub use_ : (i : ℕ) → i < length r.old → place_in v (word_of v.fixed.shape (place_after r.place i)) ≡ Some (place_after r.place i)
+  pub use_ : (i : ℕ) → i < length r.old
+      → place_in v (word_of v.fixed.shape (place_after r.place i)) ≡ Some (place_after r.place i)
   pub small : (i : ℕ) → i < length r.old → slice_index r.old i < 2 ^ 64
 
 -- no word has two records
 abbrev pub AreOnce : List Recorded → Type 0
 AreOnce [] = Unit {0}
-AreOnce (r ∷ records) = ((p : Place) → given (old_in r p) ≡ true → is_recorded records p ≡ false) × AreOnce records
+AreOnce (r ∷ records) = ((p : Place) → given (old_in r p) ≡ true → is_recorded records p ≡ false)
+    × AreOnce records
 
--- a word that is of no lane's area, nor before them
-abbrev pub IsBeyond : Shape → ℕ → Type 0
-IsBeyond sh w = 512 * page_of_zone sh 0 ≤ w
-
--- A LANE AT WORK: its call is open, no record and no entry is in the making or stored, its records are drained, and it makes no run
+-- A LANE AT WORK: its call is open, no record and no entry is in the making or stored, its
+-- records are drained, and it makes no run
 pub record IsWorking (v : View) : Type 0 where
   pub is_open : v.log.phase ≡ Open
   pub whole : (v.log.slot ≡ []) × (v.log.pair ≡ [])
@@ -52,42 +54,6 @@ pub record IsWorking (v : View) : Type 0 where
   pub once : AreOnce v.log.records
   pub known : value_in v (word_of_generation v.fixed.shape v.fixed.lane) ≡ Some v.log.generation
 
--- ---- what stays
-
--- claims that tell nothing new of blocks
-pub data Note : Type 0 where
-  -- a word has this value
-  Valued : ℕ → ℕ → Note
-  -- a drain left these changes
-  DrainedTo : List Undrained → Note
-  -- the first word of a huge block's chunk was looked at
-  Looked : ℕ → ℕ → Note
-
-abbrev pub claim_of : Note → Claim
-claim_of (Valued w x) = Knows w x
-claim_of (DrainedTo left) = Drained left
-claim_of (Looked c x) = SawBitmap c x
-
-abbrev pub noted : List Note → List Claim → List Claim
-noted [] t = t
-noted (n ∷ notes) t = claim_of n ∷ noted notes t
-
--- a drain makes no run, and what was looked at is no run
-abbrev pub IsNote : Shape → List Claim → Note → Type 0
-IsNote sh t (Valued w x) = Unit {0}
-IsNote sh t (DrainedTo left) = (c : ℕ) → making sh t c ≡ false
-IsNote sh t (Looked c x) = class t c ≡ 0
-
-abbrev pub AreNotes : Shape → List Claim → List Note → Type 0
-AreNotes sh t [] = Unit {0}
-AreNotes sh t (n ∷ notes) = IsNote sh (noted notes t) n × AreNotes sh t notes
-
--- THE LANE HOLDS WHAT IT HELD: its claims are those before, and such notes
-pub record HasNoted (v w : View) : Type 0 where
-  pub notes : List Note
-  pub are : w.claims ≡ noted notes v.claims
-  pub each : AreNotes v.fixed.shape v.claims notes
-
 -- ---- a snapshot
 
 -- the lane is at work, and may record each of these spans; and has slots for so many
@@ -98,23 +64,52 @@ pub record CanSnapshot (v : View) (spans : List Span) : Type 0 where
 abbrev pub HasSlots : View → List Span → Type 0
 HasSlots v spans = length v.log.records + length spans ≤ undo_slots v.fixed.shape
 
--- THEIR RECORDS STAND after those that there were, drained as they are, with the words as they were known; these are known so still
+-- THEIR RECORDS STAND after those that there were, drained as they are, with the words as they
+-- were known; these are known so still
 pub record IsSnapshot (v : View) (spans : List Span) (w : View) : Type 0 where
-  pub same : w ≡ record v { claims = w.claims; changes = w.changes; calls = w.calls; log = record v.log { records = v.log.records ++ map (recorded_in v) spans } }
+  pub same : w ≡ record v {
+    claims = w.claims;
+    changes = w.changes;
+    calls = w.calls;
+    log = record v.log { records = v.log.records ++ map (recorded_in v) spans };
+  }
   pub noted : HasNoted v w
   pub changes : AllByRecursion (λ (u : Undrained). IsBeyond v.fixed.shape u.word) w.changes
   pub known : (u : ℕ) → IsBeyond v.fixed.shape u → knows w u ≡ knows v u
   pub working : IsWorking w
 
+-- ---- writing
+
+-- the word is none of so many from this one on
+abbrev pub IsOutside : ℕ → ℕ → ℕ → Type 0
+IsOutside word n w = (w < word) ⊎ (word + n ≤ w)
+
+-- the lane is at work; each of these words has a record, and the lane knows it
+pub record CanWrite (v : View) (word : ℕ) (values : List ℕ) : Type 0 where
+  pub working : IsWorking v
+  pub recorded : (i : ℕ) → i < length values → is_among (words_in (kept_by v)) (word + i) ≡ true
+  pub known : (i : ℕ) → i < length values → IsSome (knows v (word + i))
+  pub small : (i : ℕ) → i < length values → slice_index values i < 2 ^ 64
+
+-- THE WORDS ARE SO, others are known as they were, and the lane is at work with the same log
+pub record IsWritten (v : View) (word : ℕ) (values : List ℕ) (w : View) : Type 0 where
+  pub same : w ≡ record v { claims = w.claims; changes = w.changes; calls = w.calls }
+  pub noted : HasNoted v w
+  pub written : (i : ℕ) → i < length values → knows w (word + i) ≡ Some (slice_index values i)
+  pub known : (u : ℕ) → IsOutside word (length values) u → knows w u ≡ knows v u
+  pub working : IsWorking w
+
 -- ---- putting back
 
--- EVERY RECORDED WORD IS AS IT WAS RECORDED, and that is persistent; other data are known as they were
+-- EVERY RECORDED WORD IS AS IT WAS RECORDED, and that is persistent; other data are known as they
+-- were
 pub record IsRestored (v w : View) : Type 0 where
   pub same : w ≡ record v { claims = w.claims; changes = []; calls = w.calls }
   pub noted : HasNoted v w
   pub restored : AreRestored (picture w.fixed.shape w.claims) w.log.records
-  pub known : (p : Place) → is_data p ≡ true → place_in v (word_of v.fixed.shape p) ≡ Some p → is_recorded v.log.records p ≡ false → knows w (word_of v.fixed.shape p) ≡ knows v (word_of v.fixed.shape p)
-  pub others : (u : ℕ) → ((p : Place) → is_recorded v.log.records p ≡ true → u ≢ word_of v.fixed.shape p) → value_in w u ≡ value_in v u
+  pub known : (p : Place) → is_data p ≡ true → place_in v (word_of v.fixed.shape p) ≡ Some p
+      → is_recorded v.log.records p ≡ false
+      → knows w (word_of v.fixed.shape p) ≡ knows v (word_of v.fixed.shape p)
   pub working : IsWorking w
 
 -- ---- ending the generation
@@ -140,10 +135,16 @@ pub record CanRetire (v : View) : Type 0 where
   pub drained : v.changes ≡ []
   pub known : value_in v (word_of_generation v.fixed.shape v.fixed.lane) ≡ Some v.log.generation
 
--- THE GENERATION IS ENDED: no records are left, nothing is undrained, and the lane knows the next generation
+-- THE GENERATION IS ENDED: no records are left, nothing is undrained, and the lane knows the next
+-- generation
 pub record IsRetired (v w : View) : Type 0 where
-  pub same : w ≡ record v { claims = w.claims; changes = []; calls = w.calls; log = next_log (phase_ended v.log.phase) v.log }
+  pub same : w ≡ record v {
+    claims = w.claims;
+    changes = [];
+    calls = w.calls;
+    log = next_log (phase_ended v.log.phase) v.log;
+  }
   pub noted : HasNoted v w
   pub known : (u : ℕ) → IsBeyond v.fixed.shape u → knows w u ≡ knows v u
-  pub others : (u : ℕ) → u ≢ word_of_generation v.fixed.shape v.fixed.lane → value_in w u ≡ value_in v u
-  pub next : value_in w (word_of_generation v.fixed.shape v.fixed.lane) ≡ Some (v.log.generation + 1)
+  pub next : value_in w (word_of_generation v.fixed.shape v.fixed.lane)
+      ≡ Some (v.log.generation + 1)

@@ -1,5 +1,5 @@
-//! Undo logging: words are recorded before they are written, put back where a call is aborted, and
-//! their records retired.
+//! Undo logging: words are recorded, then written, put back where a call is aborted, and their
+//! records retired.
 //!
 //! Promises the calls of a lane, over any lawful memory and whatever other lanes do, that each part
 //! makes exactly the memory calls of its plan, or the first of them up to the lane's stop; and laws
@@ -15,15 +15,19 @@ mod restoring;
 mod retiring;
 mod snapshots;
 mod spans;
+mod writing;
 
 pub use laws::{
-    generations_may_end, ranges_of_held_objects_may_be_snapshot, recorded_words_may_be_put_back,
-    snapshots_are_lawful,
+    generations_may_end, holdings_stay, lanes_stay_between_operations,
+    ranges_of_held_objects_may_be_snapshot, recorded_words_may_be_put_back,
+    recorded_words_may_be_written, restored_lanes_may_end_their_generation,
+    snapshot_ranges_may_be_written, snapshots_are_lawful, snapshots_record_their_range,
 };
 pub use restoring::restore;
 pub use retiring::retire;
 pub use snapshots::snapshot;
 pub use spans::Span;
+pub use writing::write;
 
 #[cfg(test)]
 mod tests;

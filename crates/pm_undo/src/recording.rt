@@ -2,13 +2,14 @@ ghost use Rattle.std.specs.Prelude.{◌≡◌, ◌+◌, ◌^◌, ◌<◌, ◌≤
 ghost use Rattle.std.specs.List.{All};
 ghost use Rattle.pm_view.specs.View.{View};
 ghost use Rattle.pm_plan.specs.Plans.{IsReady, Runs};
-ghost use Rattle.pm_undo.specs.Plans.{logs, logs_here, stores_from, writes_all, writes_record, writes_records, writes_slot};
+ghost use Rattle.pm_plan.specs.Plans.{stores_from};
+ghost use Rattle.pm_undo.specs.Plans.{logs, logs_here, writes_all, writes_record, writes_records, writes_slot};
 ghost use Rattle.pm_undo.specs.Records.{slot_of};
 ghost use Rattle.pm_world.specs.declared.lane.KeptRecord.{KeptRecord};
 
 use pm_layout::{LINE_WORDS, Shape, WORD_BYTES};
 use pm_memory::Stopped;
-use pm_plan::{drain, flush, store};
+use pm_plan::{drain, flush, store_all};
 use pm_record::Undo;
 use pm_world::{KeptRecord, LawfulMem};
 
@@ -27,18 +28,6 @@ fn spell(generation: u64, kept: KeptRecord) -> [u64; 8]
     let mut slot = [0; 8];
     undo.encode(&mut slot);
     slot
-}
-
-/// Stores consecutive words.
-pub fn store_all<M: LawfulMem>(mem: &mut M, first: u64, values: &[u64]) -> Result<(), Stopped>
-    requires inside { first + length values.now < 2 ^ 64 }
-    requires ready { IsReady (M.at mem.old) (stores_from first values.now) }
-    ensures { Runs (M.at mem.old) (M.at mem.new) (stores_from first values.now) result }
-{
-    for (i, value) in values.iter().enumerate() {
-        store(mem, first + i as u64, *value)?;
-    }
-    Ok(())
 }
 
 /// Writes a record in a slot: its words, and a flush of its line.

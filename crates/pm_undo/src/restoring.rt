@@ -6,9 +6,8 @@ ghost use Rattle.pm_undo.specs.Undoing.{IsKept, Restored, Stands};
 ghost use Rattle.pm_undo.specs.Working.{IsWorking};
 ghost use Rattle.pm_world.specs.declared.lane.KeptRecord.{KeptRecord};
 
-use crate::recording::store_all;
 use pm_memory::Stopped;
-use pm_plan::persist_all;
+use pm_plan::{persist_all, store_all};
 use pm_world::{KeptRecord, Lane, LawfulMem};
 
 /// Makes the words of a record what they were.

@@ -1,7 +1,7 @@
 ghost use Rattle.std.specs.Prelude.{◌≡◌, ◌+◌, ◌^◌, ◌<◌, ◌≤◌, ◌++◌, length, sum_by};
 ghost use Rattle.std.specs.List.{All};
 ghost use Rattle.pm_undo.specs.Spans.{IsSpan};
-ghost use Rattle.pm_undo.specs.Undoing.{Snapshotted, Stands, needed};
+ghost use Rattle.pm_undo.specs.Undoing.{LoggedSpans, MayLog, Snapshotted, Stands, needed};
 ghost use Rattle.pm_undo.specs.Working.{CanSnapshot};
 
 use crate::reading::read_all;
@@ -27,21 +27,31 @@ pub fn snapshot<M: LawfulMem>(lane: &mut Lane<M>, place: u64, len: u64) -> Resul
     let Some(spans) = plan(lane.log.records.as_slice(), place, len) else {
         return Err(Refusal::LogFull);
     };
+    match log_spans(lane, spans.as_slice()) {
+        Ok(()) => Ok(count(spans.as_slice())),
+        Err(Stopped) => Err(Refusal::Stopped),
+    }
+}
+
+/// Looks at the words of some spans, records them after the records that there are, and keeps their
+/// records.
+fn log_spans<M: LawfulMem>(lane: &mut Lane<M>, spans: &[Span]) -> Result<(), Stopped>
+    requires room { length lane.old.log.records.items + length spans.now ≤ 64 }
+    requires spans { All IsSpan spans.now }
+    requires stands { Stands M.at lane.old (λ v. MayLog v spans.now) }
+    ensures { LoggedSpans M.at spans.now lane.old lane.new result }
+{
     let slot = lane.log.records.len() as u64;
-    let kept = read_all(&mut lane.memory, spans.as_slice());
-    match write_new(
+    let kept = read_all(&mut lane.memory, spans);
+    write_new(
         &mut lane.memory,
         lane.shape,
         lane.log.generation,
         slot,
         kept.as_slice(),
-    ) {
-        Ok(()) => {
-            extend(&mut lane.log.records, kept.as_slice());
-            Ok(count(spans.as_slice()))
-        }
-        Err(Stopped) => Err(Refusal::Stopped),
-    }
+    )?;
+    extend(&mut lane.log.records, kept.as_slice());
+    Ok(())
 }
 
 /// How many words some spans have.

@@ -1,6 +1,7 @@
 -- Notes leave what a lane holds, and what it knows but of the words that they name.
 use Rattle.std.proofs.Common.{◌≡◌, ◌≢◌, ℕ, Bool, true, false, cond, not, ◌&&◌, ◌||◌, ◌==◌, nat_lt, List, [], ◌∷◌, refl, sym, ap, ◌∙◌, subst, eq-eqb, ne_eqb, Option, None, Some}
 use Rattle.std.specs.Int.{bit_at}
+use Rattle.std.proofs.lemmas.Option.{none-some}
 use Rattle.std.proofs.lemmas.Bool.{and_left, and_right, cond-true, cond-false, eqb-true}
 use Rattle.pm_layout.specs.declared.shape.Shape.{Shape}
 use Rattle.pm_layout.specs.Chunks.{word_of_descriptor, word_of_root}
@@ -9,7 +10,7 @@ use Rattle.pm_view.specs.Changes.{Undrained, is_dirty}
 use Rattle.pm_view.specs.Claims.{Claim, Knows, Drained, SawBitmap, locked, reads, holds, span, class, making, becomes, header_in, found, here, mine, first, geometry, shown_by_bitmap, pictured, is_new, is_held, is_held_at, block_at, known}
 use Rattle.pm_view.specs.Places.{Place, Block, Small, Big, Root, block_of, is_data}
 use Rattle.pm_view.specs.Log.{place_at}
-use Rattle.pm_undo.specs.Working.{Note, Valued, DrainedTo, Looked, claim_of, noted, IsNote, AreNotes}
+use Rattle.pm_plan.specs.Notes.{Note, Valued, DrainedTo, Looked, claim_of, noted, IsNote, AreNotes}
 
 -- the word that a note names is another
 abbrev pub IsOther : Note → ℕ → Type 0
@@ -91,6 +92,14 @@ module _ (sh : Shape) (t : List Claim) where
       go false e = ap (λ y. cond (one || is_held sh t w) y None) (cond-false (v == w) (Some x) (pictured sh t w) e)
       go true e = ap (λ y. cond (one || is_held sh t w) y None) (cond-true (v == w) (Some x) (pictured sh t w) e)
           ∙ at (one || is_held sh t w) refl (subst (λ u. known sh one t u ≡ Some x) (eqb-true v w e) is)
+
+  -- what a note says of a word that is known, is known
+  pub known_here : (one : Bool) (w x y : ℕ) → known sh one t w ≡ Some y → known sh one (Knows w x ∷ t) w ≡ Some x
+  known_here one w x y is = ap (λ z. cond (one || is_held sh t w) z None) (cond-true (w == w) (Some x) (pictured sh t w) (eq-eqb w w refl)) ∙ go (one || is_held sh t w) refl
+    where
+      go : (h : Bool) → (one || is_held sh t w) ≡ h → cond (one || is_held sh t w) (Some x) None ≡ Some x
+      go true e = cond-true (one || is_held sh t w) (Some x) None e
+      go false e = absurd (none-some y (sym (cond-false (one || is_held sh t w) (pictured sh t w) None e) ∙ is))
 
 -- ---- many notes
 class_one : (n : Note) (t : List Claim) → class (claim_of n ∷ t) ≡ class t

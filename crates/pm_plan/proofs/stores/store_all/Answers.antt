@@ -1,8 +1,7 @@
 use Rattle.std.proofs.Common.{◌+◌, length, slice_index, rules, subst, ◌≡◌, Ok}
 use Rattle.pm_plan.proofs.Plans.{repeated_none, repeated_next, repeated_more, repeated_err}
-use Rattle.pm_plan.specs.Plans.{Runs, repeated, stores}
-use Rattle.pm_undo.specs.Plans.{stores_from}
-use Rattle.pm_undo.proofs.recording.store_all.Goals as goal
+use Rattle.pm_plan.specs.Plans.{Runs, repeated, stores, stores_from}
+use Rattle.pm_plan.proofs.stores.store_all.Goals as goal
 
 pub loop-i-init : goal.loop-i-init
 loop-i-init g c = repeated_none (g.M.LaneMem.at c.args.mem.now) (λ i. stores (c.args.first + i) (slice_index c.args.values.now i))

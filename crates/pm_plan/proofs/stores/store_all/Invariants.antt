@@ -1,6 +1,6 @@
 use Rattle.std.proofs.Common.{◌+◌, slice_index}
 use Rattle.pm_plan.specs.Plans.{IsMade, repeated, stores}
-use Rattle.pm_undo.proofs.recording.store_all.Given as goal
+use Rattle.pm_plan.proofs.stores.store_all.Given as goal
 
 -- the first so many words are stored
 abbrev pub invariant-loop-i : goal.invariant-loop-i

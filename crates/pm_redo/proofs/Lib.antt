@@ -1,0 +1,11 @@
+pub mod Seals
+pub mod Carrying
+pub mod LastMade
+pub mod EntriesApplied
+pub mod Entering
+pub mod LogWritten
+pub mod Telling
+pub mod Engines
+pub mod Performed
+pub mod Numbered
+pub mod Chained

@@ -1,0 +1,5 @@
+use Rattle.pm_redo.proofs.Seals.{clear_lawful}
+use Rattle.pm_redo.proofs.laws.seals_may_be_cleared.Goals as goal
+
+pub returns : goal.returns
+returns c v can = clear_lawful v can
