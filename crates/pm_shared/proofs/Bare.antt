@@ -138,7 +138,5 @@ module _ (b : Beginning) (bare : IsBare b) where
     small = bare.small;
     whole = no_heap_fault (slice_index b.words.items) b.shape.lanes b.shape.zones (λ c. late (descriptor_word b.shape.lanes c) (omega arith)) root;
     retired = retired;
-    runs = bare.runs;
-    zones = bare.zones;
-    taken = taken;
+    occupancy = record { pages = bare.runs; zone_count = bare.zones; taken = taken };
   }

@@ -23,6 +23,7 @@ mod lane_mem;
 mod lane_sync;
 mod lawful;
 mod mem;
+mod occupancy;
 mod places;
 mod plays;
 mod pool;
@@ -32,6 +33,7 @@ mod tally;
 
 pub use lane::{SharedLane, TableName};
 pub use mem::{LaneSeat, SharedMem};
+pub use occupancy::Occupancy;
 pub use pool::PoolSeat;
 pub use rule::{Beginning, Knows, WorldRule};
 pub use tally::Tally;
