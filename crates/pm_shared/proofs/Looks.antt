@@ -1,5 +1,5 @@
 -- Calls by which a lane looks before its step, and the steps that rest on what it saw.
-use Rattle.std.proofs.Common.{◌≡◌, ◌≢◌, ℕ, zero, suc, ◌-◌, ◌/◌, ◌^◌, ◌<◌, ⊎_elim, Bool, true, false, cond, not, eqb, List, [], ◌∷◌, length, slice_index, set, Option, None, Some, bit_and, bit_or, refl, sym, ap, ◌∙◌, subst, eq-eqb, ne_eqb}
+use Rattle.std.proofs.Common.{◌≡◌, ◌≢◌, ℕ, zero, suc, ◌-◌, ◌/◌, ◌^◌, ◌<◌, ⊎_elim, true, false, cond, not, eqb, List, [], ◌∷◌, length, slice_index, set, Option, None, Some, bit_and, bit_or, refl, sym, ap, ◌∙◌, subst, eq-eqb, ne_eqb}
 use Rattle.std.specs.Int.{bit_not, w64}
 use Rattle.std.proofs.lemmas.Bool.{cases_eq, both_ways}
 use mathlib.Core.Option.{some, none}
@@ -20,12 +20,13 @@ use Rattle.pm_world.specs.Moves.{Moves}
 use Rattle.pm_world.specs.World.{Opening}
 use Rattle.pm_shared.specs.declared.mem.SharedMem.{SharedMem}
 use Rattle.pm_shared.specs.Openings.{opening_of, TableAllows}
-use Rattle.pm_shared.specs.Placing.{start_of, table_size, place, memory_of, kept_bits}
+use Rattle.pm_shared.specs.Placing.{start_of, table_size, place, memory_of}
 use Rattle.pm_shared.specs.Plays.{looks_at_lock, looks_at_zone, Looked, occupies_zone}
 use Rattle.pm_shared.specs.Rule.{Knowledge, Pool, Lane, Spent, Bound, BoundHolds, Made, Ruled, lane_of, SeatAsks, SeatMade, SeatFits, Owned}
 use Rattle.pm_shared.proofs.Allows.{Before, allows}
 use Rattle.pm_shared.proofs.Asked.{one_view, number_is, below_place, few_lanes}
-use Rattle.pm_shared.proofs.Moving.{At, found_at, mode_known, write_gives, read_gives, occupy_won, occupy_lost, clear_still}
+use Rattle.pm_shared.proofs.LockSaid.{writer_left}
+use Rattle.pm_shared.proofs.Moving.{At, found_at, mode_known, write_gives, read_gives, write_frees, occupy_won, occupy_lost, clear_still}
 
 pub set_same : (l : List ℕ) (i : ℕ) → set l i (slice_index l i) ≡ l
 set_same [] i = refl
@@ -69,22 +70,20 @@ module _ (m : SharedMem) (lane : ℕ) (me : Me ℕ Knowledge) (line i : ℕ) (as
       no_slots : me.1 ≡ me.1
       no_slots = refl
 
-  -- a lane gives the lock back as it holds it
-  pub gives_moves : (r : ℕ) (words : List ℕ) → length words ≡ table_size m.shape → locked ask.view.claims line ≡ not (eqb (r / 2 ^ 32) 0) → Before o words ask.view None
-      → Moves lane (Give line) (memory_of m.shape words) (memory_of m.shape (set words i (bit_and (slice_index words i) (kept_bits lane r))))
-  gives_moves r words size saw B =
-      let x : ℕ = slice_index words i in let A : At m.shape words i (LockWord line) = record { is = is; inside = below_place m.shape (LockWord line) inside; size = size } in
-      let W : ℕ = bit_not w64 (bit_or (2 ^ 32 - 1) (writer_bit lane)) in let R : ℕ = bit_not w64 (bit_or (reader_bit lane) (writer_bit lane)) in
-      let same : not (eqb (r / 2 ^ 32) 0) ≡ not (eqb (x / 2 ^ 32) 0) = sym saw ∙ mode words B in ⊎_elim
-      (λ (low : x / 2 ^ 32 ≡ 0). let z : eqb (r / 2 ^ 32) 0 ≡ true = unnot (eqb (r / 2 ^ 32) 0) true (same ∙ ap not (eq-eqb (x / 2 ^ 32) 0 low)) in read_gives m.shape words i lane line (kept_bits lane r) (ap (λ b. cond b R W) z) low A)
-      (λ (high : x / 2 ^ 32 ≢ 0). let z : eqb (r / 2 ^ 32) 0 ≡ false = unnot (eqb (r / 2 ^ 32) 0) false (same ∙ ap not (ne_eqb (x / 2 ^ 32) 0 high)) in write_gives m.shape words i lane line (kept_bits lane r) (few_lanes m.shape lane few) (ap (λ b. cond b R W) z) high A)
-      (cases_eq (x / 2 ^ 32) 0)
-    where
-      unnot : (a b : Bool) → not a ≡ not b → a ≡ b
-      unnot true true e = refl
-      unnot false false e = refl
-      unnot true false e = absurd (both_ways false refl e)
-      unnot false true e = absurd (both_ways false refl (sym e))
+  -- A LANE GIVES THE LOCK BACK AS IT HOLDS IT: one that reads clears its own bits, and one that writes clears the word
+  pub reader_moves : (words : List ℕ) → length words ≡ table_size m.shape → locked ask.view.claims line ≡ false → Before o words ask.view None
+      → Moves lane (Give line) (memory_of m.shape words) (memory_of m.shape (set words i (bit_and (slice_index words i) (bit_not w64 (bit_or (reader_bit lane) (writer_bit lane))))))
+  reader_moves words size reads B = read_gives m.shape words i lane line (bit_not w64 (bit_or (reader_bit lane) (writer_bit lane))) refl
+      (⊎_elim (λ (low : slice_index words i / 2 ^ 32 ≡ 0). low) (λ (high : slice_index words i / 2 ^ 32 ≢ 0). absurd (both_ways (locked ask.view.claims line) reads (mode words B ∙ ap not (ne_eqb (slice_index words i / 2 ^ 32) 0 high)))) (cases_eq (slice_index words i / 2 ^ 32) 0))
+      (record { is = is; inside = below_place m.shape (LockWord line) inside; size = size })
+
+  pub writer_moves : (words : List ℕ) → length words ≡ table_size m.shape → locked ask.view.claims line ≡ true → Before o words ask.view None → slice_index words i < 18446744073709551616
+      → Moves lane (Give line) (memory_of m.shape words) (memory_of m.shape (set words i 0))
+  writer_moves words size writes B fits = subst (λ x. Moves lane (Give line) (memory_of m.shape words) (memory_of m.shape (set words i x)))
+      (ap (λ k. writer_left k (slice_index words i)) (sym ask.lane_is) ∙ write_frees o words ask.view None i line B (subst (λ k. k < 32) (sym ask.lane_is) (few_lanes m.shape lane few)) (at_lock words B) writes fits)
+      (write_gives m.shape words i lane line (bit_not w64 (bit_or (2 ^ 32 - 1) (writer_bit lane))) (few_lanes m.shape lane few) refl
+      (λ low. both_ways (locked ask.view.claims line) (mode words B ∙ ap not (eq-eqb (slice_index words i / 2 ^ 32) 0 low)) writes)
+      (record { is = is; inside = below_place m.shape (LockWord line) inside; size = size }))
 
 -- ---- BITS OF A ZONE
 module _ (m : SharedMem) (lane : ℕ) (me : Me ℕ Knowledge) (zone bits i : ℕ) (ask : SeatAsks m.shape lane me (λ r. Occupy (Zone zone) bits (eqb (bit_and r bits) 0))) (inside : zone < m.shape.zones) (is : i ≡ place m.shape (ZoneWord zone)) where
