@@ -1,12 +1,10 @@
 -- What a lane that stores words of the pool's first chunk may do, and what it is then; and steps that leave the table as it was.
-use Rattle.std.proofs.Common.{◌≡◌, ◌≢◌, ℕ, zero, suc, ◌+◌, ◌-◌, ◌*◌, ◌/◌, ◌%◌, ◌^◌, ◌<◌, ◌≤◌, Bool, true, false, not, cond, nat_le, nat_lt, ◌==◌, ◌&&◌, List, [], ◌∷◌, length, slice_index, slice_set, bit_or, Option, Some, refl, sym, ap, ◌∙◌, subst, arith, ne_eqb}
+use Rattle.std.proofs.Common.{◌≡◌, ℕ, ◌+◌, ◌^◌, ◌<◌, ◌≤◌, Bool, true, false, not, cond, ◌&&◌, List, [], ◌∷◌, length, slice_index, slice_set, bit_or, Some, refl, sym, ap, ◌∙◌, subst, arith}
 use Rattle.std.specs.Bool.{OnTrue}
 use Rattle.std.specs.Int.Bits.{or_zero_r}
-use Rattle.std.proofs.lemmas.Bool.{cond-false, false_from_ne_true, and_parts, ltb-true}
 use Rattle.atomic_table.proofs.Lists.{set_again}
-use Rattle.atomic_table.specs.Table.{State, Me, Act, keeps, Allows}
-use Rattle.pm_layout.specs.Areas.{redo_entries, undo_slots, word_of_generation, word_of_seal, word_of_entry, line_of_slot}
-use Rattle.pm_layout.specs.Chunks.{words_of, word_of_chunk}
+use Rattle.atomic_table.specs.Table.{Me, keeps, Allows}
+use Rattle.pm_layout.specs.Chunks.{word_of_chunk}
 use Rattle.pm_layout.specs.declared.shape.Shape.{Shape}
 use Rattle.pm_memory.specs.Runs.{AnyStep, Made}
 use Rattle.pm_shared.specs.declared.rule.Beginning.{Beginning}
@@ -20,8 +18,8 @@ use Rattle.pm_view.specs.Claims.{class, making, mine, first, last_first, span, w
 use Rattle.pm_view.specs.Counts.{FlushesSome, DropsSome, MayCount}
 use Rattle.pm_view.specs.Founds.{Found}
 use Rattle.pm_view.specs.Log.{Phase, Idle, log_stored, place_at}
-use Rattle.pm_view.specs.Parts.{Part, ChunkPart, part_of, pool_part, place_in, chunk_place, is_entry_word, is_slot_word}
-use Rattle.pm_view.specs.Places.{Place, Block, InHuge, Big}
+use Rattle.pm_view.specs.Parts.{Part, ChunkPart, part_of, pool_part, place_in, chunk_place}
+use Rattle.pm_view.specs.Places.{InHuge, Big}
 use Rattle.pm_view.specs.Steps.{Step}
 use Rattle.pm_view.specs.Steps.Step.{Store, Flush, Drain, ZoneTry, Occupy}
 use Rattle.pm_view.specs.View.{View}
@@ -100,8 +98,16 @@ module _ (v : View) (o : OwnsChunk v) where
       go ph = record v { claims = Rattle.pm_view.specs.Views.decided_by ph v.log.entries (Rattle.pm_view.specs.Claims.Drained [] ∷ v.claims); changes = []; calls = v.calls + 1; log = Rattle.pm_view.specs.Log.log_drained ph v.log }
 
   owns_emptied : OwnsChunk emptied
-  owns_emptied = record { two_lanes = o.two_lanes; lane_is = o.lane_is; idle = o.idle; unentered = o.unentered; no_run = o.no_run; not_in_making = refl;
-    own = ap (λ t. not (t && true) && mine v.fixed.shape v.claims (Big 0)) o.not_in_making ∙ o.own; from_itself = o.from_itself }
+  owns_emptied = record {
+    two_lanes = o.two_lanes;
+    lane_is = o.lane_is;
+    idle = o.idle;
+    unentered = o.unentered;
+    no_run = o.no_run;
+    not_in_making = refl;
+    own = ap (λ t. not (t && true) && mine v.fixed.shape v.claims (Big 0)) o.not_in_making ∙ o.own;
+    from_itself = o.from_itself;
+  }
 
 -- ---- STORES
 -- a counted step was made

@@ -18,6 +18,7 @@ const LOCKED: u64 = 100;
 
 /// The second line of the pool's first chunk, and its first word.
 const LINE: u64 = 385;
+
 const WORD: u64 = 3080;
 
 /// Makes the rounds on the pool's first lane.

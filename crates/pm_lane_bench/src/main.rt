@@ -15,9 +15,8 @@ use crate::kind::{Asked, Kind};
 use pm_layout::BadShape;
 use pm_memory::Stopped;
 use std::alloc::{AllocError, Global};
-use std::env;
-use std::io;
 use std::process::ExitCode;
+use std::{env, io};
 
 /// The steps of a round.
 pub const ROUND: u64 = 512;

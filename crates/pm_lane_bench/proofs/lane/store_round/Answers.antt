@@ -1,5 +1,4 @@
-use Rattle.std.proofs.Common.{◌≡◌, ◌+◌, ◌<◌, ◌≤◌, ◌^◌, arith}
-use Rattle.pm_lane_bench.specs.Lanes.{Fills}
+use Rattle.std.proofs.Common.{arith}
 use Rattle.pm_lane_bench.proofs.Fillings.{may_store, stored, may_flush, marked, may_drain, emptied_all}
 use Rattle.pm_lane_bench.proofs.lane.store_round.Goals as goal
 
