@@ -143,3 +143,7 @@ left_clear k r j few small none = let a = bit_at_and r (bit_not w64 mask) j in �
     swap : {X Y : Type 0} → X ⊎ Y → Y ⊎ X
     swap (inl x) = inr x
     swap (inr y) = inl y
+
+-- a writer's bit is a high one
+pub high_writer : (k : ℕ) → writer_bit k / 2 ^ 32 ≢ 0
+high_writer k e = let p : ℕ = 2 ^ k in let w : ℕ = 2 ^ (32 + k) in let f : w ≡ 2 ^ 32 * p = pow-add 2 32 k in let some : 1 ≤ p = pow_pos k in let g : w / 2 ^ 32 ≡ 0 = e in absurd (omega (arith, f, some, g))

@@ -134,7 +134,7 @@ impl SharedMem {
     }
 
     /// Gives a line's lock back. A reader clears its own bits; a writer, who holds it alone, clears the
-    /// word, with the bits that readers left.
+    /// word, with the bits that readers left: at once where there are none.
     pub(crate) fn gives(&self, seat: &mut LaneSeat, lane: u64, line: u64)
         requires table { seat.old.table_id ≡ self.now.table.shared.table_id }
         requires few { lane < self.now.shape.lanes }
@@ -143,8 +143,13 @@ impl SharedMem {
         ensures made { SeatMade seat.old.me seat.new.me (Give line) }
     {
         let at = self.lock_at(line);
-        if self.load::<plays::LooksAtLock>(seat, at) >> READERS == 0 {
-            let own = reader(lane) | writer(lane);
+        let writes = writer(lane);
+        let found = self.swap_from::<plays::GivesOrLooks>(seat, at, writes, 0);
+        if found == writes {
+            return;
+        }
+        if found >> READERS == 0 {
+            let own = reader(lane) | writes;
             self.and::<plays::Gives>(seat, at, !own);
         } else {
             self.store::<plays::Gives>(seat, at, 0);
