@@ -27,7 +27,7 @@ use Rattle.pm_view.specs.Views.{after, part_in, was_in, marked_by, changed_from,
 use Rattle.pm_view.specs.declared.occ.Occ.TheVariants.{Zone}
 use Rattle.pm_world.proofs.WordPlaces.{chunk_part}
 use Rattle.pm_world.specs.Lawful.{MayFill, StoreFits}
-use Rattle.pm_lane_bench.specs.Lanes.{IsFresh, OwnsChunk, AreUnflushed, Fills}
+use Rattle.pm_lane_bench.specs.Lanes.{IsUnasked, OwnsChunk, AreOfSecondLine, Fills}
 
 -- ---- TABLES: where the rule says nothing, and where the step changes nothing
 pub any_step : (slots id : ℕ) (me : Me ℕ (Unit {0})) (i : ℕ) (f : ℕ → ℕ) → Allows (λ _. Unit {0}) slots id me i f (λ _ _. Unit {0})
@@ -128,18 +128,18 @@ stored s new n x f made = let m = made f.view f.seen tt in let count = f.count i
 }
 
 -- ---- THE FLUSH AND THE DRAIN
-flushes : (changes : List Undrained) → 1 ≤ length changes → AreUnflushed changes → FlushesSome 385 changes
+flushes : (changes : List Undrained) → 1 ≤ length changes → AreOfSecondLine changes → FlushesSome 385 changes
 flushes [] some all = absurd (omega arith)
 flushes (c ∷ changes) some all = (0, c, some, refl, (all.0, all.1))
 
 drops : (c : Undrained) → is_in_line 385 c ≡ true → (mark 385 c).flushed ≡ true
 drops c here = ap (λ t. (cond t (record c { flushed = true }) c).flushed) here
 
-drops_some : (changes : List Undrained) → 1 ≤ length changes → AreUnflushed changes → DropsSome (flushed 385 changes)
+drops_some : (changes : List Undrained) → 1 ≤ length changes → AreOfSecondLine changes → DropsSome (flushed 385 changes)
 drops_some [] some all = absurd (omega arith)
 drops_some (c ∷ changes) some all = (0, mark 385 c, omega arith, refl, drops c all.0)
 
-none_left : (changes : List Undrained) → AreUnflushed changes → drained (flushed 385 changes) ≡ []
+none_left : (changes : List Undrained) → AreOfSecondLine changes → drained (flushed 385 changes) ≡ []
 none_left [] all = refl
 none_left (c ∷ changes) all = ap (λ t. cond (not t) (mark 385 c ∷ drained (flushed 385 changes)) (drained (flushed 385 changes))) (drops c all.0) ∙ none_left changes all.2
 
@@ -176,7 +176,7 @@ emptied_all s new f made = let m = made f.view f.seen tt in record {
 }
 
 -- ---- THE CHUNK IS RESERVED
-pub zoned : (s new : Seated) (f : IsFresh s) → Made AnyStep (IsSeen s) (IsSeen new) (ZoneTry 0 true) → IsSeen new (after (idle_view f.opening 0) (ZoneTry 0 true))
+pub zoned : (s new : Seated) (f : IsUnasked s) → Made AnyStep (IsSeen s) (IsSeen new) (ZoneTry 0 true) → IsSeen new (after (idle_view f.opening 0) (ZoneTry 0 true))
 zoned s new f made = (made (idle_view f.opening 0) f.seen tt).0
 
 pub may_occupy : (s : Seated) (b : Beginning) → IsSeen s (after (idle_view b 0) (ZoneTry 0 true)) → (won : Bool) → IsAllowed s (Occupy (Zone 0) 1 won)

@@ -10,7 +10,7 @@ use Rattle.pm_view.specs.Places.{Big}
 use Rattle.pm_view.specs.View.{View}
 
 -- nothing was asked of the lane
-pub record IsFresh (s : Seated) : Type 0 where
+pub record IsUnasked (s : Seated) : Type 0 where
   pub opening : Beginning
   pub seen : IsSeen s (idle_view opening 0)
   pub two_lanes : opening.shape.lanes ≡ 2
@@ -27,9 +27,9 @@ pub record OwnsChunk (v : View) : Type 0 where
   pub from_itself : last_first v.fixed.shape v.claims 0 ≡ 0
 
 -- each change is of the chunk's second line, and is not flushed
-abbrev pub AreUnflushed : List Undrained → Type 0
-AreUnflushed [] = Unit {0}
-AreUnflushed (c ∷ changes) = (is_in_line 385 c ≡ true) × (c.flushed ≡ false) × AreUnflushed changes
+abbrev pub AreOfSecondLine : List Undrained → Type 0
+AreOfSecondLine [] = Unit {0}
+AreOfSecondLine (c ∷ changes) = (is_in_line 385 c ≡ true) × (c.flushed ≡ false) × AreOfSecondLine changes
 
 -- and so many such changes are undrained
 pub record Fills (s : Seated) (n : ℕ) : Type 0 where
@@ -37,4 +37,4 @@ pub record Fills (s : Seated) (n : ℕ) : Type 0 where
   pub seen : IsSeen s view
   pub owns : OwnsChunk view
   pub count : length view.changes ≡ n
-  pub unflushed : AreUnflushed view.changes
+  pub unflushed : AreOfSecondLine view.changes

@@ -1,6 +1,6 @@
 ghost use Rattle.std.specs.Prelude.{◌≡◌, [], true, false, OnOk};
 ghost use Rattle.std.specs.Bool.{OnTrue};
-ghost use Rattle.pm_lane_bench.specs.Lanes.{IsFresh, Fills};
+ghost use Rattle.pm_lane_bench.specs.Lanes.{IsUnasked, Fills};
 ghost use Rattle.pm_shared.specs.Openings.{pool_of};
 ghost use Rattle.pm_shared.specs.TestLanes.{Rests};
 
@@ -72,7 +72,7 @@ fn lock_round<N: TableName>(lane: &mut SharedLane<'_, N>) -> Result<(), Failure>
 
 /// Stores the word in each step.
 fn stores<N: TableName>(lane: &mut SharedLane<'_, N>, rounds: u64) -> Result<(), Failure>
-    requires { IsFresh lane.old }
+    requires { IsUnasked lane.old }
 {
     if !reserve(lane) {
         return Err(Failure);
@@ -85,7 +85,7 @@ fn stores<N: TableName>(lane: &mut SharedLane<'_, N>, rounds: u64) -> Result<(),
 
 /// Reserves the pool's first chunk, and tells whether it did.
 fn reserve<N: TableName>(lane: &mut SharedLane<'_, N>) -> bool
-    requires { IsFresh lane.old }
+    requires { IsUnasked lane.old }
     ensures { OnTrue result (Fills lane.new 0) }
 {
     if lane.zone_try(0) {
