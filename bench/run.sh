@@ -96,7 +96,7 @@ row '' '10000 blocks for objects of 64 bytes in a pool of 32 zones' "$reserve"
 
 # Steps on shared words. The program's start, and that of its pool, are taken off: it is run for one round of 512 steps, and for 100,000 more. A
 # lane's stores have one flush and one drain a round. No OR of a lane is lawful but in a publish, so that of the memory below the lane is timed:
-# the lane adds to it what it adds to the swap of a store. A lock with its release is two changes of its word, and a load between them.
+# the lane adds to it what it adds to the swap of a store. A lock with its release is two changes of its word.
 (cd crates/pm_lane_bench && rt run -- raw-store 1) >> build/bench.log 2>&1
 
 # least_user COMMAND..: the least processor time of five runs, in microseconds: beside other work on the machine it says more than the clock
