@@ -65,7 +65,8 @@ demo: build
 	  build/pmempool dump build/demo-publish-$$stop-$$keep.pool; \
 	done; done
 
-# Times beside `cp` of the same file, and the times of ten million stores and of ten thousand blocks reserved by one lane alone.
+# Times beside `cp` of the same file; the times of ten million stores and of ten thousand blocks reserved by one lane alone; and those of a lane's
+# steps on shared words beside the raw steps of the kit's table.
 bench: build
 	bench/run.sh
 

@@ -1,8 +1,9 @@
 #!/usr/bin/env bash
 # Times of the program on the least and the largest pool beside `cp` of the same file: the least of five runs, in milliseconds, and how many
-# times `cp` each takes; and the times of ten million stores, and of ten thousand blocks reserved, by one lane alone. All are rows of
-# bench/times.csv, which a run makes anew. `check` and `info` have limits: of the largest pool 20 times `cp`, and of the least one 1.5 times
-# `/bin/true` and `cp` together. A run that passes a limit says so, and ends with status 1. Run it by `make bench`; it is no part of the gate.
+# times `cp` each takes; the times of ten million stores, and of ten thousand blocks reserved, by one lane alone; and those of 51,200,000 steps of
+# a lane on shared words, and how many times a raw step of the kit's table each takes. All are rows of bench/times.csv, which a run makes anew.
+# `check` and `info` have limits: of the largest pool 20 times `cp`, and of the least one 1.5 times `/bin/true` and `cp` together. A lane's step is to
+# take at most three times the raw one. A run that passes a limit says so, and ends with status 1. Run it by `make bench`; it is no part of the gate.
 set -euo pipefail
 cd "$(dirname "$0")/.."
 program=build/pmempool
@@ -25,18 +26,20 @@ least() {
   echo "$best"
 }
 
-# row POOL NAME TIME [CP [LIMIT]]: a row of the table, with the bytes of the pool; the times in microseconds
+# row POOL NAME TIME [BASE [LIMIT]]: a row of the table, with the bytes of the pool; the times in microseconds. The base is the time of `cp`, or,
+# where there is no pool, of the raw step
 row() {
-  local milliseconds times='' limit=''
+  local milliseconds times='' limit='' base=cp
+  if [ -z "$1" ]; then base='the raw step'; fi
   milliseconds=$(awk "BEGIN { printf \"%.2f\", $3 / 1000 }")
   if [ -n "${4-}" ]; then times=$(awk "BEGIN { printf \"%.1f\", $3 / $4 }"); fi
   if [ -n "${5-}" ]; then limit=$(awk "BEGIN { printf \"%.2f\", $5 / 1000 }"); fi
   echo "$head,$1,$2,$milliseconds,$times,$limit" >> "$folder/table"
-  printf '%-60s %10s ms %10s %s\n' "$2" "$milliseconds" "${times:+$times times cp}" "${limit:+at most $limit ms}"
-  if [ -n "${5-}" ] && [ "$3" -gt "$5" ]; then echo "$2 of $1 bytes is too slow"; passed=1; fi
+  printf '%-60s %10s ms %10s %s\n' "$2" "$milliseconds" "${times:+$times times $base}" "${limit:+at most $limit ms}"
+  if [ -n "${5-}" ] && [ "$3" -gt "$5" ]; then echo "$2${1:+ of $1 bytes} is too slow"; passed=1; fi
 }
 
-echo 'date,processors,commit,pool_bytes,what,milliseconds,times_cp,limit_milliseconds' > "$folder/table"
+echo 'date,processors,commit,pool_bytes,what,milliseconds,times,limit_milliseconds' > "$folder/table"
 printf 'lane 0\nbegin root\nadd root 0 8\nwrite root 0 0102030405060708\ncommit\n' > "$folder/script"
 
 for shape in "1 1" "32 32"; do
@@ -90,6 +93,42 @@ row '' '10000000 stores and a flush and a drain after each eighth' "$stores"
 reserve=$(least "$root/crates/reserve/out/reserve")
 [ "$(cat "$folder/out")" = 10000 ]
 row '' '10000 blocks for objects of 64 bytes in a pool of 32 zones' "$reserve"
+
+# Steps on shared words. The program's start, and that of its pool, are taken off: it is run for one round of 512 steps, and for 100,000 more. A
+# lane's stores have one flush and one drain a round. No OR of a lane is lawful but in a publish, so that of the memory below the lane is timed:
+# the lane adds to it what it adds to the swap of a store. A lock with its release is two changes of its word.
+(cd crates/pm_lane_bench && rt run -- raw-store 1) >> build/bench.log 2>&1
+
+# least_user COMMAND..: the least processor time of five runs, in microseconds: beside other work on the machine it says more than the clock
+least_user() {
+  local best=999999999 seconds micros TIMEFORMAT=%3U
+  for _ in 1 2 3 4 5; do
+    seconds=$({ time "$@" > "$folder/out"; } 2>&1)
+    micros=$(awk "BEGIN { printf \"%d\", $seconds * 1000000 }")
+    if [ "$micros" -lt $best ]; then best=$micros; fi
+  done
+  echo "$best"
+}
+
+# steps KIND: the processor time of 51,200,000 steps of the kind
+steps() {
+  local one many
+  one=$(least_user crates/pm_lane_bench/out/pm_lane_bench "$1" 1)
+  many=$(least_user crates/pm_lane_bench/out/pm_lane_bench "$1" 100001)
+  [ "$(cat "$folder/out")" = '100001 rounds' ]
+  echo $((many - one))
+}
+
+raw_store=$(steps raw-store)
+raw_or=$(steps raw-or)
+row '' '51200000 raw stores' "$raw_store" "$raw_store"
+row '' '51200000 raw ORs' "$raw_or" "$raw_or"
+store=$(steps lane-store)
+row '' '51200000 stores of a lane, beside raw stores' "$store" "$raw_store" $((3 * raw_store))
+or=$(steps shared-or)
+row '' '51200000 ORs of shared words, beside raw ORs' "$or" "$raw_or" $((3 * raw_or))
+lock=$(steps lane-lock)
+row '' '51200000 locks and releases of a lane, beside raw stores' "$lock" "$raw_store" $((3 * raw_store))
 
 cp "$folder/table" "$table"
 exit $passed

@@ -14,7 +14,9 @@ can_begin b bare = record {
   small = bare.words.small;
   whole = bare_whole (opening_of b) bare.words;
   retired = λ lane few. subst (IsRetired (opening_of b) lane) (sym (bare.words.first lane few)) (bare_retired (opening_of b) bare.words lane few);
-  runs = bare.runs;
-  zones = bare.zones;
-  taken = bare_taken (opening_of b) bare.words (slice_index b.runs.items) (slice_index b.zones.items) bare.untaken;
+  occupancy = record {
+    pages = bare.runs;
+    zone_count = bare.zones;
+    taken = bare_taken (opening_of b) bare.words (slice_index b.runs.items) (slice_index b.zones.items) bare.untaken;
+  };
 }

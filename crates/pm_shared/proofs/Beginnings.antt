@@ -55,7 +55,7 @@ module _ (b : Beginning) (can : CanBegin b) where
 
   pub all_long : length (table_words b) ≡ table_size b.shape
   all_long = let q = length-append b.words.items (lines ++ (b.runs.items ++ (b.zones.items ++ others))) in let r = length-append lines (b.runs.items ++ (b.zones.items ++ others)) in
-      let s = length-append b.runs.items (b.zones.items ++ others) in let t = length-append b.zones.items others in let l = lines_long in let m = others_long in let a = can.size in let c = can.runs in let d = can.zones in
+      let s = length-append b.runs.items (b.zones.items ++ others) in let t = length-append b.zones.items others in let l = lines_long in let m = others_long in let a = can.size in let c = can.occupancy.pages in let d = can.occupancy.zone_count in
       omega (arith, q, r, s, t, l, m, a, c, d)
 
   in_pool : (n : ℕ) → n < length b.words.items → slice_index (table_words b) n ≡ slice_index b.words.items n
@@ -96,21 +96,21 @@ module _ (b : Beginning) (can : CanBegin b) where
   lock_word l = either (LockWord l) 0 (λ f p. in_lines l (place b.shape (LockWord l)) (let s = can.size in omega (arith, p, s)) f) (λ p. refl)
 
   run_word : (c : ℕ) → slice_index (table_words b) (place b.shape (RunWord c)) ≡ slice_index b.runs.items c
-  run_word c = either (RunWord c) (slice_index b.runs.items c) (λ f p. in_runs c (place b.shape (RunWord c)) (let s = can.size in let n = lines_long in omega (arith, p, s, n)) (let r = can.runs in omega (arith, f, r)))
-      (λ p. get_or_past b.runs.items c 0 (let r = can.runs in omega (arith, p, r)))
+  run_word c = either (RunWord c) (slice_index b.runs.items c) (λ f p. in_runs c (place b.shape (RunWord c)) (let s = can.size in let n = lines_long in omega (arith, p, s, n)) (let r = can.occupancy.pages in omega (arith, f, r)))
+      (λ p. get_or_past b.runs.items c 0 (let r = can.occupancy.pages in omega (arith, p, r)))
 
   zone_word : (z : ℕ) → slice_index (table_words b) (place b.shape (ZoneWord z)) ≡ slice_index b.zones.items z
-  zone_word z = either (ZoneWord z) (slice_index b.zones.items z) (λ f p. in_zones z (place b.shape (ZoneWord z)) (let s = can.size in let n = lines_long in let r = can.runs in omega (arith, p, s, n, r)) (let y = can.zones in omega (arith, f, y)))
-      (λ p. get_or_past b.zones.items z 0 (let y = can.zones in omega (arith, p, y)))
+  zone_word z = either (ZoneWord z) (slice_index b.zones.items z) (λ f p. in_zones z (place b.shape (ZoneWord z)) (let s = can.size in let n = lines_long in let r = can.occupancy.pages in omega (arith, p, s, n, r)) (let y = can.occupancy.zone_count in omega (arith, f, y)))
+      (λ p. get_or_past b.zones.items z 0 (let y = can.occupancy.zone_count in omega (arith, p, y)))
 
   zone_lock : (z : ℕ) → slice_index (table_words b) (place b.shape (ZoneLock z)) ≡ 0
-  zone_lock z = either (ZoneLock z) 0 (λ f p. in_others z (place b.shape (ZoneLock z)) (let s = can.size in let n = lines_long in let r = can.runs in let y = can.zones in omega (arith, p, s, n, r, y)) (omega (arith, f))) (λ p. refl)
+  zone_lock z = either (ZoneLock z) 0 (λ f p. in_others z (place b.shape (ZoneLock z)) (let s = can.size in let n = lines_long in let r = can.occupancy.pages in let y = can.occupancy.zone_count in omega (arith, p, s, n, r, y)) (omega (arith, f))) (λ p. refl)
 
   counter : slice_index (table_words b) (place b.shape CommitCounter) ≡ 0
-  counter = either CommitCounter 0 (λ f p. in_others b.shape.zones (place b.shape CommitCounter) (let s = can.size in let n = lines_long in let r = can.runs in let y = can.zones in omega (arith, p, s, n, r, y)) (omega arith)) (λ p. refl)
+  counter = either CommitCounter 0 (λ f p. in_others b.shape.zones (place b.shape CommitCounter) (let s = can.size in let n = lines_long in let r = can.occupancy.pages in let y = can.occupancy.zone_count in omega (arith, p, s, n, r, y)) (omega arith)) (λ p. refl)
 
   stop : slice_index (table_words b) (place b.shape StopWord) ≡ 0
-  stop = either StopWord 0 (λ f p. in_others (b.shape.zones + 1) (place b.shape StopWord) (let s = can.size in let n = lines_long in let r = can.runs in let y = can.zones in omega (arith, p, s, n, r, y)) (omega arith)) (λ p. refl)
+  stop = either StopWord 0 (λ f p. in_others (b.shape.zones + 1) (place b.shape StopWord) (let s = can.size in let n = lines_long in let r = can.occupancy.pages in let y = can.occupancy.zone_count in omega (arith, p, s, n, r, y)) (omega arith)) (λ p. refl)
 
   -- ---- THE WORLD
   begins : IsOpening (opening_of b) (memory_of b.shape (table_words b)) (fixed_of b) (generation_of b)
@@ -134,8 +134,8 @@ module _ (b : Beginning) (can : CanBegin b) where
   }
 
   taken : IsTaken (opening_of b) (memory_of b.shape (table_words b))
-  taken (Small c i) h = ap (λ y. bit y i) (run_word (page_of_chunk b.shape c)) ∙ can.taken (Small c i) h
-  taken (Big c) h = ap (λ y. bit y (c % 64)) (zone_word (c / 64)) ∙ can.taken (Big c) h
+  taken (Small c i) h = ap (λ y. bit y i) (run_word (page_of_chunk b.shape c)) ∙ can.occupancy.taken (Small c i) h
+  taken (Big c) h = ap (λ y. bit y (c % 64)) (zone_word (c / 64)) ∙ can.occupancy.taken (Big c) h
   taken Root h = refl
 
   world : OpensIdle (opening_of b) (memory_of b.shape (table_words b)) (fixed_of b) (generation_of b)

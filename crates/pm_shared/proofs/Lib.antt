@@ -21,4 +21,5 @@ pub mod Beginnings
 pub mod Ends
 pub mod Pools
 pub mod Bare
+pub mod TakenChunks
 pub mod TestLanes

@@ -1,9 +1,9 @@
 -- What a lock word of the table says, after each call on it.
-use Rattle.std.proofs.Common.{◌≡◌, ◌≢◌, ℕ, ◌+◌, ◌-◌, ◌*◌, ◌/◌, ◌%◌, ◌^◌, ◌<◌, ◌≤◌, ⊎_elim, cond, bit_and, bit_or, Some, None, sym, ap, ◌∙◌, arith, eq-eqb, ne_eqb, pow_mono, pow_pos, pow-add}
+use Rattle.std.proofs.Common.{◌≡◌, ◌≢◌, ℕ, ◌+◌, ◌-◌, ◌*◌, ◌/◌, ◌%◌, ◌^◌, ◌<◌, ◌≤◌, ⊎_elim, ◌⊎◌, inl, inr, cond, bit_and, bit_or, Some, None, sym, ap, ◌∙◌, arith, eq-eqb, ne_eqb, pow_mono, pow_pos, pow-add}
 use Rattle.std.specs.Int.{bit_at, bit_not, w64}
 use Rattle.std.proofs.lemmas.Bool.{cases_eq, cases_lt}
 use Rattle.std.proofs.lemmas.Nat.{or_lt, and_le_l, and_le_r}
-use Rattle.std.proofs.lemmas.Nat.Bits.{bit_at_and, bit_at_or, bit_at_not, bit_at_above, bit_at_ones, bit_at_ones_above, bit_at-lt, bit_at-zero, bit_at-pow_other, bit_at_cat_low, bit_at_cat_high, same_from_bits}
+use Rattle.std.proofs.lemmas.Nat.Bits.{bit_at_and, bit_at_or, bit_at_not, bit_at_above, bit_at_ones, bit_at_ones_above, bit_at-lt, bit_at-zero, bit_at-pow_same, bit_at-pow_other, bit_at_cat_low, bit_at_cat_high, same_from_bits}
 use Rattle.pm_view.specs.LockWords.{reader_bit, writer_bit, with_writer, with_reader, with_raised, without_lane}
 use Rattle.pm_shared.specs.Placing.{lock_said}
 
@@ -64,7 +64,6 @@ raise_lost k r few other = let small : 2 ^ k < 2 ^ 32 = power_below k 32 few in 
     (λ (high : r / 2 ^ 32 ≢ 0). high_part r high (ap (λ y. y / 2 ^ 32) e ∙ (let z : 2 ^ k / 2 ^ 32 ≡ 0 = omega arith in z))) (cases_eq (r / 2 ^ 32) 0)))
 
 -- ---- given back: by a reader its own bits, by a writer all readers' bits too
--- ---- given back: by a reader its own bits, by a writer all readers' bits too
 pub reader_gave : (k r : ℕ) → r / 2 ^ 32 ≡ 0 → lock_said (without_lane k r) ≡ without_lane k (lock_said r)
 reader_gave k r low = let less : without_lane k r ≤ r = and_le_l r (bit_not w64 (bit_or (reader_bit k) (writer_bit k))) in said_low (without_lane k r) (omega arith) ∙ ap (without_lane k) (sym (said_low r low))
 
@@ -124,3 +123,27 @@ writer_gave k r few high = said_whole new whole ∙ (same ∙ ap (without_lane k
 
     same : new ≡ bit_and (h * 2 ^ 32) (bit_not w64 own)
     same = same_from_bits new (bit_and (h * 2 ^ 32) (bit_not w64 own)) (λ i. ⊎_elim (λ (u : i < 32). at_low i u) (λ (u : 32 ≤ i). ⊎_elim (λ (v : i < 64). at_high i u v) (λ (v : 64 ≤ i). beyond i v) (cases_lt i 64)) (cases_lt i 32))
+
+-- a bit of it is clear, where no other lane writes
+pub left_clear : (k r j : ℕ) → k < 32 → r < 2 ^ 64 → ((n : ℕ) → n ≢ k → j ≡ 32 + n → bit_at r j ≡ 0) → bit_at (writer_left k r) j ≡ 0
+left_clear k r j few small none = let a = bit_at_and r (bit_not w64 mask) j in ⊎_elim
+    (λ (far : 64 ≤ j). let b = bit_at_above r 64 j small far in omega (arith, a, b))
+    (λ (near : j < 64). let n = bit_at_not w64 mask j fits near in let o = bit_at_or (2 ^ 32 - 1) (2 ^ (32 + k)) j in ⊎_elim
+    (λ (low : j < 32). let one = bit_at_ones 32 j low in let top = bit_at-lt (2 ^ (32 + k)) j in omega (arith, a, n, o, one, top))
+    (λ (high : 32 ≤ j). ⊎_elim
+    (λ (here : j ≡ 32 + k). let p = ap (bit_at (2 ^ (32 + k))) here ∙ bit_at-pow_same (32 + k) in let top = bit_at-lt (2 ^ 32 - 1) j in omega (arith, a, n, o, p, top))
+    (λ (other : j ≢ 32 + k). let c = none (j - 32) (λ e. other (omega (arith, high, e))) (omega (arith, high)) in omega (arith, a, c)) (cases_eq j (32 + k))) (cases_lt j 32)) (swap (cases_lt j 64))
+  where
+    mask : ℕ
+    mask = bit_or (2 ^ 32 - 1) (2 ^ (32 + k))
+
+    fits : mask < 2 ^ 64
+    fits = or_lt 64 (2 ^ 32 - 1) (2 ^ (32 + k)) (omega arith) (power_below (32 + k) 64 (omega (arith, few)))
+
+    swap : {X Y : Type 0} → X ⊎ Y → Y ⊎ X
+    swap (inl x) = inr x
+    swap (inr y) = inl y
+
+-- a writer's bit is a high one
+pub high_writer : (k : ℕ) → writer_bit k / 2 ^ 32 ≢ 0
+high_writer k e = let p : ℕ = 2 ^ k in let w : ℕ = 2 ^ (32 + k) in let f : w ≡ 2 ^ 32 * p = pow-add 2 32 k in let some : 1 ≤ p = pow_pos k in let g : w / 2 ^ 32 ≡ 0 = e in absurd (omega (arith, f, some, g))

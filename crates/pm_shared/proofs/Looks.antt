@@ -1,17 +1,18 @@
 -- Calls by which a lane looks before its step, and the steps that rest on what it saw.
-use Rattle.std.proofs.Common.{◌≡◌, ◌≢◌, ℕ, zero, suc, ◌-◌, ◌/◌, ◌^◌, ◌<◌, ⊎_elim, Bool, true, false, cond, not, eqb, List, [], ◌∷◌, length, slice_index, set, Option, None, Some, bit_and, bit_or, refl, sym, ap, ◌∙◌, subst, eq-eqb, ne_eqb}
+use Rattle.std.proofs.Common.{◌≡◌, ◌≢◌, ℕ, zero, suc, ◌-◌, ◌/◌, ◌^◌, ◌<◌, ⊎_elim, true, false, cond, not, eqb, List, [], ◌∷◌, length, slice_index, set, Option, None, Some, bit_and, bit_or, refl, sym, ap, ◌∙◌, subst, eq-eqb, ne_eqb}
 use Rattle.std.specs.Int.{bit_not, w64}
 use Rattle.std.proofs.lemmas.Bool.{cases_eq, both_ways}
 use mathlib.Core.Option.{some, none}
 use lib.ListN.{get_elem?}
 use prog.Atomic.{either}
-use Rattle.atomic_table.specs.Table.{State, Me, Step as TableStep, keeps, Allows, step}
+use Rattle.atomic_table.specs.Table.{State, Me, Step as TableStep, keeps, Allows, step, stepped, carried_after}
 use Rattle.atomic_table.proofs.Lists.{at_set, set_again}
 use Rattle.pm_layout.specs.declared.shape.Shape.{Shape}
 use Rattle.pm_layout.specs.Chunks.{words_of}
 use Rattle.pm_view.specs.declared.occ.Occ.TheVariants.{Zone}
 use Rattle.pm_view.specs.Claims.{locked}
 use Rattle.pm_view.specs.LockWords.{reader_bit, writer_bit}
+use Rattle.pm_view.specs.Steps.{Step}
 use Rattle.pm_view.specs.Steps.Step.{Give, Occupy}
 use Rattle.pm_view.specs.View.{View}
 use Rattle.pm_world.specs.Lawful.{IsLawful}
@@ -20,12 +21,13 @@ use Rattle.pm_world.specs.Moves.{Moves}
 use Rattle.pm_world.specs.World.{Opening}
 use Rattle.pm_shared.specs.declared.mem.SharedMem.{SharedMem}
 use Rattle.pm_shared.specs.Openings.{opening_of, TableAllows}
-use Rattle.pm_shared.specs.Placing.{start_of, table_size, place, memory_of, kept_bits}
-use Rattle.pm_shared.specs.Plays.{looks_at_lock, looks_at_zone, Looked, occupies_zone}
+use Rattle.pm_shared.specs.Placing.{start_of, table_size, place, memory_of}
+use Rattle.pm_shared.specs.Plays.{gives_or_looks, GivenOrSeen, looks_at_zone, Looked, occupies_zone}
 use Rattle.pm_shared.specs.Rule.{Knowledge, Pool, Lane, Spent, Bound, BoundHolds, Made, Ruled, lane_of, SeatAsks, SeatMade, SeatFits, Owned}
 use Rattle.pm_shared.proofs.Allows.{Before, allows}
-use Rattle.pm_shared.proofs.Asked.{one_view, number_is, below_place, few_lanes}
-use Rattle.pm_shared.proofs.Moving.{At, found_at, mode_known, write_gives, read_gives, occupy_won, occupy_lost, clear_still}
+use Rattle.pm_shared.proofs.Asked.{asked, one_view, number_is, below_place, few_lanes}
+use Rattle.pm_shared.proofs.LockSaid.{writer_left, high_writer}
+use Rattle.pm_shared.proofs.Moving.{At, found_at, mode_known, write_gives, read_gives, write_frees, occupy_won, occupy_lost, clear_still}
 
 pub set_same : (l : List ℕ) (i : ℕ) → set l i (slice_index l i) ≡ l
 set_same [] i = refl
@@ -55,36 +57,55 @@ module _ (m : SharedMem) (lane : ℕ) (me : Me ℕ Knowledge) (line i : ℕ) (as
   mode : (words : List ℕ) → Before o words ask.view None → locked ask.view.claims line ≡ not (eqb (slice_index words i / 2 ^ 32) 0)
   mode words B = mode_known o words ask.view None i line B (subst (λ k. k < 32) (sym ask.lane_is) (few_lanes m.shape lane few)) (at_lock words B) (ask.lawful 0).allowed.held
 
-  pub looks_lock : (id : ℕ) → TableAllows m.table.shared.key id me i (λ n. n) (looks_at_lock (step 0 i 0 0 none) me)
-  looks_lock id s r homes here fits = let here' : get_elem? s.views id ≡ some (Lane ask.view None) = here ∙ ap (λ (n : Me ℕ Knowledge). some n.0) ask.sees in let x : ℕ = slice_index s.words i in let B = before o s r id ask.view None here' in (
-    me.0,
-    keeps,
-    tt,
-    subst (Ruled o) (λ j. record { words = sym (set_same s.words i) j; homes = s.homes; views = sym (set_again s.views id me.0 here) j }) r,
-    λ w e. let v_is : w ≡ ask.view = one_view w ask.view None None me e ask.sees in
-        let n_is : i - start_of w.fixed.shape 1 ≡ line = number_is m.shape (LockWord line) i is inside w.fixed.shape (ap (λ (u : View). u.fixed.shape) v_is ∙ ask.shape) in
-        (λ j. (me.0, no_slots j), ap (locked w.claims) n_is ∙ (ap (λ (u : View). locked u.claims line) v_is ∙ mode s.words B)),
-  )
+  -- A LANE GIVES THE LOCK BACK AS IT HOLDS IT: one that reads clears its own bits, and one that writes clears the word
+  pub reader_moves : (words : List ℕ) → length words ≡ table_size m.shape → locked ask.view.claims line ≡ false → Before o words ask.view None
+      → Moves lane (Give line) (memory_of m.shape words) (memory_of m.shape (set words i (bit_and (slice_index words i) (bit_not w64 (bit_or (reader_bit lane) (writer_bit lane))))))
+  reader_moves words size reads B = read_gives m.shape words i lane line (bit_not w64 (bit_or (reader_bit lane) (writer_bit lane))) refl
+      (⊎_elim (λ (low : slice_index words i / 2 ^ 32 ≡ 0). low) (λ (high : slice_index words i / 2 ^ 32 ≢ 0). absurd (both_ways (locked ask.view.claims line) reads (mode words B ∙ ap not (ne_eqb (slice_index words i / 2 ^ 32) 0 high)))) (cases_eq (slice_index words i / 2 ^ 32) 0))
+      (record { is = is; inside = below_place m.shape (LockWord line) inside; size = size })
+
+  pub writer_moves : (words : List ℕ) → length words ≡ table_size m.shape → locked ask.view.claims line ≡ true → Before o words ask.view None → slice_index words i < 18446744073709551616
+      → Moves lane (Give line) (memory_of m.shape words) (memory_of m.shape (set words i 0))
+  writer_moves words size writes B fits = subst (λ x. Moves lane (Give line) (memory_of m.shape words) (memory_of m.shape (set words i x)))
+      (ap (λ k. writer_left k (slice_index words i)) (sym ask.lane_is) ∙ write_frees o words ask.view None i line B (subst (λ k. k < 32) (sym ask.lane_is) (few_lanes m.shape lane few)) (at_lock words B) writes fits)
+      (write_gives m.shape words i lane line (bit_not w64 (bit_or (2 ^ 32 - 1) (writer_bit lane))) (few_lanes m.shape lane few) refl
+      (λ low. both_ways (locked ask.view.claims line) (mode words B ∙ ap not (eq-eqb (slice_index words i / 2 ^ 32) 0 low)) writes)
+      (record { is = is; inside = below_place m.shape (LockWord line) inside; size = size }))
+
+  abbrev actual : ℕ → Step
+  actual r = Give line
+
+  abbrev given : View → TableStep ℕ → ℕ → Step
+  given v st r = Give (st.word - start_of v.fixed.shape 1)
+
+  abbrev tried : TableStep ℕ
+  tried = step 0 i (writer_bit lane) 0 none
+
+  -- one that writes, and finds no bit that a reader left, clears the word at once; else it looks
+  pub gives_or_sees : (id : ℕ) → TableAllows m.table.shared.key id me i (λ n. either (eqb n (writer_bit lane)) 0 n) (gives_or_looks tried me)
+  gives_or_sees id s r homes here fits = let here' : get_elem? s.views id ≡ some (Lane ask.view None) = here ∙ ap (λ (n : Me ℕ Knowledge). some n.0) ask.sees in let x : ℕ = slice_index s.words i in let B = before o s r id ask.view None here' in ⊎_elim
+      (λ (same : x ≡ writer_bit lane).
+      let writes : locked ask.view.claims line ≡ true = mode s.words B ∙ ap not (ne_eqb (x / 2 ^ 32) 0 (λ z. high_writer lane (ap (λ y. y / 2 ^ 32) (sym same) ∙ z))) in
+      let q = asked m lane me given tried actual ask (λ v sh l n. ap Give (number_is m.shape (LockWord line) i is inside v.fixed.shape sh)) id i (λ n. 0) (λ words size C small. writer_moves words size writes C small) s r homes here fits in (
+        q.0,
+        q.1,
+        q.2,
+        subst (λ y. Ruled o (stepped s i y id me.1 q.0 q.1)) (sym (ap (λ b. either b 0 x) (eq-eqb x (writer_bit lane) same))) q.3,
+        λ w e. subst (GivenOrSeen w tried me x (q.0, carried_after me.1 q.1)) (sym (eq-eqb x (writer_bit lane) same)) (q.4 w e),
+      ))
+      (λ (other : x ≢ writer_bit lane). let no = ne_eqb x (writer_bit lane) other in (
+        me.0,
+        keeps,
+        tt,
+        subst (λ y. Ruled o (stepped s i y id me.1 me.0 keeps)) (sym (ap (λ b. either b 0 x) no)) (subst (Ruled o) (λ j. record { words = sym (set_same s.words i) j; homes = s.homes; views = sym (set_again s.views id me.0 here) j }) r),
+        λ w e. subst (GivenOrSeen w tried me x (me.0, me.1)) (sym no) (let v_is : w ≡ ask.view = one_view w ask.view None None me e ask.sees in
+            let n_is : i - start_of w.fixed.shape 1 ≡ line = number_is m.shape (LockWord line) i is inside w.fixed.shape (ap (λ (u : View). u.fixed.shape) v_is ∙ ask.shape) in
+            (λ j. (me.0, no_slots j), ap (locked w.claims) n_is ∙ (ap (λ (u : View). locked u.claims line) v_is ∙ mode s.words B))),
+      ))
+      (cases_eq x (writer_bit lane))
     where
       no_slots : me.1 ≡ me.1
       no_slots = refl
-
-  -- a lane gives the lock back as it holds it
-  pub gives_moves : (r : ℕ) (words : List ℕ) → length words ≡ table_size m.shape → locked ask.view.claims line ≡ not (eqb (r / 2 ^ 32) 0) → Before o words ask.view None
-      → Moves lane (Give line) (memory_of m.shape words) (memory_of m.shape (set words i (bit_and (slice_index words i) (kept_bits lane r))))
-  gives_moves r words size saw B =
-      let x : ℕ = slice_index words i in let A : At m.shape words i (LockWord line) = record { is = is; inside = below_place m.shape (LockWord line) inside; size = size } in
-      let W : ℕ = bit_not w64 (bit_or (2 ^ 32 - 1) (writer_bit lane)) in let R : ℕ = bit_not w64 (bit_or (reader_bit lane) (writer_bit lane)) in
-      let same : not (eqb (r / 2 ^ 32) 0) ≡ not (eqb (x / 2 ^ 32) 0) = sym saw ∙ mode words B in ⊎_elim
-      (λ (low : x / 2 ^ 32 ≡ 0). let z : eqb (r / 2 ^ 32) 0 ≡ true = unnot (eqb (r / 2 ^ 32) 0) true (same ∙ ap not (eq-eqb (x / 2 ^ 32) 0 low)) in read_gives m.shape words i lane line (kept_bits lane r) (ap (λ b. cond b R W) z) low A)
-      (λ (high : x / 2 ^ 32 ≢ 0). let z : eqb (r / 2 ^ 32) 0 ≡ false = unnot (eqb (r / 2 ^ 32) 0) false (same ∙ ap not (ne_eqb (x / 2 ^ 32) 0 high)) in write_gives m.shape words i lane line (kept_bits lane r) (few_lanes m.shape lane few) (ap (λ b. cond b R W) z) high A)
-      (cases_eq (x / 2 ^ 32) 0)
-    where
-      unnot : (a b : Bool) → not a ≡ not b → a ≡ b
-      unnot true true e = refl
-      unnot false false e = refl
-      unnot true false e = absurd (both_ways false refl e)
-      unnot false true e = absurd (both_ways false refl (sym e))
 
 -- ---- BITS OF A ZONE
 module _ (m : SharedMem) (lane : ℕ) (me : Me ℕ Knowledge) (zone bits i : ℕ) (ask : SeatAsks m.shape lane me (λ r. Occupy (Zone zone) bits (eqb (bit_and r bits) 0))) (inside : zone < m.shape.zones) (is : i ≡ place m.shape (ZoneWord zone)) where

@@ -19,7 +19,7 @@ use Rattle.pm_shared.specs.Placing.{table_size, place, pulse_place, lock_said, s
 use Rattle.pm_shared.specs.Rule.{Bound}
 use Rattle.pm_shared.proofs.Tables.{becomes, stays, pulses}
 use Rattle.pm_shared.proofs.Allows.{Before}
-use Rattle.pm_shared.proofs.LockSaid.{said_low, high_part, write_won, write_lost, read_won, read_lost, read_same, raise_won, raise_lost, reader_gave, writer_gave}
+use Rattle.pm_shared.proofs.LockSaid.{said_low, said_high, high_part, writer_left, left_clear, write_won, write_lost, read_won, read_lost, read_same, raise_won, raise_lost, reader_gave, writer_gave}
 
 -- the call is at this location's word of the table
 pub record At (sh : Shape) (words : List ℕ) (i : ℕ) (at : Location) : Type 0 where
@@ -203,3 +203,33 @@ mode_known o words v b i line B few A held = ⊎_elim wrote did (or_cases (locke
 
         none : x / 2 ^ 32 ≡ 0
         none = ⊎_elim (λ (e : x / 2 ^ 32 ≡ 0). e) (λ (ne : x / 2 ^ 32 ≢ 0). absurd (high_part x ne (ap (λ y. y / 2 ^ 32) (sym f) ∙ clear))) (cases_eq (x / 2 ^ 32) 0)
+
+-- A LANE THAT WRITES holds the line alone: of the word nothing stays but what readers left
+module _ (o : Opening) (words : List ℕ) (v : View) (b : Option Bound) (i line : ℕ) (B : Before o words v b) (few : v.fixed.lane < 32) (A : At o.shape words i (LockWord line)) (held : locked v.claims line ≡ true)
+    (fits : slice_index words i < 18446744073709551616) where
+  abbrev own : ℕ
+  own = v.fixed.lane
+
+  abbrev old : ℕ
+  old = slice_index words i
+
+  abbrev told : ℕ
+  told = memory_of o.shape words (LockWord line)
+
+  said_is : told ≡ lock_said old
+  said_is = found_at o.shape words i (LockWord line) A
+
+  writes : bit told (32 + own) ≡ true
+  writes = (B.world.bits.each_lane own).hold.locks line ∙ (ap (λ (w : View). locked w.claims line) B.view ∙ held)
+
+  half : old / 2 ^ 32 ≡ told / 2 ^ 32
+  half = ⊎_elim (λ (low : old / 2 ^ 32 ≡ 0). ap (λ y. y / 2 ^ 32) (sym (said_is ∙ said_low old low)))
+      (λ (high : old / 2 ^ 32 ≢ 0). let e : told ≡ old / 2 ^ 32 * 2 ^ 32 = said_is ∙ said_high old high in omega (arith, e)) (cases_eq (old / 2 ^ 32) 0)
+
+  no_other : (n : ℕ) → n ≢ own → bit_at old (32 + n) ≡ 0
+  no_other n ne = let a = high_bit old n in let c = high_bit told n in let h = ap (λ y. bit_at y n) half in let top = bit_at-lt told (32 + n) in ⊎_elim
+      (λ (one : bit_at told (32 + n) ≡ 1). absurd (both_ways (bit told (32 + n)) ((B.world.bits.alone line own writes n).1 ne) (eq-eqb (bit_at told (32 + n)) 1 one)))
+      (λ (not_one : bit_at told (32 + n) ≢ 1). omega (arith, a, c, h, top, not_one)) (cases_eq (bit_at told (32 + n)) 1)
+
+  pub write_frees : writer_left own old ≡ 0
+  write_frees = same_from_bits (writer_left own old) 0 (λ j. let z = bit_at-zero j in let e = left_clear own old j few fits (λ n ne at. ap (bit_at old) at ∙ no_other n ne) in omega (arith, z, e))

@@ -2,6 +2,7 @@
 use Rattle.std.specs.Prelude.{◌≡◌, ℕ, zero, suc, ◌+◌, ◌-◌, ◌/◌, ◌^◌, ◌<◌, ◌≤◌, true, List, [], ◌∷◌, ◌++◌, length, replicate, slice_index, slice_index_or, None}
 use Rattle.pm_layout.specs.Areas.{page_words, word_of_generation}
 use Rattle.pm_layout.specs.Chunks.{words_of}
+use Rattle.pm_layout.specs.declared.shape.Shape.{Shape}
 use Rattle.pm_image.specs.HeapFaults.{heap_fault}
 use Rattle.pm_view.specs.Places.{Block}
 use Rattle.pm_view.specs.View.{View, Constants, idle}
@@ -13,8 +14,12 @@ use Rattle.atomic_table.specs.Table.{Me, Allows}
 use Rattle.pm_shared.specs.Rule.{Knowledge, Pool, Lane, Spent, Ruled}
 use Rattle.pm_shared.specs.declared.rule.Beginning.{Beginning}
 
+-- the pool's recovered words, on which so many lanes run
+abbrev pub pool_opening : Shape → ℕ → List ℕ → Opening
+pool_opening shape lanes words = record { shape = shape; lanes = lanes; words = words }
+
 abbrev pub opening_of : Beginning → Opening
-opening_of b = record { shape = b.shape; lanes = b.lanes; words = b.words.items }
+opening_of b = pool_opening b.shape b.lanes b.words.items
 
 -- what a call of the table asks: whatever the table is, the rule is kept, and what the call tells is so
 abbrev pub TableAllows : Beginning → ℕ → Me ℕ Knowledge → ℕ → (ℕ → ℕ) → (ℕ → Me ℕ Knowledge → Type 0) → Type 0
@@ -38,6 +43,12 @@ idle_from b lane (suc n) = idle_view b lane ∷ idle_from b (suc lane) n
 abbrev pub first_known : Beginning → Knowledge
 first_known b = Pool (idle_from b 0 b.lanes)
 
+-- THE OCCUPANCY WORDS, one a page and one a zone, are what the opening's words take
+pub record OccupancyFits (o : Opening) (runs zones : List ℕ) : Type 0 where
+  pub pages : length runs ≡ words_of o.shape / page_words
+  pub zone_count : length zones ≡ o.shape.zones
+  pub taken : (a : Block) → is_occupancy o.shape a ≡ true → occupancy_bit o.shape (slice_index runs) (slice_index zones) a ≡ takes o a
+
 -- lanes may begin on these words: they are recovered, nothing of the heap is wrong, each log is retired, and the occupancy words are what the words take
 pub record CanBegin (b : Beginning) : Type 0 where
   pub some_lanes : 1 ≤ b.lanes
@@ -46,9 +57,7 @@ pub record CanBegin (b : Beginning) : Type 0 where
   pub small : (w : ℕ) → slice_index b.words.items w < 2 ^ 64
   pub whole : heap_fault (slice_index b.words.items) b.shape.lanes b.shape.zones ≡ None
   pub retired : (lane : ℕ) → lane < b.shape.lanes → IsRetired (opening_of b) lane (generation_of b lane)
-  pub runs : length b.runs.items ≡ words_of b.shape / page_words
-  pub zones : length b.zones.items ≡ b.shape.zones
-  pub taken : (a : Block) → is_occupancy b.shape a ≡ true → occupancy_bit b.shape (slice_index b.runs.items) (slice_index b.zones.items) a ≡ takes (opening_of b) a
+  pub occupancy : OccupancyFits (opening_of b) b.runs.items b.zones.items
 
 -- the words of the table: those of the pool, no lock held, the occupancy words, no zone's lock held, no number drawn, no lane stopped
 abbrev pub table_words : Beginning → List ℕ

@@ -1,8 +1,6 @@
 -- WHERE THE SHARED WORDS LIE in the table: one sort after another, and of each sort as many as the pool has. Behind them lies a word a lane that says
 -- nothing: a flush and a drain load it.
-use Rattle.std.specs.Prelude.{ℕ, zero, suc, ◌+◌, ◌-◌, ◌*◌, ◌/◌, ◌^◌, bit_or, nat_lt, cond, ◌==◌, List, [], ◌∷◌, slice_index}
-use Rattle.std.specs.Int.{bit_not, w64}
-use Rattle.pm_view.specs.LockWords.{reader_bit, writer_bit}
+use Rattle.std.specs.Prelude.{ℕ, zero, suc, ◌+◌, ◌*◌, ◌/◌, ◌^◌, nat_lt, cond, ◌==◌, List, [], ◌∷◌, slice_index}
 use Rattle.pm_layout.specs.Areas.{page_words, page_bytes}
 use Rattle.pm_layout.specs.Chunks.{words_of}
 use Rattle.pm_layout.specs.declared.shape.Shape.{Shape}
@@ -71,7 +69,3 @@ said StopWord x = x
 -- the memory of the world that the table's words are
 abbrev pub memory_of : Shape → List ℕ → Memory
 memory_of sh words l = said l (slice_index words (place sh l))
-
--- what stays of a lock word where a lane gives the lock back: a reader clears its own bit, a writer all that readers left too
-abbrev pub kept_bits : ℕ → ℕ → ℕ
-kept_bits lane x = cond (x / 2 ^ 32 == 0) (bit_not w64 (bit_or (reader_bit lane) (writer_bit lane))) (bit_not w64 (bit_or (2 ^ 32 - 1) (writer_bit lane)))

@@ -71,9 +71,13 @@ raises = tells (λ v st r. Raise (number_in v 1 st) (r == st.first))
 abbrev pub gives : Told
 gives = tells (λ v st r. Give (number_in v 1 st))
 
--- before it gives a lock back the lane looks how it holds it: a writer clears the readers' bits too
-abbrev pub looks_at_lock : Told
-looks_at_lock st m r n = (v : View) → m ≡ lane_of v → (n ≡ m) × (locked v.claims (number_in v 1 st) ≡ not (r / 2 ^ 32 == 0))
+-- a lane that writes gives the lock back at once where no reader left a bit; else it sees how it holds the lock
+abbrev pub GivenOrSeen : View → TableStep ℕ → Me ℕ Knowledge → ℕ → Me ℕ Knowledge → Bool → Type 0
+GivenOrSeen v st m r n true = Made (λ _. Give (number_in v 1 st)) v r n
+GivenOrSeen v st m r n false = (n ≡ m) × (locked v.claims (number_in v 1 st) ≡ not (r / 2 ^ 32 == 0))
+
+abbrev pub gives_or_looks : Told
+gives_or_looks st m r n = (v : View) → m ≡ lane_of v → GivenOrSeen v st m r n (r == st.first)
 
 abbrev pub tries_zone : Told
 tries_zone = tells (λ v st r. ZoneTry (number_in v 4 st) (r == 0))

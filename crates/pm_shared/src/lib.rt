@@ -3,9 +3,10 @@
 //! The rule of the table is the world of `pm_world`: its words are the memory of a world, and each
 //! seat of the table knows a lane's view of that world, the views of lanes that the pool has still
 //! to hand out or has taken back, or nothing any more. `SharedMem` has the steps of a lane: each is
-//! one atomic step of the table and one lawful step of the lane whose seat makes it. Two load the
-//! word in a step before: a line's lock is released, and bits of a zone are taken. One lemma proves
-//! the steps of every kind from the world's law. No step waits, and none allocates.
+//! one atomic step of the table and one lawful step of the lane whose seat makes it. Two may look at
+//! the word in a step before: a line's lock is released, and bits of a zone are taken. One lemma
+//! proves the steps of every kind from the world's law. No step waits, and none allocates.
+//! `Occupancy::of_words` makes the occupancy words that a pool's words take.
 //!
 //! `SharedLane` is a lane over a seat: it has the traits of a lane's memory, `LawfulMem` among them,
 //! so that it takes each step that the lane's view allows. It counts its calls and keeps its
@@ -23,6 +24,7 @@ mod lane_mem;
 mod lane_sync;
 mod lawful;
 mod mem;
+mod occupancy;
 mod places;
 mod plays;
 mod pool;
@@ -32,6 +34,7 @@ mod tally;
 
 pub use lane::{SharedLane, TableName};
 pub use mem::{LaneSeat, SharedMem};
+pub use occupancy::Occupancy;
 pub use pool::PoolSeat;
 pub use rule::{Beginning, Knows, WorldRule};
 pub use tally::Tally;

@@ -1,4 +1,4 @@
-ghost use Rattle.pm_shared.specs.Plays.{loads, stores, ors, ands, flushes, drains, takes_write, takes_read, raises, looks_at_lock, gives, tries_zone, gives_zone, sees_run, sees_zone, occupies_run, looks_at_zone, occupies_zone, vacates_run, vacates_zone, draws, sees_number, sees_stop, sets_stop, adds};
+ghost use Rattle.pm_shared.specs.Plays.{loads, stores, ors, ands, flushes, drains, takes_write, takes_read, raises, gives_or_looks, gives, tries_zone, gives_zone, sees_run, sees_zone, occupies_run, looks_at_zone, occupies_zone, vacates_run, vacates_zone, draws, sees_number, sees_stop, sets_stop, adds};
 
 use crate::rule::Knows;
 use atomic_table::Play;
@@ -68,11 +68,12 @@ impl Play<u8, Knows> for Raises {
     ghost then = { raises };
 }
 
-/// The lane looks how it holds a line.
-pub struct LooksAtLock;
+/// A line's lock is given back where its word has the writer's bit alone; else the lane looks how it
+/// holds the line.
+pub struct GivesOrLooks;
 
-impl Play<u8, Knows> for LooksAtLock {
-    ghost then = { looks_at_lock };
+impl Play<u8, Knows> for GivesOrLooks {
+    ghost then = { gives_or_looks };
 }
 
 /// A line's lock is given back.

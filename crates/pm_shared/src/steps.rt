@@ -3,7 +3,6 @@ ghost use Rattle.pm_layout.specs.Areas.{page_bytes};
 ghost use Rattle.pm_view.specs.declared.occ.Occ.TheVariants.{Run, Zone};
 ghost use Rattle.pm_view.specs.LockWords.{reader_bit, writer_bit};
 ghost use Rattle.pm_view.specs.Steps.Step.{Load, Store, Or, And, Flush, Drain, TakeWrite, TakeRead, Raise, Give, ZoneTry, ZoneGive, Occupied, Occupy, Vacate, Draw, NumberSeen, StopSeen, SetStop};
-ghost use Rattle.pm_shared.specs.Placing.{kept_bits};
 ghost use Rattle.pm_shared.specs.Plays.{FindsWas};
 ghost use Rattle.pm_shared.specs.Rule.{SeatAsks, SeatMade, lane_of};
 ghost use Rattle.pm_view.specs.View.{View};
@@ -15,9 +14,6 @@ use pm_layout::MAX_LANES;
 
 /// The bits of lanes that read come before those of lanes that write; lanes count from 0 to 31.
 const READERS: u64 = MAX_LANES;
-
-/// All readers' bits.
-const ALL_READERS: u64 = (1 << READERS) - 1;
 
 /// The lane's reader bit.
 fn reader(lane: u64) -> u64
@@ -33,19 +29,6 @@ fn writer(lane: u64) -> u64
     ensures { result ≡ writer_bit lane }
 {
     1 << (READERS + lane)
-}
-
-/// The bits that stay of a lock word that the lane gives back: all but its own, and none of
-/// readers where a lane writes.
-fn kept(lane: u64, word: u64) -> u64
-    requires { lane < 32 }
-    ensures { result ≡ kept_bits lane word }
-{
-    if word >> READERS == 0 {
-        !(reader(lane) | writer(lane))
-    } else {
-        !(ALL_READERS | writer(lane))
-    }
 }
 
 impl SharedMem {
@@ -152,7 +135,8 @@ impl SharedMem {
         self.swap_from::<plays::Raises>(seat, self.lock_at(line), own, writer(lane)) == own
     }
 
-    /// Gives a line's lock back. A writer clears the bits that readers left.
+    /// Gives a line's lock back. A reader clears its own bits; a writer, who holds it alone, clears the
+    /// word, with the bits that readers left: at once where there are none.
     pub(crate) fn gives(&self, seat: &mut LaneSeat, lane: u64, line: u64)
         requires table { seat.old.table_id ≡ self.now.table.shared.table_id }
         requires few { lane < self.now.shape.lanes }
@@ -161,8 +145,17 @@ impl SharedMem {
         ensures made { SeatMade seat.old.me seat.new.me (Give line) }
     {
         let at = self.lock_at(line);
-        let found = self.load::<plays::LooksAtLock>(seat, at);
-        self.and::<plays::Gives>(seat, at, kept(lane, found));
+        let writes = writer(lane);
+        let found = self.swap_from::<plays::GivesOrLooks>(seat, at, writes, 0);
+        if found == writes {
+            return;
+        }
+        if found >> READERS == 0 {
+            let own = reader(lane) | writes;
+            self.and::<plays::Gives>(seat, at, !own);
+        } else {
+            self.store::<plays::Gives>(seat, at, 0);
+        }
     }
 
     /// Tries once to take a zone's lock.

@@ -147,7 +147,7 @@ impl Tally {
     {
         self.calls = self.calls.wrapping_add(1);
         for change in self.changes.iter_mut() {
-            *change = marked(*change, line);
+            mark(change, line);
         }
     }
 
@@ -172,16 +172,12 @@ fn lesser(first: Option<u64>, change: Change) -> Option<u64>
     }
 }
 
-/// The change after a flush of the line.
-fn marked(change: Change, line: u64) -> Change
-    ensures { result ≡ change_flushed line change }
+/// The line is flushed: marks the change where it is of this line. Only the mark is written: a whole
+/// change that is copied costs more than the store that made it.
+fn mark(change: &mut Change, line: u64)
+    ensures { change.exit.now ≡ change_flushed line change.entry.now }
 {
     if change.word / LINE_WORDS == line {
-        Change {
-            flushed: true,
-            ..change
-        }
-    } else {
-        change
+        change.flushed = true;
     }
 }

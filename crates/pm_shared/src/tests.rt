@@ -169,3 +169,26 @@ fn a_lane_begins(rt: HostRuntime) -> Result<(), Fail> {
     assert_eq!(rt; generation, 1);
     Ok(())
 }
+
+/// A run takes its allocated blocks and the bits past its blocks, and the zone's bit of its chunk; a
+/// huge block takes the bits of its chunks; a free chunk takes its page.
+#[test]
+fn a_run_and_a_huge_block_are_taken(rt: HostRuntime) -> Result<(), Fail> {
+    let mut words = vec![in rt.alloc(); 0; 34_816]?;
+    words[1536] = 513;
+    words[2048] = 1_073_741_825;
+    words[1541] = 770;
+    let occupancy = Occupancy::of_words(rt.alloc(), Shape::new(1, 1)?, &words)?;
+    assert_eq!(rt; occupancy.runs.len(), 68);
+    assert_eq!(rt; occupancy.runs.get(4).copied(), Some(0xFFFF_FFFF_C000_0001));
+    for page in 5..68 {
+        assert_eq!(rt;
+            occupancy.runs.get(page).copied(),
+            Some(u64::MAX),
+            "page {page}"
+        );
+    }
+    assert_eq!(rt; occupancy.zones.len(), 1);
+    assert_eq!(rt; occupancy.zones.first().copied(), Some(0xE1));
+    Ok(())
+}

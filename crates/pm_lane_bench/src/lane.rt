@@ -1,0 +1,108 @@
+ghost use Rattle.std.specs.Prelude.{◌≡◌, [], true, false, OnOk};
+ghost use Rattle.std.specs.Bool.{OnTrue};
+ghost use Rattle.pm_lane_bench.specs.Lanes.{IsUnasked, Fills};
+ghost use Rattle.pm_shared.specs.Openings.{pool_of};
+ghost use Rattle.pm_shared.specs.TestLanes.{Rests};
+
+use crate::kind::LaneStep;
+use crate::pool::beginning;
+use crate::{Failure, ROUND};
+use pm_memory::{LaneMem, LaneSync, Stopped};
+use pm_shared::{PoolSeat, SharedLane, SharedMem, TableName};
+use pm_view::Occ;
+use std::alloc::Global;
+use std::marker::Brand;
+
+/// The line whose lock is taken.
+const LOCKED: u64 = 100;
+
+/// The second line of the pool's first chunk, and its first word.
+const LINE: u64 = 385;
+
+const WORD: u64 = 3080;
+
+/// Makes the rounds on the pool's first lane.
+pub fn on_lane(alloc: Global, rounds: u64, step: LaneStep) -> Result<(), Failure> {
+    let (memory, pool) = SharedMem::new(alloc, beginning(alloc)?)?;
+    on_first::<Brand>(alloc, &memory, pool, rounds, step)
+}
+
+fn on_first<N: TableName>(
+    alloc: Global,
+    memory: &SharedMem,
+    pool: PoolSeat,
+    rounds: u64,
+    step: LaneStep,
+) -> Result<(), Failure>
+    requires name { memory.now.table.shared.table_id ≡ N.table }
+    requires table { pool.table_id ≡ N.table }
+    requires lanes { (memory.now.table.shared.key.lanes ≡ 2) × (memory.now.table.shared.key.shape.lanes ≡ 2) }
+    requires pool { pool.me ≡ pool_of memory.now.table.shared.key 0 [] }
+{
+    let mut pool = pool;
+    let mut lane = memory.split::<N>(alloc, &mut pool, 0)?;
+    match step {
+        LaneStep::Store => stores(&mut lane, rounds),
+        LaneStep::Lock => locks(&mut lane, rounds),
+    }
+}
+
+/// Takes the lock and gives it back in each step.
+fn locks<N: TableName>(lane: &mut SharedLane<'_, N>, rounds: u64) -> Result<(), Failure>
+    requires { Rests lane.old false }
+{
+    for _ in 0..rounds {
+        lock_round(lane)?;
+    }
+    Ok(())
+}
+
+fn lock_round<N: TableName>(lane: &mut SharedLane<'_, N>) -> Result<(), Failure>
+    requires { Rests lane.old false }
+    ensures { OnOk result (Rests lane.new false) }
+{
+    for _ in 0..ROUND {
+        if !lane.take_write(LOCKED) {
+            return Err(Failure);
+        }
+        lane.give(LOCKED);
+    }
+    Ok(())
+}
+
+/// Stores the word in each step.
+fn stores<N: TableName>(lane: &mut SharedLane<'_, N>, rounds: u64) -> Result<(), Failure>
+    requires { IsUnasked lane.old }
+{
+    if !reserve(lane) {
+        return Err(Failure);
+    }
+    for _ in 0..rounds {
+        store_round(lane)?;
+    }
+    Ok(())
+}
+
+/// Reserves the pool's first chunk, and tells whether it did.
+fn reserve<N: TableName>(lane: &mut SharedLane<'_, N>) -> bool
+    requires { IsUnasked lane.old }
+    ensures { OnTrue result (Fills lane.new 0) }
+{
+    if lane.zone_try(0) {
+        lane.occupy(Occ::Zone(0), 1)
+    } else {
+        false
+    }
+}
+
+fn store_round<N: TableName>(lane: &mut SharedLane<'_, N>) -> Result<(), Stopped>
+    requires { Fills lane.old 0 }
+    ensures { OnOk result (Fills lane.new 0) }
+{
+    for value in 0..ROUND {
+        lane.store(WORD, value)?;
+    }
+    lane.flush(LINE)?;
+    lane.drain()?;
+    Ok(())
+}

@@ -1,0 +1,27 @@
+ghost use Rattle.std.specs.Prelude.{◌≡◌, IfOk};
+ghost use Rattle.pm_shared.specs.Bare.{BeginsBare};
+
+use crate::Failure;
+use pm_layout::Shape;
+use pm_objects::Stops;
+use pm_shared::Beginning;
+use std::alloc::Global;
+
+/// What lanes begin on in a pool of two lanes and one zone that has no object.
+pub fn beginning(alloc: Global) -> Result<Beginning, Failure>
+    ensures { IfOk result (λ b. BeginsBare b × (b.lanes ≡ 2) × (b.shape.lanes ≡ 2)) }
+{
+    let shape = Shape::new(2, 1)?;
+    let mut words = vec![in alloc; 0; 35840]?;
+    words[512] = 1;
+    words[1536] = 1;
+    Ok(Beginning {
+        shape,
+        pool: 7,
+        lanes: 2,
+        stops: Stops::none(),
+        words,
+        runs: vec![in alloc; u64::MAX; 70]?,
+        zones: vec![in alloc; 0; 1]?,
+    })
+}

@@ -1,0 +1,61 @@
+ghost use Rattle.std.specs.Prelude.{◌≡◌, ◌<◌};
+
+use crate::{Failure, ROUND};
+use atomic_table::{Play, Seat, Table, TableRule};
+use std::alloc::Global;
+
+/// The rule of a table whose words may be anything, and the play of steps that tell nothing.
+struct Anything;
+
+impl TableRule<u8, (), ()> for Anything {
+    ghost holds = { λ _ _. Unit {0} };
+
+    ghost first = { λ _. tt };
+}
+
+impl Play<u8, ()> for Anything {
+    ghost then = { λ _ _ _ _. Unit {0} };
+}
+
+/// A table of words without a rule.
+type Words = Table<u8, (), (), Anything, Global>;
+
+/// Stores the table's word in each step.
+pub fn stores(alloc: Global, rounds: u64) -> Result<(), Failure> {
+    let (table, mut seat) = Words::of_words(alloc, &[0], &())?;
+    for _ in 0..rounds {
+        store_round(&table, &mut seat);
+    }
+    Ok(())
+}
+
+fn store_round(table: &Words, seat: &mut Seat<u8, ()>)
+    requires table { seat.old.table_id ≡ table.now.shared.table_id }
+    requires word { 0 < table.now.shared.table_id.words }
+    ensures { seat.new.table_id ≡ seat.old.table_id }
+{
+    for value in 0..ROUND {
+        table.shared.store::<Anything>(seat, 0, value);
+    }
+}
+
+/// Sets bits of the table's word in each step.
+pub fn ors(alloc: Global, rounds: u64) -> Result<(), Failure> {
+    let (table, mut seat) = Words::of_words(alloc, &[0], &())?;
+    for _ in 0..rounds {
+        or_round(&table, &mut seat);
+    }
+    Ok(())
+}
+
+fn or_round(table: &Words, seat: &mut Seat<u8, ()>)
+    requires table { seat.old.table_id ≡ table.now.shared.table_id }
+    requires word { 0 < table.now.shared.table_id.words }
+    ensures { seat.new.table_id ≡ seat.old.table_id }
+{
+    let mut all = 0;
+    for value in 0..ROUND {
+        all |= table.shared.fetch_or::<Anything>(seat, 0, value);
+    }
+    prove!(all <= u64::MAX);
+}
