@@ -14,7 +14,7 @@ use Rattle.pm_view.specs.Views.{after_all}
 use Rattle.pm_world.specs.declared.lane.HeldLock.{HeldLock}
 use Rattle.pm_world.specs.declared.lane.Lane.{Lane}
 use Rattle.pm_lock.specs.Locking.{AllLockedAs, AllTriedAs, HasGrown, lock_at}
-use Rattle.pm_lock.specs.Objects.{CanLook, HasLooked, MissesAt, StandsAt, finds}
+use Rattle.pm_lock.specs.Objects.{CanLook, HasLooked, MissesAt, StandsAt, ToldNoRun, finds}
 use Rattle.pm_lock.specs.Steps.{AreWaits, tries}
 use Rattle.pm_lock.specs.Wants.{has_unplaced, is_listed, wanted}
 
@@ -45,7 +45,7 @@ pub record FindsNone (at : View → Type 0) (v : View) (sh : Shape) (locks : Lis
   pub looks : AreFinds sh (take (before + 1) locks) steps
   pub memory : at (after_all v steps)
   pub stays : HasLooked v (after_all v steps)
-  pub misses : MissesAt v (lock_at locks before).line (after_all v steps)
+  pub misses : MissesAt v (lock_at locks before).line (after_all v steps) ⊎ ToldNoRun (after_all v steps) (lock_at locks before).line
 
 abbrev pub FoundAs : (View → Type 0) → View → Shape → List HeldLock → Bool → Type 0
 FoundAs at v sh locks true = FindsAll at v sh locks

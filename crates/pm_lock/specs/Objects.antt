@@ -1,14 +1,13 @@
 -- WHERE AN OBJECT'S LOCK IS, and what a look under it tells: by the descriptor of its chunk and, where that is a run's, by the bitmap.
-use Rattle.std.specs.Prelude.{◌≡◌, ◌≢◌, ℕ, ◌+◌, ◌-◌, ◌*◌, ◌/◌, ◌%◌, ◌<◌, ◌≤◌, nat_le, Bool, true, false, if◌then◌else◌, ◌==◌, ◌&&◌, ◌||◌, List, [], ◌∷◌, Option, None, Some}
+use Rattle.std.specs.Prelude.{◌≡◌, ◌≢◌, ◌⊎◌, ℕ, ◌+◌, ◌-◌, ◌*◌, ◌/◌, ◌%◌, ◌<◌, ◌≤◌, nat_le, Bool, true, false, Contains, if◌then◌else◌, ◌==◌, ◌&&◌, ◌||◌, List, [], ◌∷◌, Option, None, Some}
 use Rattle.std.specs.Int.{bit_at}
 use Rattle.pm_layout.specs.declared.shape.Shape.{Shape}
 use Rattle.pm_layout.specs.Chunks.{chunk_at, chunks_of, is_chunk_page, word_of_chunk, word_of_descriptor, word_of_root}
 use Rattle.pm_layout.specs.Sizes.{blocks_of}
 use Rattle.pm_model.specs.Places.{can_begin}
 use Rattle.pm_objects.specs.declared.ids.Oid.{Oid}
-use Rattle.pm_view.specs.Claims.{class, first, found, header_in, holds, is_held_at, is_huge, is_run, locked, making, mine, reads, span}
+use Rattle.pm_view.specs.Claims.{SawDescriptor, class, first, found, header_in, holds, is_held_at, is_huge, is_run, locked, making, mine, reads, span}
 use Rattle.pm_view.specs.Log.{is_early}
-use Rattle.pm_view.specs.Parts.{DescriptorPart}
 use Rattle.pm_view.specs.Places.{Block, Small, Big, Root, header, in_span}
 use Rattle.pm_view.specs.Steps.{Step}
 use Rattle.pm_view.specs.Steps.Step.{Load}
@@ -58,7 +57,7 @@ finds sh line descriptor bitmap =
 -- an allocated block begins at the line of a chunk with these: a huge block does at line 0, and one of a run after the bitmap's line
 abbrev pub shows_small : ℕ → ℕ → ℕ → Bool
 shows_small lines bitmap at =
-    nat_le 1 at && ((at - 1) % lines == 0 && bit_at bitmap ((at - 1) / lines) == 1)
+    (nat_le 1 lines && nat_le 1 at) && ((at - 1) % lines == 0 && bit_at bitmap ((at - 1) / lines) == 1)
 
 abbrev pub shows : ℕ → ℕ → ℕ → Bool
 shows descriptor bitmap at =
@@ -89,10 +88,9 @@ pub record HasSound (v : View) : Type 0 where
       → making v.fixed.shape v.claims c ≡ false → (first v.fixed.shape v.claims c ≡ f) × (class v.claims c ≡ 0)
   pub small : (c i : ℕ) → has v (Small c i) ≡ true → class v.claims c ≢ 0
 
--- what the lane knows of runs agrees with the word, a run has blocks of some lines, and the blocks that the lane has are as it knows them, before the look and after it
+-- what the lane knows of runs agrees with the word, and the blocks that the lane has are as it knows them, before the look and after it
 pub record FitsLook (v : View) (w x : ℕ) : Type 0 where
   pub agrees : AgreesAt v (part_in v w) x
-  pub some : (c : ℕ) → part_in v w ≡ DescriptorPart c → is_run x ≡ true → 1 ≤ x / 256
   pub sound : IsSound (after v (Load w x))
   pub has_before : HasSound v
   pub has_after : HasSound (after v (Load w x))
@@ -139,9 +137,16 @@ MissesAt v line w = (classes : ℕ → ℕ) → ((c : ℕ) → class w.claims c 
     → header v.fixed.shape (record { first = λ c. c; class = classes }) B ≡ line
     → times_missed v.fixed.shape B v.claims < times_missed v.fixed.shape B w.claims
 
+-- or its chunk was told to be a run of blocks without lines, as it is in no pool without a fault
+pub record ToldNoRun (v : View) (line : ℕ) : Type 0 where
+  pub descriptor : ℕ
+  pub told : Contains v.claims (SawDescriptor (chunk_of_line v.fixed.shape line) descriptor)
+  pub run : is_run descriptor ≡ true
+  pub no_lines : descriptor / 256 ≡ 0
+
 abbrev pub LookTells : View → ℕ → Bool → View → Type 0
 LookTells v line true w = StandsAt w line
-LookTells v line false w = MissesAt v line w
+LookTells v line false w = MissesAt v line w ⊎ ToldNoRun w line
 
 -- A LOOK THAT FITS leaves this, and tells whether an object stands at the line
 abbrev pub LooksTell : Type 0

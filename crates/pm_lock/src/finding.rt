@@ -27,11 +27,10 @@ fn descriptor_word(shape: Shape, line: u64) -> u64
 
 /// Whether an allocated block of a run with blocks of so many lines begins at a line of its chunk.
 fn shows_small(lines: u64, bitmap: u64, at: u64) -> bool
-    requires some { 0 < lines }
-    requires inside { at < 64 }
+    requires { at < 64 }
     ensures { result ≡ shows_small lines bitmap at }
 {
-    if at == 0 {
+    if lines == 0 || at == 0 {
         return false;
     }
     let before = at - 1;
