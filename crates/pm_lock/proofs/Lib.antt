@@ -5,3 +5,6 @@ pub mod Planned
 pub mod CanBegin
 pub mod Sights
 pub mod Looks
+pub mod Stays
+pub mod Tells
+pub mod LookLaw

@@ -124,6 +124,17 @@ module _ (v : View) (t' : List Claim) (before : HasSound v) (now : HasSound (rec
   data_same SlotPart h = absurd (both_ways false refl h)
   data_same OtherPart h = absurd (both_ways false refl h)
 
+  held_at : (p : Option Place) → block_in sh t' p 64 ≡ block_in sh v.claims p 64 → is_held_at sh v.claims p ≡ true → is_held_at sh t' p ≡ true
+  held_at None e h = h
+  held_at (Some p) e h = let d = and_parts (is_data p) (has v (block_of (geometry sh v.claims) p 64)) h in
+      and_from (is_data p) (has (record v { claims = t' }) (block_of (geometry sh t') p 64)) d.0 (subst (λ B. has (record v { claims = t' }) B ≡ true) (sym (same (block_of (geometry sh t') p 64) (block_of (geometry sh v.claims) p 64) e)) (still (block_of (geometry sh v.claims) p 64) d.1))
+    where
+      same : (B C : Block) → Some B ≡ Some C → B ≡ C
+      same B C e = cc
+
+  pub held_still : (q : Part) → is_held_at sh v.claims (place_in (class v.claims) q) ≡ true → is_held_at sh t' (place_in (class t') q) ≡ true
+  held_still q h = let s = data_same q h in ap (is_held_at sh t') s.0 ∙ held_at (place_in (class v.claims) q) s.1 h
+
   -- and are not forgotten, where none of its blocks is shown anew
   pub kept : (shown : Block → Bool) → ((B : Block) → has v B ≡ true → (shown B && not (found sh v.claims B)) ≡ false)
       → (p : Option Place) → is_held_at sh v.claims p ≡ true → is_new shown (found sh v.claims) (block_in sh v.claims p 64) ≡ false

@@ -45,6 +45,10 @@ pub record IsHeader (sh : Shape) (id : Oid) (line : ℕ) : Type 0 where
 
 -- ---- A LOOK, by what was found: the descriptor of the chunk; and the bitmap of a run
 
+-- the descriptor is that of a run of blocks of some lines
+abbrev pub has_lines : ℕ → Bool
+has_lines descriptor = is_run descriptor && nat_le 1 (descriptor / 256)
+
 abbrev pub looks_at_bitmap : Shape → ℕ → ℕ → Bool → List Step
 looks_at_bitmap sh c bitmap true = Load (word_of_chunk sh c) bitmap ∷ []
 looks_at_bitmap sh c bitmap false = []
@@ -52,7 +56,7 @@ looks_at_bitmap sh c bitmap false = []
 abbrev pub finds : Shape → ℕ → ℕ → ℕ → List Step
 finds sh line descriptor bitmap =
     Load (word_of_descriptor sh (chunk_of_line sh line)) descriptor
-    ∷ looks_at_bitmap sh (chunk_of_line sh line) bitmap (is_run descriptor)
+    ∷ looks_at_bitmap sh (chunk_of_line sh line) bitmap (has_lines descriptor)
 
 -- an allocated block begins at the line of a chunk with these: a huge block does at line 0, and one of a run after the bitmap's line
 abbrev pub shows_small : ℕ → ℕ → ℕ → Bool
@@ -110,7 +114,7 @@ pub record HasLooked (v w : View) : Type 0 where
   pub span : (f : ℕ) → has v (Big f) ≡ true → span v.fixed.shape w.claims f ≡ span v.fixed.shape v.claims f
   pub class : (c : ℕ) → class v.claims c ≢ 0 → class w.claims c ≡ class v.claims c
   pub data_ : (u : ℕ) → is_held_at v.fixed.shape v.claims (place_in v u) ≡ true
-      → (place_in w u ≡ place_in v u) × (value_in w u ≡ value_in v u)
+      → (place_in w u ≡ place_in v u) × (is_held_at v.fixed.shape w.claims (place_in w u) ≡ true) × (value_in w u ≡ value_in v u)
   pub root : value_in w (word_of_root v.fixed.shape) ≡ value_in v (word_of_root v.fixed.shape)
   pub missed : (B : Block) → times_missed v.fixed.shape B v.claims ≤ times_missed v.fixed.shape B w.claims
   pub sound : IsSound v → IsSound w
@@ -152,7 +156,7 @@ LookTells v line false w = MissesAt v line w ⊎ ToldNoRun w line
 abbrev pub LooksTell : Type 0
 LooksTell = (v : View) (sh : Shape) (line d b : ℕ) → CanLook v sh line
     → FitsLook v (word_of_descriptor sh (chunk_of_line sh line)) d
-    → (is_run d ≡ true
+    → (has_lines d ≡ true
     → FitsLook (after v (Load (word_of_descriptor sh (chunk_of_line sh line)) d)) (word_of_chunk sh (chunk_of_line sh line)) b)
     → HasLooked v (after_all v (finds sh line d b)) × LookTells v line (shows d b (line % 64)) (after_all v (finds sh line d b))
 

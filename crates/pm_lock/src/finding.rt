@@ -48,8 +48,12 @@ pub fn find_object<M: LawfulMem>(mem: &mut M, shape: Shape, line: u64) -> bool
     if descriptor % DESCRIPTOR_UNIT != RUN {
         return (descriptor % DESCRIPTOR_UNIT == HUGE) & (at == 0);
     }
+    let lines = descriptor / DESCRIPTOR_UNIT;
+    if lines == 0 {
+        return false;
+    }
     let bitmap = mem.see(CHUNK_WORDS * (line / PAGE_LINES));
-    shows_small(descriptor / DESCRIPTOR_UNIT, bitmap, at)
+    shows_small(lines, bitmap, at)
 }
 
 /// Looks under each of these locks, which the lane holds, whether an object stands there, until one
