@@ -8,3 +8,4 @@ pub mod Looks
 pub mod Stays
 pub mod Tells
 pub mod LookLaw
+pub mod Looking
