@@ -9,3 +9,4 @@ pub mod Stays
 pub mod Tells
 pub mod LookLaw
 pub mod Looking
+pub mod FindingAll

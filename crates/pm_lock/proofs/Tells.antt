@@ -77,6 +77,7 @@ module _ (v : View) (line d b : ℕ) (can : CanLook v v.fixed.shape line) where
         record {
           block = Big c;
           inside = lt-ltb c (chunks_of sh) inside;
+          known = tt;
           begins = begins;
           found = or_left (shown_by_descriptor sh v.claims c d (Big c)) (found sh v.claims (Big c))
               (and_from (c == c) (is_huge d && holds v.claims (header_in sh v.claims (Big c))) (eq-eqb c c refl) (and_from (is_huge d) (holds v.claims (header_in sh v.claims (Big c))) p.0 (ap (holds v.claims) begins ∙ can.held)));
@@ -124,6 +125,7 @@ module _ (v : View) (line d b : ℕ) (can : CanLook v v.fixed.shape line) where
         record {
           block = Small c i;
           inside = and_from (nat_lt c (chunks_of sh)) (nat_lt i 64) (lt-ltb c (chunks_of sh) inside) (lt-ltb i 64 (few at_line lines some (omega arith)));
+          known = λ z. omega (arith, some, sym class_told ∙ z);
           begins = h.0;
           found = or_left (shown_by_bitmap sh told_descriptor c b (Small c i)) (found sh told_descriptor (Small c i))
               (and_from (c == c) ((bit_at b i == 1) && (not (class told_descriptor c == 0) && holds told_descriptor (header_in sh told_descriptor (Small c i)))) (eq-eqb c c refl)

@@ -121,10 +121,16 @@ pub record HasLooked (v w : View) : Type 0 where
 
 -- ---- WHAT IT TELLS
 
+-- of a block of a run its class is known
+abbrev pub IsKnownIn : View → Block → Type 0
+IsKnownIn v (Small c i) = class v.claims c ≢ 0
+IsKnownIn v B = Unit {0}
+
 -- AN OBJECT STANDS at the line: its block begins there, and the lane found it
 pub record StandsAt (v : View) (line : ℕ) : Type 0 where
   pub block : Block
   pub inside : is_occupancy v.fixed.shape block ≡ true
+  pub known : IsKnownIn v block
   pub begins : header_in v.fixed.shape v.claims block ≡ line
   pub found : found v.fixed.shape v.claims block ≡ true
 
