@@ -10,3 +10,4 @@ pub mod Tells
 pub mod LookLaw
 pub mod Looking
 pub mod FindingAll
+pub mod Wanting

@@ -6,13 +6,16 @@
 //! It stands on `pm_world` for lawful steps; docs/FORMAT.md, "Sequences".
 #![tactic(auto)]
 
+mod acquiring;
 mod finding;
 mod giving;
 mod laws;
 mod places;
 mod planning;
 mod taking;
+mod wants;
 
+pub use acquiring::lock_objects;
 pub use finding::{find_all, find_object};
 pub use giving::give_back;
 pub use laws::{
@@ -22,6 +25,7 @@ pub use laws::{
 pub use places::line_of;
 pub use planning::plan_lock;
 pub use taking::{lock, lock_all, raise, try_all, try_lock};
+pub use wants::plan_wants;
 
 #[cfg(test)]
 mod tests;
