@@ -11,3 +11,4 @@ pub mod LookLaw
 pub mod Looking
 pub mod FindingAll
 pub mod Wanting
+pub mod Acquired
