@@ -1,5 +1,5 @@
 -- THE OBJECTS THAT A CALL WANTS are locked and found.
-use Rattle.std.proofs.Common.{inl, inr, ◌≡◌, ◌≢◌, ◌⊎◌, ⊎_elim, ℕ, ◌+◌, ◌-◌, ◌*◌, ◌/◌, ◌<◌, ◌≤◌, Bool, true, false, ◌||◌, List, [], ◌∷◌, ◌++◌, length, take, Option, None, Some, Result, Ok, Err, refl, sym, ap, ◌∙◌, subst, arith}
+use Rattle.std.proofs.Common.{inl, inr, ◌≡◌, ⊎_elim, ℕ, ◌-◌, ◌/◌, ◌<◌, ◌≤◌, Bool, true, false, List, [], ◌∷◌, length, Option, None, Some, Result, Ok, Err, refl, sym, ap, ◌∙◌, subst, arith}
 use Rattle.std.specs.List.{AllByRecursion}
 use Rattle.std.proofs.lemmas.Bool.{both_ways, cases_Bool, false_from_ne_true, or_left, or_right}
 use Rattle.pm_layout.specs.declared.shape.Shape.{Shape}
@@ -16,15 +16,15 @@ use Rattle.pm_view.specs.Views.{after_all}
 use Rattle.pm_world.specs.Lawful.{MayTake}
 use Rattle.pm_world.specs.declared.lane.HeldLock.{HeldLock}
 use Rattle.pm_world.specs.declared.lane.Lane.{Lane}
-use Rattle.pm_lock.specs.Acquiring.{Acquired, CanAcquire, CanLookAll, FindsAll, FindsNone, FoundAll, lacks_place, to_take}
+use Rattle.pm_lock.specs.Acquiring.{Acquired, CanAcquire, CanLookAll, FoundAll, FoundAs, TriedObjects, lacks_place, to_take}
 use Rattle.pm_lock.specs.Holding.{IsHeldAs, IsTaken, MayTakeAll, Rises, took}
-use Rattle.pm_lock.specs.Locking.{AllLocked, HasGrown, Stands, lock_of}
+use Rattle.pm_lock.specs.Locking.{AllLocked, AllTried, AllTriedAs, HasGrown, lock_of}
 use Rattle.pm_lock.specs.Objects.{CanLook, is_chunk_line, line_of}
 use Rattle.pm_lock.specs.Plans.{planned}
-use Rattle.pm_lock.specs.Steps.{AreWaits}
+use Rattle.pm_lock.specs.Steps.{AreWaits, tries}
 use Rattle.pm_lock.specs.Wants.{PlannedAll, is_listed, planned_all, planned_for, planned_unless, wanted}
 use Rattle.pm_lock.proofs.CanBegin.{has_header}
-use Rattle.pm_lock.proofs.Holds.{taken_holds, waits_taken}
+use Rattle.pm_lock.proofs.Holds.{taken_holds, tries_taken, waits_taken}
 use Rattle.pm_lock.proofs.Looks.{chunk_line}
 use Rattle.pm_lock.proofs.Planned.{all_planned, planned_rises}
 
@@ -83,22 +83,22 @@ module _ {M : Type 0} (at : M → View → Type 0) (old : Lane M) (new : List �
       rises = wanted_rises old.shape old.pool (is_listed old.locks.items new) wants [] tt;
       each = wanted_all old.shape old.pool (is_listed old.locks.items new) (λ (l : HeldLock). MayTake v l.line)
           (λ id line w is free. record {
-        inside = subst (λ s. line < words_of s / 8) (sym can.shape) (line_inside old.shape line (has_header old.shape old.pool line id is).chunk);
-        free = false_from_ne_true (holds v.claims line) (λ h. both_ways (is_listed old.locks.items new line) free (can.listed line h));
-        early = can.early;
-      }) wants [] tt;
+            inside = subst (λ s. line < words_of s / 8) (sym can.shape) (line_inside old.shape line (has_header old.shape old.pool line id is).chunk);
+            free = false_from_ne_true (holds v.claims line) (λ h. both_ways (is_listed old.locks.items new line) free (can.listed line h));
+            early = can.early;
+          }) wants [] tt;
     }
 
     pub may_look : (u : View) → IsTaken v (to_take old new wants) u → CanLookAll u old.shape (to_take old new wants)
     may_look u taken = all_both (λ (l : HeldLock). is_chunk_line old.shape l.line ≡ true) (IsHeldAs u.claims) (λ (l : HeldLock). CanLook u old.shape l.line) (to_take old new wants)
         (λ l chunk held. subst (λ y. CanLook y old.shape l.line) (sym taken) (record {
-      shape = can.shape;
-      lane = can.area;
-      chunk = chunk;
-      held = ap (λ (y : View). holds y.claims l.line) (sym taken) ∙ held_as u.claims l held;
-      early = can.early;
-      unmaking = λ c. took_making old.shape (to_take old new wants) v.claims c ∙ can.unmaking c;
-    }))
+          shape = can.shape;
+          lane = can.area;
+          chunk = chunk;
+          held = ap (λ (y : View). holds y.claims l.line) (sym taken) ∙ held_as u.claims l held;
+          early = can.early;
+          unmaking = λ c. took_making old.shape (to_take old new wants) v.claims c ∙ can.unmaking c;
+        }))
         (wanted_all old.shape old.pool (is_listed old.locks.items new) (λ (l : HeldLock). is_chunk_line old.shape l.line ≡ true) (λ id line w is free. (has_header old.shape old.pool line id is).chunk) wants [] tt)
         (taken_holds v u (to_take old new wants) taken)
 
@@ -112,6 +112,12 @@ module _ {M : Type 0} (at : M → View → Type 0) (old : Lane M) (new : List �
   refused_first planned refusal.LocksFull few p v can = ((let many = p in omega (arith, few, many)), refl)
   refused_first planned refusal.NoObject few p v can = inl (p.1, refl)
   refused_first planned r few p v can = absurd p
+
+  pub refused_here : (planned : List HeldLock) (r : Refusal) → length old.locks.items ≤ 64 → PlannedAll (to_take old new wants) (lacks_place old wants) (64 - length old.locks.items) planned (Err r) → TriedObjects at new wants old old (Err r)
+  unfolding PlannedAll TriedObjects
+  refused_here planned refusal.LocksFull few p v can = ((let many = p in omega (arith, few, many)), refl)
+  refused_here planned refusal.NoObject few p v can = inl (p.1, refl)
+  refused_here planned r few p v can = absurd p
 
   pub planned_so : (planned : List HeldLock) → PlannedAll (to_take old new wants) (lacks_place old wants) (64 - length old.locks.items) planned (Ok tt) → (planned ≡ to_take old new wants) × (length (to_take old new wants) ≤ 64 - length old.locks.items) × (lacks_place old wants ≡ false)
   unfolding PlannedAll
@@ -138,10 +144,10 @@ module _ {M : Type 0} (at : M → View → Type 0) (old : Lane M) (new : List �
         grown : (v : View) → CanAcquire at old new v → HasGrown (to_take old new wants) old (record mid { memory = memory })
         grown v can = let g = (taken v can).1 in (ap (λ (l : Lane M). record l { memory = memory }) g.0, g.1)
 
-        found_in : (all : Bool) → FoundAll at mid.shape (to_take old new wants) mid.memory memory all → (v : View) → (can : CanAcquire at old new v) → Rattle.pm_lock.specs.Acquiring.FoundAs (at memory) (after_all v (taken v can).0.0) old.shape (to_take old new wants) all
+        found_in : (all : Bool) → FoundAll at mid.shape (to_take old new wants) mid.memory memory all → (v : View) → (can : CanAcquire at old new v) → FoundAs (at memory) (after_all v (taken v can).0.0) old.shape (to_take old new wants) all
         unfolding FoundAll
         found_in all found v can = let t = taken v can in let steps : List Step = t.0.0 in let e = shape_kept v can in
-            subst (λ sh. Rattle.pm_lock.specs.Acquiring.FoundAs (at memory) (after_all v steps) sh (to_take old new wants) all) e
+            subst (λ sh. FoundAs (at memory) (after_all v steps) sh (to_take old new wants) all) e
             (found (after_all v steps) t.0.2 (subst (λ sh. CanLookAll (after_all v steps) sh (to_take old new wants)) (sym e) (may_look v can (after_all v steps) (waits_taken v (to_take old new wants) steps t.0.1))))
 
         pub all_there : (all : Bool) → all ≡ true → FoundAll at mid.shape (to_take old new wants) mid.memory memory all → Acquired at new wants old (record mid { memory = memory }) (Ok tt)
@@ -153,3 +159,41 @@ module _ {M : Type 0} (at : M → View → Type 0) (old : Lane M) (new : List �
         unfolding Acquired
         one_missing true e found v can = absurd (both_ways true e refl)
         one_missing false e found v can = let t = taken v can in inr (placed, (t.0.0, t.0.1, found_in false found v can), grown v can)
+
+    -- ---- each at one try
+    pub busy_so : (won : Bool) → won ≡ false → AllTried at (to_take old new wants) old mid won → TriedObjects at new wants old mid (Err refusal.Busy)
+    unfolding AllTried TriedObjects
+    busy_so true e tried v can = absurd (both_ways true e refl)
+    busy_so false e tried v can = (placed, tried v can.memory (may_take v can))
+
+    module _ (won : Bool) (yes : won ≡ true) (tried : AllTried at (to_take old new wants) old mid won) where
+      got : (v : View) → CanAcquire at old new v → at mid.memory (after_all v (tries (to_take old new wants))) × HasGrown (to_take old new wants) old mid
+      unfolding AllTried
+      got v can = by won yes (tried v can.memory (may_take v can)) where
+        by : (b : Bool) → b ≡ true → AllTriedAs at (to_take old new wants) v old mid b → at mid.memory (after_all v (tries (to_take old new wants))) × HasGrown (to_take old new wants) old mid
+        by true e t = t
+        by false e t = absurd (both_ways false refl e)
+
+      pub looks_then : (v : View) × CanAcquire at old new v → (u : View) × at mid.memory u × CanLookAll u mid.shape (to_take old new wants)
+      looks_then s = let t = got s.0 s.1 in let u : View = after_all s.0 (tries (to_take old new wants)) in
+          (u, t.0, subst (λ sh. CanLookAll u sh (to_take old new wants)) (sym (ap (λ (l : Lane M). l.shape) t.1.0)) (may_look s.0 s.1 u (tries_taken s.0 (to_take old new wants))))
+
+      module _ (memory : M) where
+        found_then : (all : Bool) → FoundAll at mid.shape (to_take old new wants) mid.memory memory all → (v : View) → CanAcquire at old new v → FoundAs (at memory) (after_all v (tries (to_take old new wants))) old.shape (to_take old new wants) all
+        unfolding FoundAll
+        found_then all found v can = let t = got v can in let u : View = after_all v (tries (to_take old new wants)) in let e : mid.shape ≡ old.shape = ap (λ (l : Lane M). l.shape) t.1.0 in
+            subst (λ sh. FoundAs (at memory) u sh (to_take old new wants) all) e
+            (found u t.0 (subst (λ sh. CanLookAll u sh (to_take old new wants)) (sym e) (may_look v can u (tries_taken v (to_take old new wants)))))
+
+        grown_then : (v : View) → CanAcquire at old new v → HasGrown (to_take old new wants) old (record mid { memory = memory })
+        grown_then v can = let g = (got v can).1 in (ap (λ (l : Lane M). record l { memory = memory }) g.0, g.1)
+
+        pub all_got : (all : Bool) → all ≡ true → FoundAll at mid.shape (to_take old new wants) mid.memory memory all → TriedObjects at new wants old (record mid { memory = memory }) (Ok tt)
+        unfolding TriedObjects
+        all_got false e found v can = absurd (both_ways false refl e)
+        all_got true e found v can = (placed, found_then true found v can, grown_then v can)
+
+        pub none_got : (all : Bool) → all ≡ false → FoundAll at mid.shape (to_take old new wants) mid.memory memory all → TriedObjects at new wants old (record mid { memory = memory }) (Err refusal.NoObject)
+        unfolding TriedObjects
+        none_got true e found v can = absurd (both_ways true e refl)
+        none_got false e found v can = inr (placed, found_then false found v can, grown_then v can)

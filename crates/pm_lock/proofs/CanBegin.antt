@@ -1,11 +1,11 @@
 -- Where a block can begin: by the classes of runs, and in which chunk and line of the pool that is.
-use Rattle.std.proofs.Common.{Option, None, Some, cond, ◌≡◌, ℕ, ◌+◌, ◌-◌, ◌*◌, ◌/◌, ◌%◌, ◌<◌, ◌≤◌, Bool, true, false, eqb, leb, ltb, ◌&&◌, ◌||◌, refl, sym, ap, ◌∙◌, subst, arith}
+use Rattle.std.proofs.Common.{None, Some, cond, ◌≡◌, ℕ, ◌+◌, ◌-◌, ◌*◌, ◌/◌, ◌%◌, ◌<◌, ◌≤◌, Bool, true, false, eqb, leb, ltb, ◌&&◌, ◌||◌, refl, sym, ap, ◌∙◌, subst, arith}
 use Rattle.std.proofs.lemmas.Bool.{and_from, and_parts, eqb-true, false_from_ne_true, le-leb, leb-true, lt-ltb, ltb-true, ne_eqb}
 use Rattle.pm_model.specs.Places.{bytes_in_zones, can_begin, can_begin_at_line}
 use Rattle.pm_layout.specs.declared.shape.Shape.{Shape}
-use Rattle.pm_layout.specs.Chunks.{is_chunk_page, is_in_zone, page_in_zone, page_of_zone}
+use Rattle.pm_layout.specs.Chunks.{is_in_zone, page_in_zone, page_of_zone}
 use Rattle.pm_objects.specs.declared.ids.Oid.{Oid}
-use Rattle.pm_lock.specs.Objects.{IsHeader, is_chunk_line, is_placed, line_before, line_of}
+use Rattle.pm_lock.specs.Objects.{IsHeader, is_placed, line_before, line_of}
 
 pub at_line_0 : (line : ℕ) → line ≡ 0 → can_begin_at_line line ≡ true
 unfolding can_begin_at_line

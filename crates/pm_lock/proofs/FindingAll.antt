@@ -1,11 +1,10 @@
 -- LOOKS UNDER SOME LOCKS, one after another.
-use Rattle.std.proofs.Common.{inl, inr, ◌≡◌, ◌≢◌, ◌⊎◌, ⊎_elim, ℕ, zero, suc, ◌+◌, ◌*◌, ◌<◌, ◌≤◌, Bool, true, false, ◌||◌, List, [], ◌∷◌, ◌++◌, length, take, get_or, refl, sym, ap, ◌∙◌, subst, arith}
+use Rattle.std.proofs.Common.{inl, inr, ◌≡◌, ◌⊎◌, ⊎_elim, ℕ, zero, suc, ◌+◌, ◌*◌, ◌<◌, Bool, true, false, ◌||◌, List, [], ◌∷◌, ◌++◌, length, take, get_or, refl, sym, ap, ◌∙◌, subst, arith}
 use Rattle.std.proofs.lemmas.Bool.{both_ways}
 use Rattle.std.proofs.lemmas.List.{append_assoc, append-nil, take_all, take_more}
 use Rattle.std.specs.List.{AllByRecursion}
 use Rattle.pm_layout.specs.declared.shape.Shape.{Shape}
-use Rattle.pm_view.specs.Claims.{class, header_in, holds, locked, making, reads}
-use Rattle.pm_view.specs.Log.{is_early}
+use Rattle.pm_view.specs.Claims.{header_in, locked, making, reads}
 use Rattle.pm_view.specs.Places.{Block, Small, Big, Root, header}
 use Rattle.pm_view.specs.Steps.{Step}
 use Rattle.pm_view.specs.View.{View}
@@ -13,7 +12,7 @@ use Rattle.pm_view.specs.Views.{after_all}
 use Rattle.pm_world.specs.Causes.{times_missed}
 use Rattle.pm_world.specs.declared.lane.HeldLock.{HeldLock}
 use Rattle.pm_layout.specs.Chunks.{line_of_chunk}
-use Rattle.pm_lock.specs.Acquiring.{AreFinds, CanLookAll, FindsAll, FindsNone, FoundAll, FoundAs}
+use Rattle.pm_lock.specs.Acquiring.{AreFinds, CanLookAll, FindsAll, FoundAll}
 use Rattle.pm_lock.specs.Locking.{lock_at, no_lock}
 use Rattle.pm_lock.specs.Objects.{CanLook, HasBlock, HasLooked, IsKnownIn, Looked, LookedAs, MissesAt, StandsAt, ToldNoRun, finds}
 use Rattle.pm_lock.proofs.Stays.{stays_here, stays_on}

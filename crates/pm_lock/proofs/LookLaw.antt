@@ -1,9 +1,9 @@
 -- A LOOK THAT FITS leaves what the lane has, and tells whether an object stands at its line.
-use Rattle.std.proofs.Common.{◌≡◌, ◌≢◌, ℕ, suc, ◌+◌, ◌*◌, ◌/◌, ◌%◌, ◌<◌, ◌≤◌, Bool, true, false, ◌&&◌, ◌==◌, cond, List, [], ◌∷◌, leb, refl, sym, ap, ◌∙◌, subst, arith, eq-eqb}
+use Rattle.std.proofs.Common.{◌≡◌, ℕ, suc, ◌+◌, ◌*◌, ◌/◌, ◌%◌, ◌<◌, ◌≤◌, Bool, true, false, ◌&&◌, ◌∷◌, leb, refl, sym, ap, ◌∙◌, subst, arith}
 use Rattle.std.proofs.lemmas.Bool.{and_from, and_left, and_right, leb-false, leb-true}
 use Rattle.pm_layout.specs.declared.shape.Shape.{Shape}
 use Rattle.pm_layout.specs.Chunks.{chunks_of, word_of_chunk, word_of_descriptor}
-use Rattle.pm_view.specs.Claims.{Claim, class, is_run, making}
+use Rattle.pm_view.specs.Claims.{class, is_run}
 use Rattle.pm_view.specs.Parts.{DescriptorPart}
 use Rattle.pm_view.specs.Steps.Step.{Load}
 use Rattle.pm_view.specs.View.{View}
@@ -11,7 +11,7 @@ use Rattle.pm_view.specs.Views.{after, after_all, part_in}
 use Rattle.pm_world.specs.InWorld.{AgreesAt, IsSound}
 use Rattle.pm_lock.specs.Objects.{CanLook, FitsLook, HasLooked, HasSound, LookTells, LooksTell, chunk_of_line, finds, has_lines, looks_at_bitmap, shows}
 use Rattle.pm_lock.proofs.Looks.{bitmap_is, chunk_line, descriptor_is, learns_bitmap, learns_descriptor}
-use Rattle.pm_lock.proofs.Stays.{bitmap_stays, descriptor_stays, stays_on, with_bitmap, with_descriptor}
+use Rattle.pm_lock.proofs.Stays.{bitmap_stays, descriptor_stays, stays_on}
 use Rattle.pm_lock.proofs.Tells.{class_told, tells_empty, tells_no_run, tells_run, told_bitmap, told_descriptor}
 
 -- what a look leaves, with all that is said of it

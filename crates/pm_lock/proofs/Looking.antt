@@ -1,5 +1,5 @@
 -- A LOOK AS MEMORY CALLS: what is seen of the words is what the look's law asks for.
-use Rattle.std.proofs.Common.{◌≡◌, ◌≢◌, ℕ, ◌+◌, ◌*◌, ◌/◌, ◌%◌, ◌<◌, ◌≤◌, leb, Bool, true, false, ◌&&◌, ◌==◌, List, [], ◌∷◌, refl, sym, ap, ◌∙◌, subst, arith, ne_eqb, eq-eqb}
+use Rattle.std.proofs.Common.{◌≡◌, ◌≢◌, ℕ, ◌*◌, ◌/◌, ◌%◌, ◌<◌, leb, Bool, true, false, ◌&&◌, ◌==◌, ◌∷◌, refl, sym, ap, ◌∙◌, subst, arith, ne_eqb, eq-eqb}
 use Rattle.std.proofs.lemmas.Bool.{and_from, and_left, and_right, both_ways, le-leb, cond-false, cond-true}
 use Rattle.pm_layout.specs.declared.shape.Shape.{Shape}
 use Rattle.pm_layout.specs.Chunks.{chunks_of, word_of_chunk, word_of_descriptor, words_of}
@@ -8,7 +8,6 @@ use Rattle.pm_view.specs.Steps.Step.{Load}
 use Rattle.pm_view.specs.View.{View}
 use Rattle.pm_view.specs.Views.{after, after_all}
 use Rattle.pm_world.specs.InWorld.{InWorld}
-use Rattle.pm_world.specs.Lawful.{Allowed}
 use Rattle.pm_lock.specs.Objects.{CanLook, FitsLook, LookedAs, LookTells, chunk_of_line, finds, has_lines, looks_at_bitmap, shows, shows_small}
 use Rattle.pm_lock.proofs.LookLaw.{Leaves, look_leaves}
 use Rattle.pm_lock.proofs.Looks.{chunk_line}

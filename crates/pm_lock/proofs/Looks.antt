@@ -1,20 +1,18 @@
 -- LOOKS at a descriptor and at a bitmap: which words they are, and what stays of what a lane has and knows.
-use Rattle.std.proofs.Common.{◌≡◌, ◌≢◌, ⊎_elim, ℕ, zero, suc, ◌+◌, ◌-◌, ◌*◌, ◌/◌, ◌%◌, ◌<◌, ◌≤◌, nat_le, nat_lt, Bool, true, false, not, cond, ◌==◌, ◌&&◌, ◌||◌, List, [], ◌∷◌, Option, None, Some, leb, ltb, eqb, refl, sym, ap, ◌∙◌, subst, arith, eq-eqb, ne_eqb}
-use Rattle.std.proofs.lemmas.Bool.{and_from, and_left, and_parts, and_right, both_ways, cases_Bool, cond-false, cond-true, eqb-true, false_from_ne_true, le-leb, leb-true, lt-ltb, ltb-true, or_cases, or_left, or_right}
+use Rattle.std.proofs.Common.{◌≡◌, ◌≢◌, ⊎_elim, ℕ, zero, suc, ◌+◌, ◌-◌, ◌*◌, ◌/◌, ◌%◌, ◌<◌, ◌≤◌, Bool, true, false, not, cond, ◌==◌, ◌&&◌, List, ◌∷◌, Option, None, Some, leb, ltb, refl, sym, ap, ◌∙◌, subst, arith, ne_eqb}
+use Rattle.std.proofs.lemmas.Bool.{and_from, and_parts, both_ways, cond-false, false_from_ne_true, le-leb, leb-true, lt-ltb, ltb-true, or_cases, or_left, or_right}
 use Rattle.pm_layout.specs.declared.shape.Shape.{Shape}
 use Rattle.pm_layout.specs.Areas.{word_of_generation, word_of_seal, word_of_entry, line_of_slot, redo_entries, undo_slots}
-use Rattle.pm_layout.specs.Chunks.{chunk_at, chunk_described, chunks_of, is_chunk_page, is_in_zone, page_in_zone, page_of_chunk, page_of_zone, word_of_chunk, word_of_descriptor, word_of_root, words_of, zone_at}
-use Rattle.pm_view.specs.Claims.{Claim, Knows, SawBitmap, SawDescriptor, block_in, class, first, found, geometry, is_held_at, is_new, is_run, last_first, making, mine, pictured, reads, shown_by_bitmap, shown_by_descriptor, span}
+use Rattle.pm_layout.specs.Chunks.{chunk_at, chunk_described, chunks_of, is_chunk_page, is_in_zone, page_in_zone, page_of_chunk, page_of_zone, word_of_chunk, word_of_descriptor, words_of, zone_at}
+use Rattle.pm_view.specs.Claims.{Claim, Knows, SawBitmap, SawDescriptor, block_in, class, first, found, geometry, is_held_at, is_new, last_first, making, mine, span}
 use Rattle.pm_view.specs.Log.{Phase, Idle, Open, Drawn, Sealing, Applying, Clearing, Retiring, Voiding, is_early}
 use Rattle.pm_view.specs.Parts.{Part, GenerationPart, SealPart, EntryPart, SlotPart, RootPart, DescriptorPart, ChunkPart, OtherPart, chunk_place, is_entry_word, is_slot_word, part_of, place_in, pool_part}
-use Rattle.pm_view.specs.Places.{Place, InRun, InHuge, Block, Small, Big, Root, block_of, in_span, is_data, part}
-use Rattle.pm_view.specs.Steps.Step.{Load}
+use Rattle.pm_view.specs.Places.{Place, Block, Small, Big, block_of, in_span, is_data, part}
 use Rattle.pm_view.specs.View.{View}
-use Rattle.pm_view.specs.Views.{after, learned, part_in}
-use Rattle.pm_world.specs.InWorld.{IsSound}
+use Rattle.pm_view.specs.Views.{learned}
 use Rattle.pm_world.proofs.CrashLaw.{descriptor_part}
 use Rattle.pm_world.proofs.WordPlaces.{chunk_part}
-use Rattle.pm_lock.specs.Objects.{HasLooked, HasSound, chunk_of_line, has, is_chunk_line}
+use Rattle.pm_lock.specs.Objects.{HasSound, chunk_of_line, has, is_chunk_line}
 
 -- ---- WORDS: the descriptor of a chunk, and its first word
 

@@ -1,14 +1,13 @@
 -- WHAT A LANE FINDS IN A WORD, in a world: it fits what the lane knows of the blocks that it has.
-use Rattle.std.proofs.Common.{inl, inr, ◌≡◌, ◌≢◌, ℕ, zero, suc, ◌+◌, ◌<◌, ◌≤◌, ◌⊎◌, ⊎_elim, nat_le, nat_lt, Bool, true, false, cond, ◌==◌, ◌&&◌, ◌||◌, refl, sym, ap, ◌∙◌, subst, arith, ne_eqb, eq-eqb}
+use Rattle.std.proofs.Common.{inl, inr, ◌≡◌, ℕ, zero, suc, ◌+◌, ◌<◌, ◌≤◌, ◌⊎◌, ⊎_elim, nat_le, nat_lt, Bool, true, false, cond, refl, sym, ap, ◌∙◌, subst, arith, ne_eqb, eq-eqb}
 use Rattle.std.specs.Prelude.{eqb}
-use Rattle.std.proofs.lemmas.Bool.{both_ways, and_parts, cases_Bool, cases_lt, cond-true, eqb-true, ltb-true, or_cases, false_from_ne_true}
-use Rattle.pm_view.specs.Claims.{class, first, found, making, mine, span}
+use Rattle.std.proofs.lemmas.Bool.{both_ways, and_parts, cases_lt, cond-true, eqb-true, ltb-true, or_cases, false_from_ne_true}
 use Rattle.pm_view.specs.Places.{Block, Small, Big, in_span}
 use Rattle.pm_view.specs.Steps.Step.{Load}
 use Rattle.pm_view.specs.View.{View}
 use Rattle.pm_view.specs.Views.{after}
 use Rattle.pm_world.specs.Course.{past_after}
-use Rattle.pm_world.specs.InWorld.{InWorld, SeenAgrees, SeenIsSound}
+use Rattle.pm_world.specs.InWorld.{InWorld}
 use Rattle.pm_world.specs.Lanes.{HoldFits, own, valid}
 use Rattle.pm_world.specs.Lanes as lanes
 use Rattle.pm_world.specs.Lawful.{IsLawful}

@@ -1,13 +1,12 @@
 -- WHAT STAYS through a look at a descriptor, at a bitmap, and through looks one after another.
-use Rattle.std.proofs.Common.{◌≡◌, ◌≢◌, ⊎_elim, ℕ, zero, suc, ◌+◌, ◌*◌, ◌/◌, ◌%◌, ◌<◌, ◌≤◌, Bool, true, false, not, cond, ◌==◌, ◌&&◌, ◌||◌, List, [], ◌∷◌, Option, None, Some, eqb, refl, sym, ap, ◌∙◌, subst, arith, eq-eqb, ne_eqb}
-use Rattle.std.specs.Int.{bit_at}
-use Rattle.std.proofs.lemmas.Bool.{and_from, and_left, and_parts, and_right, both_ways, cases_Bool, cond-false, cond-true, eqb-true, false_from_ne_true, or_cases, or_left, or_right}
+use Rattle.std.proofs.Common.{◌≡◌, ◌≢◌, ⊎_elim, ℕ, zero, suc, ◌+◌, ◌*◌, ◌/◌, ◌<◌, ◌≤◌, Bool, true, false, not, cond, ◌==◌, ◌&&◌, List, ◌∷◌, Some, refl, sym, ap, ◌∙◌, subst, arith, ne_eqb}
+use Rattle.std.proofs.lemmas.Bool.{and_left, and_parts, and_right, both_ways, cond-false, eqb-true, false_from_ne_true, or_cases, or_left, or_right}
 use Rattle.pm_layout.specs.declared.shape.Shape.{Shape}
 use Rattle.pm_layout.specs.Chunks.{chunks_of, word_of_chunk, word_of_descriptor, word_of_root}
 use Rattle.pm_view.specs.Claims.{Claim, Knows, SawBitmap, SawDescriptor, class, found, geometry, is_held_at, is_new, is_run, making, mine, pictured, shown_by_bitmap, shown_by_descriptor, span}
 use Rattle.pm_view.specs.Log.{place_at}
 use Rattle.pm_view.specs.Parts.{Part, DescriptorPart, ChunkPart, place_in, pool_part}
-use Rattle.pm_view.specs.Places.{Block, Small, Big, Root}
+use Rattle.pm_view.specs.Places.{Block, Big}
 use Rattle.pm_view.specs.View.{View}
 use Rattle.pm_view.specs.Views.{value_in}
 use Rattle.pm_world.specs.Causes.{misses_in_bitmap, misses_in_descriptor, times_missed}
@@ -56,8 +55,7 @@ module _ (v : View) (c x : ℕ) (lane : v.fixed.lane < v.fixed.shape.lanes) (ins
     data_still : (u : ℕ) → is_held_at sh v.claims (place_at sh (class v.claims) u) ≡ true → (place_at sh (class with_descriptor.claims) u ≡ place_at sh (class v.claims) u) × (is_held_at sh with_descriptor.claims (place_at sh (class with_descriptor.claims) u) ≡ true) × (value_in with_descriptor u ≡ value_in v u)
     data_still u held =
         let same = data_same v with_descriptor.claims before now unmaking_now (λ B. refl) found_still span_same class_same (pool_part sh u) held in
-        let apart : (word_of_descriptor sh c == u) ≡ false = ne_eqb (word_of_descriptor sh c) u (no_data sh v.claims (word_of_descriptor sh c) u (DescriptorPart c) (descriptor_pool sh v.fixed.lane c lane inside) refl held) in
-        (
+        let apart : (word_of_descriptor sh c == u) ≡ false = ne_eqb (word_of_descriptor sh c) u (no_data sh v.claims (word_of_descriptor sh c) u (DescriptorPart c) (descriptor_pool sh v.fixed.lane c lane inside) refl held) in (
           same.0,
           held_still v with_descriptor.claims before now unmaking_now (λ B. refl) found_still span_same class_same (pool_part sh u) held,
           cond-false (word_of_descriptor sh c == u) _ _ apart
@@ -103,8 +101,7 @@ module _ (v : View) (c x : ℕ) (lane : v.fixed.lane < v.fixed.shape.lanes) (ins
 
     data_too : (u : ℕ) → is_held_at sh v.claims (place_at sh (class v.claims) u) ≡ true → (place_at sh (class with_bitmap.claims) u ≡ place_at sh (class v.claims) u) × (is_held_at sh with_bitmap.claims (place_at sh (class with_bitmap.claims) u) ≡ true) × (value_in with_bitmap u ≡ value_in v u)
     data_too u held =
-        let apart : (word_of_chunk sh c == u) ≡ false = ne_eqb (word_of_chunk sh c) u (no_data sh v.claims (word_of_chunk sh c) u (ChunkPart c 0) (bitmap_pool sh v.fixed.lane c lane inside) (no_bitmap (class v.claims c) refl) held) in
-        (
+        let apart : (word_of_chunk sh c == u) ≡ false = ne_eqb (word_of_chunk sh c) u (no_data sh v.claims (word_of_chunk sh c) u (ChunkPart c 0) (bitmap_pool sh v.fixed.lane c lane inside) (no_bitmap (class v.claims c) refl) held) in (
           refl,
           held_still v with_bitmap.claims before now unmaking (λ B. refl) found_too (λ f e. refl) (λ d some. refl) (pool_part sh u) held,
           cond-false (word_of_chunk sh c == u) _ _ apart

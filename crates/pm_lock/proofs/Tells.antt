@@ -1,20 +1,19 @@
 -- WHAT A LOOK TELLS: an object is found at its line, or each block that would begin there is missed.
-use Rattle.std.proofs.Common.{inl, inr, ◌≡◌, ◌≢◌, ◌⊎◌, ⊎_elim, ℕ, zero, suc, ◌+◌, ◌-◌, ◌*◌, ◌/◌, ◌%◌, ◌<◌, ◌≤◌, nat_le, nat_lt, Bool, true, false, not, cond, Some, ◌==◌, ◌&&◌, ◌||◌, List, [], ◌∷◌, ◌++◌, Contains, length, leb, ltb, eqb, refl, sym, ap, ◌∙◌, subst, arith, eq-eqb, ne_eqb}
+use Rattle.std.proofs.Common.{inl, inr, ◌≡◌, ℕ, suc, ◌+◌, ◌-◌, ◌*◌, ◌/◌, ◌%◌, ◌<◌, ◌≤◌, nat_lt, Bool, true, false, not, cond, Some, ◌==◌, ◌&&◌, ◌||◌, List, [], ◌∷◌, length, leb, refl, sym, ap, ◌∙◌, subst, arith, eq-eqb, ne_eqb}
 use Rattle.std.specs.Int.{bit_at}
 use Rattle.std.specs.Prelude.{find}
 use Rattle.std.specs.Option.{option_map_or}
 use Rattle.std.proofs.lemmas.Nat.{div-mul-add, div_below}
 use Rattle.std.proofs.Math.Nat.{mul_comm, mul-mod_left}
-use Rattle.std.proofs.lemmas.Bool.{and_from, and_left, and_parts, and_right, both_ways, cases_Bool, cases_eq, cond_both, cond-false, cond-true, eqb-true, false_from_ne_true, le-leb, leb-true, lt-ltb, ltb-true, or_cases, or_left, or_right}
+use Rattle.std.proofs.lemmas.Bool.{and_from, and_parts, both_ways, cond_both, cond-false, cond-true, eqb-true, false_from_ne_true, le-leb, leb-true, lt-ltb, or_left, or_right}
 use Rattle.pm_layout.specs.declared.shape.Shape.{Shape}
 use Rattle.pm_layout.specs.Chunks.{chunks_of, line_of_chunk, page_of_chunk, word_of_chunk, word_of_descriptor}
 use Rattle.pm_layout.specs.Sizes.{blocks_by_class, blocks_of}
-use Rattle.pm_view.specs.Claims.{Claim, Knows, SawBitmap, SawDescriptor, class, found, header_in, holds, is_huge, is_run, making, shown_by_bitmap, shown_by_descriptor}
-use Rattle.pm_view.specs.Places.{Block, Small, Big, Root, header}
+use Rattle.pm_view.specs.Claims.{Claim, Knows, SawBitmap, SawDescriptor, class, found, header_in, holds, is_huge, is_run, shown_by_bitmap, shown_by_descriptor}
+use Rattle.pm_view.specs.Places.{Block, Small, Big, Root}
 use Rattle.pm_view.specs.View.{View}
 use Rattle.pm_world.specs.Causes.{misses_in_bitmap, misses_in_descriptor, times_missed}
-use Rattle.pm_world.specs.Lanes.{is_occupancy}
-use Rattle.pm_lock.specs.Objects.{CanLook, HasBlock, LookTells, MissesAt, StandsAt, ToldNoRun, chunk_of_line, shows, shows_small}
+use Rattle.pm_lock.specs.Objects.{CanLook, LookTells, MissesAt, StandsAt, ToldNoRun, chunk_of_line, shows, shows_small}
 use Rattle.pm_world.proofs.StepMark.{some_class}
 use Rattle.pm_world.proofs.WordPlaces.{page_apart}
 use Rattle.pm_lock.proofs.Looks.{chunk_line}

@@ -1,5 +1,5 @@
 -- WHAT LOCKING OBJECTS DOES to a lane: by cases of what it answers, for each view that the lane's memory may be seen as.
-use Rattle.std.specs.Prelude.{◌≡◌, ◌⊎◌, ℕ, ◌+◌, ◌-◌, ◌<◌, Bool, true, false, List, [], ◌∷◌, ◌++◌, length, take, Result, Ok, Err}
+use Rattle.std.specs.Prelude.{◌≡◌, ◌⊎◌, ℕ, ◌+◌, ◌<◌, Bool, true, false, List, [], ◌∷◌, ◌++◌, length, take, Result, Ok, Err}
 use Rattle.std.specs.List.{AllByRecursion}
 use Rattle.pm_layout.specs.declared.shape.Shape.{Shape}
 use Rattle.pm_objects.specs.declared.calls.Want.{Want}
@@ -92,3 +92,16 @@ AcquiredAs at plan wants v old new (Err r) = ⊥
 
 unfoldable pub Acquired : {M : Type 0} → (M → View → Type 0) → List ℕ → List Want → Lane M → Lane M → Result (Unit {0}) Refusal → Type 0
 Acquired at new wants old lane result = (v : View) → CanAcquire at old new v → AcquiredAs at (to_take old new wants) wants v old lane result
+
+-- INSIDE A TRANSACTION each is tried once, and then looked under
+abbrev pub TriedObjectsAs : {M : Type 0} → (M → View → Type 0) → List HeldLock → List Want → View → Lane M → Lane M → Result (Unit {0}) Refusal → Type 0
+TriedObjectsAs at plan wants v old new (Ok done) = (lacks_place old wants ≡ false)
+    × FindsAll (at new.memory) (after_all v (tries plan)) old.shape plan × HasGrown plan old new
+TriedObjectsAs at plan wants v old new (Err refusal.LocksFull) = RefusedFull plan old new
+TriedObjectsAs at plan wants v old new (Err refusal.NoObject) = RefusedUnplaced wants old new
+    ⊎ ((lacks_place old wants ≡ false) × FindsNone (at new.memory) (after_all v (tries plan)) old.shape plan × HasGrown plan old new)
+TriedObjectsAs at plan wants v old new (Err refusal.Busy) = (lacks_place old wants ≡ false) × AllTriedAs at plan v old new false
+TriedObjectsAs at plan wants v old new (Err r) = ⊥
+
+unfoldable pub TriedObjects : {M : Type 0} → (M → View → Type 0) → List ℕ → List Want → Lane M → Lane M → Result (Unit {0}) Refusal → Type 0
+TriedObjects at new wants old lane result = (v : View) → CanAcquire at old new v → TriedObjectsAs at (to_take old new wants) wants v old lane result

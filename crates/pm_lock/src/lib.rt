@@ -15,12 +15,12 @@ mod planning;
 mod taking;
 mod wants;
 
-pub use acquiring::lock_objects;
+pub use acquiring::{lock_objects, try_objects};
 pub use finding::{find_all, find_object};
 pub use giving::give_back;
 pub use laws::{
-    locks_are_held_once_taken, locks_may_be_given_back, looks_tell, objects_have_headers, plans_rise,
-    sights_fit,
+    locks_are_held_once_taken, locks_may_be_given_back, looks_tell, objects_have_headers,
+    plans_rise, sights_fit,
 };
 pub use places::line_of;
 pub use planning::plan_lock;
