@@ -12,3 +12,4 @@ pub mod Looking
 pub mod FindingAll
 pub mod Wanting
 pub mod Acquired
+pub mod RaisedLocks

@@ -5,3 +5,4 @@ pub mod Plans
 pub mod Objects
 pub mod Wants
 pub mod Acquiring
+pub mod Raising

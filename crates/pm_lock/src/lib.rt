@@ -12,6 +12,7 @@ mod giving;
 mod laws;
 mod places;
 mod planning;
+mod raising;
 mod taking;
 mod wants;
 
@@ -24,6 +25,7 @@ pub use laws::{
 };
 pub use places::line_of;
 pub use planning::plan_lock;
+pub use raising::raise_wanted;
 pub use taking::{lock, lock_all, raise, try_all, try_lock};
 pub use wants::plan_wants;
 
