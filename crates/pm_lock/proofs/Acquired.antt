@@ -16,7 +16,7 @@ use Rattle.pm_view.specs.Views.{after_all}
 use Rattle.pm_world.specs.Lawful.{MayTake}
 use Rattle.pm_world.specs.declared.lane.HeldLock.{HeldLock}
 use Rattle.pm_world.specs.declared.lane.Lane.{Lane}
-use Rattle.pm_lock.specs.Acquiring.{Acquired, CanAcquire, CanLookAll, FoundAll, FoundAs, TriedObjects, lacks_place, to_take}
+use Rattle.pm_lock.specs.Acquiring.{Acquired, CanAcquire, CanLookAll, FoundAll, FoundAs, MayLockWanted, MayWant, TriedObjects, lacks_place, to_take}
 use Rattle.pm_lock.specs.Holding.{IsHeldAs, IsTaken, MayTakeAll, Rises, took}
 use Rattle.pm_lock.specs.Locking.{AllLocked, AllTried, AllTriedAs, HasGrown, lock_of}
 use Rattle.pm_lock.specs.Objects.{CanLook, is_chunk_line, line_of}
@@ -73,34 +73,45 @@ took_making sh (l ∷ locks) t c = took_making sh locks (Took l.line l.write ∷
 held_as : (t : List Claim) (l : HeldLock) → IsHeldAs t l → holds t l.line ≡ true
 held_as t l is = ⊎_elim (λ (w : l.write ≡ true). or_left (locked t l.line) (reads t l.line) (is.0 w)) (λ (r : l.write ≡ false). or_right (locked t l.line) (reads t l.line) (is.1 r)) (cases_Bool l.write)
 
-module _ {M : Type 0} (at : M → View → Type 0) (old : Lane M) (new : List ℕ) (wants : List Want) where
-  abbrev pub plan : List HeldLock
-  plan = to_take old new wants
+-- FROM THE VIEW ALONE
+module _ (v : View) (sh : Shape) (pool : ℕ) (locks : List HeldLock) (new : List ℕ) (wants : List Want) (can : MayWant v sh locks new) where
+  abbrev plan : List HeldLock
+  plan = wanted sh pool locks new wants
 
+  takes_wanted : MayTakeAll v plan
+  takes_wanted = record {
+    rises = wanted_rises sh pool (is_listed locks new) wants [] tt;
+    each = wanted_all sh pool (is_listed locks new) (λ (l : HeldLock). MayTake v l.line)
+        (λ id line w is free. record {
+      inside = subst (λ s. line < words_of s / 8) (sym can.shape) (line_inside sh line (has_header sh pool line id is).chunk);
+      free = false_from_ne_true (holds v.claims line) (λ h. both_ways (is_listed locks new line) free (can.listed line h));
+      early = can.early;
+    }) wants [] tt;
+  }
+
+  looks_wanted : (u : View) → IsTaken v plan u → CanLookAll u sh plan
+  looks_wanted u taken = all_both (λ (l : HeldLock). is_chunk_line sh l.line ≡ true) (IsHeldAs u.claims) (λ (l : HeldLock). CanLook u sh l.line) plan
+      (λ l chunk held. subst (λ y. CanLook y sh l.line) (sym taken) (record {
+    shape = can.shape;
+    lane = can.area;
+    chunk = chunk;
+    held = ap (λ (y : View). holds y.claims l.line) (sym taken) ∙ held_as u.claims l held;
+    early = can.early;
+    unmaking = λ c. took_making sh plan v.claims c ∙ can.unmaking c;
+  }))
+      (wanted_all sh pool (is_listed locks new) (λ (l : HeldLock). is_chunk_line sh l.line ≡ true) (λ id line w is free. (has_header sh pool line id is).chunk) wants [] tt)
+      (taken_holds v u plan taken)
+
+  pub may_lock_wanted : MayLockWanted v sh (wanted sh pool locks new wants)
+  may_lock_wanted = record { takes = takes_wanted; looks = looks_wanted }
+
+module _ {M : Type 0} (at : M → View → Type 0) (old : Lane M) (new : List ℕ) (wants : List Want) where
   module _ (v : View) (can : CanAcquire at old new v) where
     pub may_take : MayTakeAll v (to_take old new wants)
-    may_take = record {
-      rises = wanted_rises old.shape old.pool (is_listed old.locks.items new) wants [] tt;
-      each = wanted_all old.shape old.pool (is_listed old.locks.items new) (λ (l : HeldLock). MayTake v l.line)
-          (λ id line w is free. record {
-            inside = subst (λ s. line < words_of s / 8) (sym can.shape) (line_inside old.shape line (has_header old.shape old.pool line id is).chunk);
-            free = false_from_ne_true (holds v.claims line) (λ h. both_ways (is_listed old.locks.items new line) free (can.listed line h));
-            early = can.early;
-          }) wants [] tt;
-    }
+    may_take = (may_lock_wanted v old.shape old.pool old.locks.items new wants can.may).takes
 
     pub may_look : (u : View) → IsTaken v (to_take old new wants) u → CanLookAll u old.shape (to_take old new wants)
-    may_look u taken = all_both (λ (l : HeldLock). is_chunk_line old.shape l.line ≡ true) (IsHeldAs u.claims) (λ (l : HeldLock). CanLook u old.shape l.line) (to_take old new wants)
-        (λ l chunk held. subst (λ y. CanLook y old.shape l.line) (sym taken) (record {
-          shape = can.shape;
-          lane = can.area;
-          chunk = chunk;
-          held = ap (λ (y : View). holds y.claims l.line) (sym taken) ∙ held_as u.claims l held;
-          early = can.early;
-          unmaking = λ c. took_making old.shape (to_take old new wants) v.claims c ∙ can.unmaking c;
-        }))
-        (wanted_all old.shape old.pool (is_listed old.locks.items new) (λ (l : HeldLock). is_chunk_line old.shape l.line ≡ true) (λ id line w is free. (has_header old.shape old.pool line id is).chunk) wants [] tt)
-        (taken_holds v u (to_take old new wants) taken)
+    may_look = (may_lock_wanted v old.shape old.pool old.locks.items new wants can.may).looks
 
   -- ---- by what was planned
   pub planned_at : (locks planned : List HeldLock) (result : Result (Unit {0}) Refusal) → locks ≡ old.locks.items → PlannedAll (wanted old.shape old.pool locks new wants) (lacks_place old wants) (64 - length locks) planned result

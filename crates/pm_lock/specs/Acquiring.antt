@@ -13,6 +13,7 @@ use Rattle.pm_view.specs.View.{View}
 use Rattle.pm_view.specs.Views.{after_all}
 use Rattle.pm_world.specs.declared.lane.HeldLock.{HeldLock}
 use Rattle.pm_world.specs.declared.lane.Lane.{Lane}
+use Rattle.pm_lock.specs.Holding.{IsTaken, MayTakeAll}
 use Rattle.pm_lock.specs.Locking.{AllLockedAs, AllTriedAs, HasGrown, lock_at}
 use Rattle.pm_lock.specs.Objects.{CanLook, HasLooked, MissesAt, StandsAt, ToldNoRun, finds}
 use Rattle.pm_lock.specs.Steps.{AreWaits, tries}
@@ -56,14 +57,27 @@ FoundAll at sh locks old new all = (v : View) → at old v → CanLookAll v sh l
 
 -- ---- THE OBJECTS THAT A CALL WANTS
 
--- the lane may lock: its call has no number yet, it makes no run, and each line that it holds is that of a lock in its list or of a new object
+-- a lane of this view may lock: its call has no number yet, it makes no run, and each line that it holds is that of one of these locks or of a new object
+pub record MayWant (v : View) (sh : Shape) (locks : List HeldLock) (new : List ℕ) : Type 0 where
+  pub shape : v.fixed.shape ≡ sh
+  pub area : v.fixed.lane < sh.lanes
+  pub early : is_early v.log.phase ≡ true
+  pub unmaking : (c : ℕ) → making sh v.claims c ≡ false
+  pub listed : (line : ℕ) → holds v.claims line ≡ true → is_listed locks new line ≡ true
+
+-- SO IT MAY TAKE each of the locks that are wanted, and look under each once they are taken
+pub record MayLockWanted (v : View) (sh : Shape) (plan : List HeldLock) : Type 0 where
+  pub takes : MayTakeAll v plan
+  pub looks : (w : View) → IsTaken v plan w → CanLookAll w sh plan
+
+abbrev pub WantedMayBeLocked : Type 0
+WantedMayBeLocked = (v : View) (sh : Shape) (pool : ℕ) (locks : List HeldLock) (new : List ℕ) (wants : List Want)
+    → MayWant v sh locks new → MayLockWanted v sh (wanted sh pool locks new wants)
+
+-- the lane's memory may be seen so
 pub record CanAcquire {M : Type 0} (at : M → View → Type 0) (lane : Lane M) (new : List ℕ) (v : View) : Type 0 where
   pub memory : at lane.memory v
-  pub shape : v.fixed.shape ≡ lane.shape
-  pub area : v.fixed.lane < lane.shape.lanes
-  pub early : is_early v.log.phase ≡ true
-  pub unmaking : (c : ℕ) → making lane.shape v.claims c ≡ false
-  pub listed : (line : ℕ) → holds v.claims line ≡ true → is_listed lane.locks.items new line ≡ true
+  pub may : MayWant v lane.shape lane.locks.items new
 
 -- the locks that the lane is to take
 abbrev pub to_take : {M : Type 0} → Lane M → List ℕ → List Want → List HeldLock

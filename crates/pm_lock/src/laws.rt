@@ -7,6 +7,7 @@ ghost use Rattle.pm_world.specs.declared.lane.HeldLock.{HeldLock};
 ghost use Rattle.pm_lock.specs.Holding.{IsGiven, IsHeldAs, IsTaken, Rises};
 ghost use Rattle.pm_layout.specs.declared.shape.Shape.{Shape};
 ghost use Rattle.pm_objects.specs.declared.ids.Oid.{Oid};
+ghost use Rattle.pm_lock.specs.Acquiring.{WantedMayBeLocked};
 ghost use Rattle.pm_lock.specs.Objects.{IsHeader, LooksTell, SeenFits, line_of};
 ghost use Rattle.pm_lock.specs.Plans.{planned};
 ghost use Rattle.pm_lock.specs.Steps.{AreWaits, gives, tries};
@@ -46,4 +47,10 @@ pub fn sights_fit()
 /// missed. No code runs.
 pub fn looks_tell()
     ensures { LooksTell }
+{}
+
+/// A law: a lane whose held lines are listed may take each of the locks that are wanted, in rising place,
+/// and look under each once they are taken. No code runs.
+pub fn wanted_locks_may_be_taken()
+    ensures { WantedMayBeLocked }
 {}
