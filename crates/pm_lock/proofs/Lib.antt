@@ -13,3 +13,4 @@ pub mod FindingAll
 pub mod Wanting
 pub mod Acquired
 pub mod RaisedLocks
+pub mod RootWords

@@ -6,3 +6,4 @@ pub mod Objects
 pub mod Wants
 pub mod Acquiring
 pub mod Raising
+pub mod RootLock

@@ -13,6 +13,7 @@ mod laws;
 mod places;
 mod planning;
 mod raising;
+mod root_lock;
 mod taking;
 mod wants;
 
@@ -26,6 +27,7 @@ pub use laws::{
 pub use places::line_of;
 pub use planning::plan_lock;
 pub use raising::raise_wanted;
+pub use root_lock::lock_root;
 pub use taking::{lock, lock_all, raise, try_all, try_lock};
 pub use wants::plan_wants;
 
