@@ -2,3 +2,15 @@ pub mod Waiting
 pub mod Holds
 pub mod Lanes
 pub mod Planned
+pub mod CanBegin
+pub mod Sights
+pub mod Looks
+pub mod Stays
+pub mod Tells
+pub mod LookLaw
+pub mod Looking
+pub mod FindingAll
+pub mod Wanting
+pub mod Acquired
+pub mod RaisedLocks
+pub mod RootWords

@@ -1,10 +1,14 @@
-ghost use Rattle.std.specs.Prelude.{ℕ, Bool, List};
+ghost use Rattle.std.specs.Prelude.{◌≡◌, ℕ, Bool, List, Some};
 ghost use Rattle.std.specs.List.{AllByRecursion};
 ghost use Rattle.pm_view.specs.Steps.{Step};
 ghost use Rattle.pm_view.specs.View.{View};
 ghost use Rattle.pm_view.specs.Views.{after_all};
 ghost use Rattle.pm_world.specs.declared.lane.HeldLock.{HeldLock};
 ghost use Rattle.pm_lock.specs.Holding.{IsGiven, IsHeldAs, IsTaken, Rises};
+ghost use Rattle.pm_layout.specs.declared.shape.Shape.{Shape};
+ghost use Rattle.pm_objects.specs.declared.ids.Oid.{Oid};
+ghost use Rattle.pm_lock.specs.Acquiring.{WantedMayBeLocked};
+ghost use Rattle.pm_lock.specs.Objects.{IsHeader, LooksTell, SeenFits, line_of};
 ghost use Rattle.pm_lock.specs.Plans.{planned};
 ghost use Rattle.pm_lock.specs.Steps.{AreWaits, gives, tries};
 
@@ -24,4 +28,29 @@ pub fn locks_may_be_given_back()
 /// A law: a plan of locks stays in rising place with one more. No code runs.
 pub fn plans_rise()
     ensures { (line : ℕ) (write : Bool) (locks : List HeldLock) → Rises locks → Rises (planned line write locks) }
+{}
+
+/// A law: the line of an object's lock is of a chunk of the pool, and the object's first byte follows
+/// it. No code runs.
+pub fn objects_have_headers()
+    ensures { (sh : Shape) (pool line : ℕ) (id : Oid) → line_of sh pool id ≡ Some line → IsHeader sh id line }
+{}
+
+/// A law: what a lane finds in a word, where its view is one of a world, fits what it knows of runs and
+/// of the blocks that it has, whatever other lanes do. No code runs.
+pub fn sights_fit()
+    ensures { SeenFits }
+{}
+
+/// A law: a look that fits, under the lock of a line, leaves what the lane has and knows, and tells
+/// whether an object stands at the line: it is found then, or each block that would begin there is
+/// missed. No code runs.
+pub fn looks_tell()
+    ensures { LooksTell }
+{}
+
+/// A law: a lane whose held lines are listed may take each of the locks that are wanted, in rising place,
+/// and look under each once they are taken. No code runs.
+pub fn wanted_locks_may_be_taken()
+    ensures { WantedMayBeLocked }
 {}

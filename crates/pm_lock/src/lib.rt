@@ -6,15 +6,30 @@
 //! It stands on `pm_world` for lawful steps; docs/FORMAT.md, "Sequences".
 #![tactic(auto)]
 
+mod acquiring;
+mod finding;
 mod giving;
 mod laws;
+mod places;
 mod planning;
+mod raising;
+mod root_lock;
 mod taking;
+mod wants;
 
+pub use acquiring::{lock_objects, try_objects};
+pub use finding::{find_all, find_object};
 pub use giving::give_back;
-pub use laws::{locks_are_held_once_taken, locks_may_be_given_back, plans_rise};
+pub use laws::{
+    locks_are_held_once_taken, locks_may_be_given_back, looks_tell, objects_have_headers, plans_rise,
+    sights_fit, wanted_locks_may_be_taken,
+};
+pub use places::line_of;
 pub use planning::plan_lock;
+pub use raising::raise_wanted;
+pub use root_lock::lock_root;
 pub use taking::{lock, lock_all, raise, try_all, try_lock};
+pub use wants::plan_wants;
 
 #[cfg(test)]
 mod tests;
