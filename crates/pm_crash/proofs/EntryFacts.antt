@@ -28,6 +28,7 @@ may_precede v other classes s x = record {
   class = x.class;
   known = x.known;
   apart = x.apart;
+  roots = x.roots;
 }
 
 same_fact : (v other : View) → Fact v → Fact (with_call v other)

@@ -77,6 +77,7 @@ module _ (next : View) (records : List Recorded) (none : next.log.records ≡ []
         (λ (n : is_recorded records p ≡ false). known_else p b y t n o e)
         (cases_Bool (is_recorded records p));
     apart = x.apart;
+    roots = x.roots;
   }
 
 pub sim_rolls_back : SimRollsBack

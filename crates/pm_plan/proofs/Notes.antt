@@ -43,7 +43,7 @@ module _ (sh : Shape) (t : List Claim) where
   not_becoming : (left : List Undrained) → ((c : ℕ) → making sh t c ≡ false) → (c : ℕ) → becomes sh left t c ≡ false
   not_becoming left none c = ap (λ m. m && not (is_dirty left (word_of_descriptor sh c))) (none c)
 
-  mine_noted : (n : Note) → IsNote sh t n → (B : Block) → mine sh (claim_of n ∷ t) B ≡ mine sh t B
+  pub mine_noted : (n : Note) → IsNote sh t n → (B : Block) → mine sh (claim_of n ∷ t) B ≡ mine sh t B
   mine_noted (Valued w x) is B = refl
   mine_noted (DrainedTo left) is (Small c i) = ap (λ b. (b && nat_lt i (blocks_of (class t c))) || mine sh t (Small c i)) (not_becoming left is c)
   mine_noted (DrainedTo left) is (Big c) = ap (λ b. not b && mine sh t (Big c)) (not_becoming left is c)

@@ -76,7 +76,7 @@ module _ {M : Type 0} (at : M → View → Type 0) (old : Lane M) where
               c.2
                   ∙ ap (λ (l : Lane M). record l {
                     memory = new.memory;
-                    records = new.records;
+                    log = record l.log { records = new.log.records };
                     entries = new.entries;
                   }) (b.1 ∙ ap (λ (l : Lane M). record l { memory = last.memory })
                   a.1),

@@ -208,10 +208,10 @@ module _ {M : Type 0} (at : M → View → Type 0) (lane : Lane M) where
         pub cleared_ok : (emptied : Lane M) → Runs {T = Unit {0}} (at lane.memory) (at new)
             (writes_seal word 0) (Ok tt) → emptied ≡ record lane {
               memory = new;
-              records = emptied.records;
+              log = record lane.log { records = emptied.log.records };
               entries = emptied.entries;
             } → emptied.entries.items ≡ []
-            → emptied.records.items ≡ []
+            → emptied.log.records.items ≡ []
             → Cleared at lane emptied (Ok tt)
         unfolding Cleared Runs
         cleared_ok emptied runs lane_is no_entries no_records v k can =
@@ -229,7 +229,7 @@ module _ {M : Type 0} (at : M → View → Type 0) (lane : Lane M) where
               no_records,
               lane_is ∙ ap (λ n. record lane {
                 memory = n;
-                records = emptied.records;
+                log = record lane.log { records = emptied.log.records };
                 entries = emptied.entries;
               }) (sym (ap (λ (l : Lane M). l.memory) lane_is)),
             )

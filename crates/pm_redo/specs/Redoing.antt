@@ -80,8 +80,8 @@ module _ {M : Type 0} (at : M → View → Type 0) where
   -- the plan was carried out, and no entry and no record is listed; or the first of it was
   abbrev pub EmptiedAs : View → Plan → Lane M → Lane M → Result (Unit {0}) Stopped → Type 0
   EmptiedAs v plan old new (Ok done) =
-      KeepsEntries new (after_all v (plan v)) × (new.records.items ≡ [])
-      × (new ≡ record old { memory = new.memory; records = new.records; entries = new.entries })
+      KeepsEntries new (after_all v (plan v)) × (new.log.records.items ≡ [])
+      × (new ≡ record old { memory = new.memory; log = record old.log { records = new.log.records }; entries = new.entries })
   EmptiedAs v plan old new (Err stopped) =
       Stops (at new.memory) v (plan v) × (new ≡ record old { memory = new.memory })
 

@@ -47,6 +47,6 @@ pub fn retire<M: LawfulMem>(lane: &mut Lane<M>) -> Result<(), Stopped>
     let word = lane.shape.word_of_seal(lane.memory.lane());
     write_seal(&mut lane.memory, word, 0)?;
     lane.entries.clear();
-    lane.records.clear();
+    lane.log.records.clear();
     Ok(())
 }

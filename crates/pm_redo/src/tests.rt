@@ -5,7 +5,7 @@ use pm_layout::Shape;
 use pm_model::Stage;
 use pm_objects::{Refusal, TxErr};
 use pm_record::{Op, Redo};
-use pm_world::{Lane, OwnedBits};
+use pm_world::{Lane, OwnedBits, UndoLog};
 use std::alloc::Global;
 use std::test::Fail;
 
@@ -16,7 +16,10 @@ fn lane(alloc: Global) -> Result<Lane<()>, Fail> {
         pool: 7,
         shape: Shape::new(2, 1)?,
         locks: ArrayVec::new(),
-        records: ArrayVec::new(),
+        log: UndoLog {
+            generation: 1,
+            records: ArrayVec::new(),
+        },
         entries: ArrayVec::new(),
         pending: ArrayVec::new(),
         reserved: OwnedBits::new(alloc, 0)?,

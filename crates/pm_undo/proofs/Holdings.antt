@@ -53,6 +53,7 @@ holdings v w fixed is = record {
   sound = λ s. subst (λ (g : Constants). IsSound (record w { fixed = g })) (sym fixed) (record {
     small = λ c i e. subst (λ cl. (cl ≢ 0) × (i < blocks_of cl))
         (sym (ap (λ (f : ℕ → ℕ). f c) classes)) (s.small c i (sym (found_ (Small c i)) ∙ e));
+    some = λ f e. subst (λ n. 1 ≤ n) (sym (ap (λ (g : ℕ → ℕ). g f) spans)) (s.some f (sym (found_ (Big f)) ∙ e));
     zone = λ f e. subst (λ n. f % 64 + n ≤ 64) (sym (ap (λ (g : ℕ → ℕ). g f) spans))
         (s.zone f (sym (found_ (Big f)) ∙ e));
     huge = λ f c e within. let t = s.huge f c (sym (found_ (Big f)) ∙ e)

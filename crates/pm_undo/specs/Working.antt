@@ -16,6 +16,7 @@ use Rattle.pm_world.specs.Lawful.{CanRecord, place_in}
 use Rattle.pm_world.specs.States.{given}
 use Rattle.pm_world.specs.Sights.{is_recorded, picture}
 use Rattle.pm_world.specs.Logs.{AreInRow, AreRestored}
+use Rattle.pm_plan.specs.Notes.{HasNoted, IsBeyond}
 use Rattle.pm_undo.specs.declared.spans.Span.{Span}
 use Rattle.pm_model.specs.Items.{is_among}
 use Rattle.pm_undo.specs.Records.{kept_by, recorded_in}

@@ -18,7 +18,7 @@ returns g c =
     c.word_of_seal-word.result c.word_of_seal-word.ensures c.write_seal.new.mem
     (record c.args.lane.now {
       memory = c.write_seal.new.mem;
-      records = c.clear-2.new.self;
+      log = record c.args.lane.now.log { records = c.clear-2.new.self };
       entries = c.clear.new.self;
     }) c.in_ok-write_seal.ensures refl c.clear.ensures
     c.clear-2.ensures
