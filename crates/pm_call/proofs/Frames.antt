@@ -1,6 +1,8 @@
 -- A LANE THAT ONLY NOTES, records and stores holds what it held: its blocks are the same, and it knows no less.
-use Rattle.std.proofs.Common.{◌≡◌, ℕ, ◌+◌, ◌*◌, Bool, true, false, ◌==◌, ◌&&◌, List, refl, sym, ap, ◌∙◌, subst, Option, Some}
+use Rattle.std.proofs.Common.{inl, inr, ◌⊎◌, ◌≡◌, ℕ, ◌+◌, ◌*◌, Bool, true, false, ◌==◌, ◌&&◌, List, [], ◌∷◌, refl, sym, ap, ◌∙◌, subst, Option, Some}
 use Rattle.std.specs.List.{list_any}
+use Rattle.std.proofs.lemmas.Bool.{or_right}
+use Rattle.pm_crash.specs.Roots.{saw_root}
 use Rattle.pm_layout.specs.declared.shape.Shape.{Shape}
 use Rattle.pm_view.specs.Changes.{Undrained}
 use Rattle.pm_view.specs.Claims.{Claim, class, first, found, mine, span, locked, reads, here, making, header_in, geometry}
@@ -10,7 +12,7 @@ use Rattle.pm_view.specs.View.{View}
 use Rattle.pm_world.specs.Sights.{Hold, hold_of, is_recorded}
 use Rattle.pm_crash.specs.Footprints.{bit_before, has_found}
 use Rattle.pm_crash.specs.Sim.{Grows, IsSamePlace, sees_at}
-use Rattle.pm_plan.specs.Notes.{Note, noted, AreNotes}
+use Rattle.pm_plan.specs.Notes.{Note, Valued, DrainedTo, Looked, noted, AreNotes}
 use Rattle.pm_plan.proofs.Notes as notes
 
 module _ (sh : Shape) (ns : List Note) (t : List Claim) (are : AreNotes sh t ns) (none : (c : ℕ) → making sh t c ≡ false) where
@@ -36,6 +38,13 @@ module _ (sh : Shape) (ns : List Note) (t : List Claim) (are : AreNotes sh t ns)
 
   pub header_so : (B : Block) → header_in sh (noted ns t) B ≡ header_in sh t B
   header_so B = λ i. header sh (record { first = λ c. c; class = notes.class_same ns t i }) B
+
+-- what it saw of the root word it saw still
+pub saw_still : (sh : Shape) (ns : List Note) (t : List Claim) (line value : ℕ) → saw_root sh t line value ≡ true → saw_root sh (noted ns t) line value ≡ true
+saw_still sh [] t line value e = e
+saw_still sh (Valued w x ∷ ns) t line value e = or_right _ (saw_root sh (noted ns t) line value) (saw_still sh ns t line value e)
+saw_still sh (DrainedTo left ∷ ns) t line value e = saw_still sh ns t line value e
+saw_still sh (Looked c x ∷ ns) t line value e = saw_still sh ns t line value e
 
 -- the view with notes, and with other changes and another log
 abbrev pub noting : View → List Note → List Undrained → ℕ → Log → View
@@ -69,6 +78,7 @@ module _ (v : View) (ns : List Note) (changes : List Undrained) (calls : ℕ) (l
     lines = λ B line _ has. subst (λ (h : Hold × Geometry). Rattle.pm_world.specs.BlockLines.OwnHas v.fixed.shape h.0 h.1 B line)
         (λ i. (sym (hold_so v.fixed.shape ns v.claims are none) i, sym (geometry_so v.fixed.shape ns v.claims are none) i)) has;
     sees = λ p b e. (sees_same p b ∙ e, same_place p);
-    recorded = recorded;
+    recorded = λ p b _ e. inl (recorded p e);
     knows = knows;
+    roots = saw_still v.fixed.shape ns v.claims;
   }

@@ -26,12 +26,11 @@ use Rattle.pm_plan.specs.Notes.{Note, Valued, Looked, noted, AreNotes, IsBeyond}
 use Rattle.pm_undo.specs.Working.{IsStanding, IsWorking}
 use Rattle.pm_plan.proofs.AreaParts.{OfChunk, data_beyond, data_part}
 use Rattle.pm_plan.proofs.Notes as notes
-use Rattle.pm_undo.proofs.Standing.{all_still}
 use Rattle.pm_call.specs.At.{At, IsAt, IsDataOf, entries_so_far}
 use Rattle.pm_call.specs.Held.{IsObjectWord, Looks, LooksAt, SizesFit}
 use Rattle.pm_call.proofs.Frames.{header_so, noting}
 use Rattle.pm_call.proofs.KnownObjects.{fresh_is, size_word, word_number}
-use Rattle.pm_call.proofs.Noting.{Keeps, bytes_so, data_so, found_so, noted_at, object_word_so, place_so}
+use Rattle.pm_call.proofs.Noting.{Keeps, bytes_so, data_so, found_so, noted_at, object_word_so, place_so, standing_so}
 use Rattle.pm_call.proofs.ObjectWords.{IsDataPlace, object_known, object_place}
 
 -- ---- what a look notes
@@ -126,7 +125,7 @@ module _ (s : Standing) (level : ℕ) (at : IsAt s level) (next : View) (l : Loo
     unmaking = notes.making_same v.fixed.shape ns v.claims each at.working.unmaking;
     clean = at.working.clean;
     few = at.working.few;
-    standing = all_still v then v.log.records refl (notes.class_same ns v.claims) at.working.standing;
+    standing = standing_so v ns v.changes v.calls v.log each at.working.unmaking v.log.records at.working.standing;
     once = at.working.once;
     known = values (word_of_generation v.fixed.shape v.fixed.lane) v.log.generation at.working.known;
   }

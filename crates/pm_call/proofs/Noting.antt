@@ -9,8 +9,8 @@ use Rattle.pm_layout.specs.Sizes.{blocks_of}
 use Rattle.pm_model.specs.Pending.{SetWord}
 use Rattle.pm_view.specs.Changes.{Undrained}
 use Rattle.pm_view.specs.Claims.{class, first, found, header_in, locked, making, reads, span}
-use Rattle.pm_view.specs.Log.{Log}
-use Rattle.pm_view.specs.Places.{Place, Block, Small, Big, in_span, word_of}
+use Rattle.pm_view.specs.Log.{Log, Recorded, place_at}
+use Rattle.pm_view.specs.Places.{Place, Block, Small, Big, in_span, place_after, word_of}
 use Rattle.pm_view.specs.View.{View, Told}
 use Rattle.pm_view.specs.Views.{value_in}
 use Rattle.pm_world.specs.InWorld.{IsSound}
@@ -79,6 +79,16 @@ module _ (v : View) (ns : List Note) (changes : List Undrained) (calls : ℕ) (l
     huge = λ f c e i. let t = s.huge f c (sym (found_so (Big f)) ∙ e) (ap (λ sp. in_span f (sp f) c) (sym (notes.span_same v.fixed.shape ns v.claims)) ∙ i) in
         (ap (λ fi. fi c) (notes.first_same v.fixed.shape ns v.claims) ∙ t.0, ap (λ cl. cl c) class_so ∙ t.1);
   }
+
+  pub standing_so : (rs : List Recorded) → AllByRecursion (IsStanding v) rs → AllByRecursion (IsStanding next) rs
+  standing_so rs all = all_map (IsStanding v) (IsStanding next) rs (λ r t. record {
+    some = t.some;
+    most = t.most;
+    data_ = t.data_;
+    row = t.row;
+    use_ = λ i l. ap (λ cl. place_at v.fixed.shape cl (word_of v.fixed.shape (place_after r.place i))) class_so ∙ t.use_ i l;
+    small = t.small;
+  }) all
 
   -- sizes fit where they are what they were
   pub bytes_so : (B : Block) → block_bytes next B ≡ block_bytes v B
