@@ -13,7 +13,7 @@ use Rattle.pm_world.specs.declared.lane.Lane.{Lane}
 use Rattle.pm_plan.specs.Plans.{Plan}
 use Rattle.pm_redo.specs.Entries.{listed_entries}
 use Rattle.pm_redo.specs.Plans.{applies, clears, performs, seals, writes_log}
-use Rattle.pm_redo.specs.Stages.{CanApply, CanClear, CanLog, CanPerform, CanSeal}
+use Rattle.pm_redo.specs.Stages.{CanApply, CanClear, CanLog, CanSeal}
 
 -- ---- listing an entry
 
@@ -92,7 +92,7 @@ module _ {M : Type 0} (at : M → View → Type 0) where
   -- for what each OR and AND found
   unfoldable pub Performed : Lane M → Lane M → Result (Unit {0}) Stopped → Type 0
   Performed old new result = (found : ℕ → ℕ)
-      × ((v : View) → KeepsEntries old v → CanPerform v → EmptiedAs v (performs found) old new result)
+      × ((v : View) → KeepsEntries old v → CanSeal v → EmptiedAs v (performs found) old new result)
 
   -- the lane may be seen so that it may do this
   abbrev pub StandsTo : Lane M → (View → Type 0) → Type 0

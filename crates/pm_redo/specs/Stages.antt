@@ -67,11 +67,15 @@ pub record IsOfPlace (v : View) (e : Entry) : Type 0 where
   pub root : place ≡ RootWord → e.op ≡ Set
   pub small : e.value < 2 ^ 64
 
--- the entries are of places, and after them comes the one that ends the generation
-pub record AreOfPlaces (v : View) : Type 0 where
+-- A LOG THAT MAY BE PERFORMED: its entries are of places, and after them comes the one that ends the
+-- generation
+pub record HasLog (v : View) : Type 0 where
   pub front : List Entry
   pub are : v.log.entries ≡ front ++ ends_with v.fixed.shape v.fixed.lane v.log.generation ∷ []
   pub each : AllByRecursion (IsOfPlace v) front
+  pub few : length v.log.entries ≤ redo_entries v.fixed.shape
+  pub below : v.log.generation < greatest_generation v.fixed.shape
+  pub lane : v.fixed.lane < v.fixed.shape.lanes
 
 -- the log with these entries, and after them the one that ends the generation
 abbrev pub with_log : View → List Redo → Log
@@ -88,22 +92,20 @@ pub record IsLogged (v : View) (entries : List Redo) (w : View) : Type 0 where
   pub known : (u : ℕ) → is_entry_word v.fixed.shape v.fixed.lane u ≡ false
       → (knows w u ≡ knows v u) × (value_in w u ≡ value_in v u)
   pub whole : AreWhole w.fixed.shape w.fixed.lane w.log
-  pub placed : AreOfPlaces w
+  pub log_ : HasLog w
   pub root : All (KeepsRoot w) w.log.entries
 
 -- ---- sealing it
 
--- the call has its number, the log is whole, and nothing is undrained; the lane knows that its
--- seal is 0
+-- the call has its number and its log, and nothing is undrained; the lane knows its generation, and
+-- that its seal is 0
 pub record CanSeal (v : View) : Type 0 where
   pub number : ℕ
   pub drawn : v.log.phase ≡ Drawn number
-  pub whole : AreWhole v.fixed.shape v.fixed.lane v.log
-  pub few : length v.log.entries ≤ redo_entries v.fixed.shape
-  pub below : v.log.generation < greatest_generation v.fixed.shape
-  pub lane : v.fixed.lane < v.fixed.shape.lanes
+  pub log_ : HasLog v
   pub drained : v.changes ≡ []
-  pub known : value_in v (seal_word v) ≡ Some 0
+  pub seal : value_in v (seal_word v) ≡ Some 0
+  pub generation : value_in v (generation_word v) ≡ Some v.log.generation
 
 -- the view of a call that is decided, with all entries to be applied yet
 abbrev pub decided : View → View
@@ -122,14 +124,11 @@ pub record IsSealed (v w : View) : Type 0 where
 
 -- ---- applying it
 
--- the call is decided, none of its entries is applied, and nothing is undrained; the entries are of
--- places, and the lane knows its generation
+-- the call is decided, none of its entries is applied, and nothing is undrained; the lane knows its
+-- generation
 pub record CanApply (v : View) : Type 0 where
   pub applying : v.log.phase ≡ Applying v.log.entries
-  pub placed : AreOfPlaces v
-  pub few : length v.log.entries ≤ redo_entries v.fixed.shape
-  pub below : v.log.generation < greatest_generation v.fixed.shape
-  pub lane : v.fixed.lane < v.fixed.shape.lanes
+  pub log_ : HasLog v
   pub unmaking : MakesNone v
   pub drained : v.changes ≡ []
   pub known : value_in v (generation_word v) ≡ Some v.log.generation
@@ -160,12 +159,6 @@ pub record IsCleared (v w : View) : Type 0 where
   pub known : (u : ℕ) → u ≢ seal_word v → (knows w u ≡ knows v u) × (value_in w u ≡ value_in v u)
 
 -- ---- performing it: sealing, applying and clearing in turn
-
--- the log may be sealed, its entries are of places, and the lane knows its generation
-pub record CanPerform (v : View) : Type 0 where
-  pub sealing : CanSeal v
-  pub placed : AreOfPlaces v
-  pub known : value_in v (generation_word v) ≡ Some v.log.generation
 
 -- THE LOG IS PERFORMED: the call was decided, every entry has its effect, and no call is open
 pub record IsPerformed (v : View) (found : ℕ → ℕ) (w : View) : Type 0 where

@@ -19,7 +19,7 @@ pub use applying::apply_all;
 pub use entries::put;
 pub use laws::{
     entries_may_be_applied, logs_may_be_performed, logs_may_be_sealed, logs_may_be_written,
-    numbered_logs_may_be_performed, seals_may_be_cleared,
+    numbered_logs_may_be_sealed, seals_may_be_cleared,
 };
 pub use logging::log;
 pub use performing::perform;

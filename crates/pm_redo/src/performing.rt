@@ -1,5 +1,5 @@
 ghost use Rattle.pm_redo.specs.Redoing.{Performed, StandsTo};
-ghost use Rattle.pm_redo.specs.Stages.{CanPerform};
+ghost use Rattle.pm_redo.specs.Stages.{CanSeal};
 
 use crate::applying::apply_all;
 use crate::sealing::{retire, seal};
@@ -14,7 +14,7 @@ use pm_world::{Lane, LawfulMem};
 ///
 /// `Stopped`: the lane came to its stop; the first of the calls are made, and the lists stay.
 pub fn perform<M: LawfulMem>(lane: &mut Lane<M>) -> Result<(), Stopped>
-    requires { StandsTo M.at lane.old CanPerform }
+    requires { StandsTo M.at lane.old CanSeal }
     ensures { Performed M.at lane.old lane.new result }
 {
     seal(lane)?;

@@ -21,4 +21,5 @@ retire-requires g c = clear_next g.M.LaneMem.at c.args.lane.now c.seal.new.lane 
 
 pub returns : goal.returns
 returns g c = performed g.M.LaneMem.at c.args.lane.now c.seal.new.lane c.in_ok-seal.ensures
-    c.apply_all.new.lane c.in_ok-apply_all.ensures c.retire.new.lane c.retire.result c.retire.ensures
+    c.apply_all.new.lane c.in_ok-apply_all.ensures c.retire.new.lane c.retire.result
+    c.retire.ensures
