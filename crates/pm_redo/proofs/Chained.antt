@@ -69,14 +69,16 @@ module _ {M : Type 0} (at : M → View → Type 0) (old : Lane M) where
             ∙ after_all-append (sealed v) (applies two.0 (sealed v)) (clears (applied v two.0)))
             in (
               subst (KeepsEntries at new) (sym there) c.0,
-              c.1,
-              c.2
-                  ∙ ap (λ (l : Lane M). record l {
-                    memory = new.memory;
-                    records = new.records;
-                    entries = new.entries;
-                  }) (b.1 ∙ ap (λ (l : Lane M). record l { memory = last.memory })
-                  a.1),
+              (
+                c.1.0,
+                c.1.1
+                    ∙ ap (λ (l : Lane M). record l {
+                      memory = new.memory;
+                      records = new.records;
+                      entries = new.entries;
+                    })
+                    (b.1 ∙ ap (λ (l : Lane M). record l { memory = last.memory }) a.1),
+              ),
             )),
       )
       performed new (Err stopped) three = (

@@ -33,8 +33,6 @@ seal_word v = word_of_seal v.fixed.shape v.fixed.lane
 abbrev pub drained_as : View → View → Log → View
 drained_as v w log = record v { claims = w.claims; changes = []; calls = w.calls; log = log }
 
--- ---- writing the log
-
 -- THE LANE MAY ENTER IT: its word is a place where the lane has the right to that, and it gives
 -- some bit
 pub record CanEnter (v : View) (e : Redo) : Type 0 where
@@ -77,25 +75,21 @@ pub record HasLog (v : View) : Type 0 where
   pub below : v.log.generation < greatest_generation v.fixed.shape
   pub lane : v.fixed.lane < v.fixed.shape.lanes
 
--- the log with these entries, and after them the one that ends the generation
-abbrev pub with_log : View → List Redo → Log
-with_log v entries = record v.log {
-  entries = map (logged_entry v) entries ++ ends_with v.fixed.shape v.fixed.lane v.log.generation ∷ [];
-}
+-- these entries as the log has them, and after them the one that ends the generation
+abbrev pub all_logged : View → List Redo → List Entry
+all_logged v es = map (logged_entry v) es ++ ends_with v.fixed.shape v.fixed.lane v.log.generation ∷ []
 
 -- THE LOG IS WRITTEN: the entries stand in their pairs, and after them the one that ends the
 -- generation; nothing is undrained, and all words but those of pairs are known as they were. Of
 -- the root word, the lines are locked that are to guard it
 pub record IsLogged (v : View) (entries : List Redo) (w : View) : Type 0 where
-  pub same : w ≡ drained_as v w (with_log v entries)
+  pub same : w ≡ drained_as v w (record v.log { entries = all_logged v entries })
   pub noted : HasNoted v w
   pub known : (u : ℕ) → is_entry_word v.fixed.shape v.fixed.lane u ≡ false
       → (knows w u ≡ knows v u) × (value_in w u ≡ value_in v u)
   pub whole : AreWhole w.fixed.shape w.fixed.lane w.log
   pub log_ : HasLog w
   pub root : All (KeepsRoot w) w.log.entries
-
--- ---- sealing it
 
 -- the call has its number and its log, and nothing is undrained; the lane knows its generation, and
 -- that its seal is 0
@@ -122,8 +116,6 @@ pub record IsSealed (v w : View) : Type 0 where
   pub seal : value_in w (seal_word v) ≡ Some (length v.log.entries)
   pub seen : (u : ℕ) → u ≢ seal_word v → value_in w u ≡ value_in v u
 
--- ---- applying it
-
 -- the call is decided, none of its entries is applied, and nothing is undrained; the lane knows its
 -- generation
 pub record CanApply (v : View) : Type 0 where
@@ -141,8 +133,6 @@ pub record IsApplied (v : View) (found : ℕ → ℕ) (w : View) : Type 0 where
   pub made : (u : ℕ) → value_in w u ≡ first_of_two (last_made found v.log.entries u) (value_in v u)
   pub known : (u : ℕ) → last_made found v.log.entries u ≡ None → knows w u ≡ knows v u
 
--- ---- clearing the seal
-
 -- all entries are applied, and nothing is undrained; the lane knows its seal
 pub record CanClear (v : View) : Type 0 where
   pub applied : v.log.phase ≡ Applying []
@@ -157,8 +147,6 @@ pub record IsCleared (v w : View) : Type 0 where
   pub noted : HasNoted v w
   pub seal : value_in w (seal_word v) ≡ Some 0
   pub known : (u : ℕ) → u ≢ seal_word v → (knows w u ≡ knows v u) × (value_in w u ≡ value_in v u)
-
--- ---- performing it: sealing, applying and clearing in turn
 
 -- THE LOG IS PERFORMED: the call was decided, every entry has its effect, and no call is open
 pub record IsPerformed (v : View) (found : ℕ → ℕ) (w : View) : Type 0 where
