@@ -106,6 +106,10 @@ module _ (v : View) (found : ℕ → ℕ) where
           ∙ ap (λ o. first_of_two o (pictured sh t y))
           (sym (cond-false (e.word == y) (Some x) None q))
 
+  -- an unflushed change of bits of a word
+  abbrev of_bits : ℕ → ℕ → Option ℕ → Undrained
+  of_bits w mask old = record { word = w; mask = mask; old = old; flushed = false }
+
   -- some entries are applied, and these are left
   abbrev HasApplied : List Entry → List Entry → View → Type 0
   HasApplied es todo u = (u ≡ now u.claims u.changes u.calls todo) × Made es u.claims u.changes
@@ -138,32 +142,14 @@ module _ (v : View) (found : ℕ → ℕ) where
           q x (record v.log { phase = Applying (e ∷ todo) }))))
           (λ root. (
             refl,
-            made_more es t changes e (record {
-              word = w;
-              mask = all_bits;
-              old = option_map (λ old. bit_and old all_bits) (pictured sh t w);
-              flushed = false;
-            })
-                m,
+            made_more es t changes e
+                (of_bits w all_bits (option_map (λ old. bit_and old all_bits) (pictured sh t w))) m,
           ))
-          (λ c. (
-            refl,
-            made_more es t changes e (record {
-              word = w;
-              mask = all_bits;
-              old = None;
-              flushed = false;
-            }) m,
-          ))
+          (λ c. (refl, made_more es t changes e (of_bits w all_bits None) m))
           (λ c u. (
             refl,
-            made_more es t changes e (record {
-              word = w;
-              mask = all_bits;
-              old = option_map (λ old. bit_and old all_bits) (pictured sh t w);
-              flushed = false;
-            })
-                m,
+            made_more es t changes e
+                (of_bits w all_bits (option_map (λ old. bit_and old all_bits) (pictured sh t w))) m,
           )),
     )
       where
@@ -180,15 +166,7 @@ module _ (v : View) (found : ℕ → ℕ) where
             (λ root. absurd (let q = is.root root in cc)) (λ c. (refl, refl, refl))
             (λ c u. (refl, refl, refl));
       },
-      (
-        refl,
-        made_more es t changes e (record {
-          word = w;
-          mask = x;
-          old = Some (bit_and (found (length es)) x);
-          flushed = false;
-        }) m,
-      ),
+      (refl, made_more es t changes e (of_bits w x (Some (bit_and (found (length es)) x))) m),
     )
       where
         e : Entry
@@ -206,12 +184,8 @@ module _ (v : View) (found : ℕ → ℕ) where
       },
       (
         refl,
-        made_more es t changes e (record {
-          word = w;
-          mask = bit_not w64 x;
-          old = Some (bit_and (found (length es)) (bit_not w64 x));
-          flushed = false;
-        }) m,
+        made_more es t changes e
+            (of_bits w (bit_not w64 x) (Some (bit_and (found (length es)) (bit_not w64 x)))) m,
       ),
     )
       where
@@ -337,12 +311,9 @@ module _ (v : View) (found : ℕ → ℕ) (can : CanApply v) where
         (record v.log { phase = Applying (end_ ∷ []) }))))
         (sym (part_generation shape v.fixed.lane)) (
           refl,
-          made_more v found front t changes end_ (record {
-            word = generation;
-            mask = all_bits;
-            old = option_map (λ old. bit_and old all_bits) (pictured shape t generation);
-            flushed = false;
-          }) m,
+          made_more v found front t changes end_
+              (of_bits v found generation all_bits (option_map (λ old. bit_and old all_bits)
+              (pictured shape t generation))) m,
         ),
   )
 
