@@ -13,11 +13,11 @@ use Rattle.pm_world.specs.declared.lane.Lane.{Lane}
 use Rattle.pm_plan.specs.Plans.{Plan, IsReady, Ready, Runs, IsReadyFor, RunsFor}
 use Rattle.pm_redo.specs.Entries.{ending, listed_entries, listed_entry, logged_entry}
 use Rattle.pm_redo.specs.Plans.{applies, applies_all, clears, seals, writes_entries, writes_log, writes_seal}
-use Rattle.pm_redo.specs.Redoing.{Applied, LeftAs, Cleared, KeepsEntries, Logged, MayLog, Sealed, StandsTo}
+use Rattle.pm_redo.specs.Calls.{Applied, LeftAs, Cleared, KeepsEntries, Logged, MayLog, Sealed, StandsTo}
 use Rattle.pm_redo.specs.Stages.{CanApply, CanClear, CanEnter, CanSeal}
 use Rattle.pm_redo.proofs.EntriesApplied.{apply_lawful}
 use Rattle.pm_redo.proofs.LogWritten.{log_lawful}
-use Rattle.pm_redo.proofs.Seals.{clear_lawful, seal_lawful}
+use Rattle.pm_redo.proofs.SealStored.{clear_lawful, seal_lawful}
 
 -- an entry that was logged is listed as it was
 listed_again : (v : View) (es : List Redo) → AllByRecursion (CanEnter v) es

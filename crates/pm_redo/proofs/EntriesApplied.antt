@@ -32,7 +32,7 @@ use Rattle.pm_plan.proofs.Notes.{known_noted, making_same}
 use Rattle.pm_redo.specs.Entries.{entry_at, last_made, listed_entry, no_entry}
 use Rattle.pm_redo.specs.Plans.{applies, applies_all, applies_each, applies_entry, does}
 use Rattle.pm_redo.specs.Stages.{CanApply, IsApplied, IsOfPlace}
-use Rattle.pm_redo.proofs.Carrying.{at_index, goes_does, goes_persist, step_of}
+use Rattle.pm_redo.proofs.Plans.{at_index, goes_does, goes_persist, step_of}
 use Rattle.pm_redo.proofs.LastMade.{first_first, last_more, last_none, made_by, not_made}
 use Rattle.pm_plan.proofs.AreaParts.{by_part, part_generation, place_outside}
 

@@ -26,8 +26,8 @@ use Rattle.pm_redo.specs.Entries.{ending, entry_at, logged_entry, no_entry}
 use Rattle.pm_redo.specs.Plans.{ends_entries, writes_entries, writes_log, writes_pair, writes_pairs}
 use Rattle.pm_redo.specs.Stages.{HasLog, CanEnter, CanLog, IsLogged, IsOfPlace}
 use Rattle.pm_redo.proofs.EntriesApplied.{inside_pool}
-use Rattle.pm_redo.proofs.Carrying.{at_index, goes_persist}
-use Rattle.pm_redo.proofs.Entering.{CanPut, Entered, Entering, now, pair_goes, stays}
+use Rattle.pm_redo.proofs.Plans.{at_index, goes_persist}
+use Rattle.pm_redo.proofs.EntryPairs.{CanPut, Entered, Entering, now, pair_goes, stays}
 use Rattle.pm_plan.proofs.AreaParts.{no_place}
 
 module _ (v : View) (given : List Redo) (can : CanLog v given) where

@@ -20,7 +20,7 @@ use Rattle.pm_redo.specs.Stages.{CanApply, CanClear, CanSeal, IsApplied, IsClear
 use Rattle.pm_redo.proofs.EntriesApplied.{apply_lawful}
 use Rattle.pm_redo.proofs.LastMade.{last_none}
 use Rattle.pm_plan.proofs.AreaParts.{place_outside}
-use Rattle.pm_redo.proofs.Seals.{clear_lawful, seal_lawful}
+use Rattle.pm_redo.proofs.SealStored.{clear_lawful, seal_lawful}
 use Rattle.pm_plan.specs.Notes.{IsBeyond}
 
 -- notes upon notes

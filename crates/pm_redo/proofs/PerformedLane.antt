@@ -9,11 +9,11 @@ use Rattle.pm_world.specs.declared.lane.Lane.{Lane}
 use Rattle.pm_plan.proofs.Plans.{after_all-append, stops_left, stops_right}
 use Rattle.pm_plan.specs.Plans.{in_turn}
 use Rattle.pm_redo.specs.Plans.{applies, clears, performs, seals}
-use Rattle.pm_redo.specs.Redoing.{Applied, Cleared, KeepsEntries, Performed, Sealed, StandsTo}
+use Rattle.pm_redo.specs.Calls.{Applied, Cleared, KeepsEntries, Performed, Sealed, StandsTo}
 use Rattle.pm_redo.specs.Stages.{CanApply, CanClear, CanSeal, IsApplied}
 use Rattle.pm_redo.proofs.EntriesApplied.{apply_lawful}
 use Rattle.pm_redo.proofs.Performed.{can_apply, can_clear}
-use Rattle.pm_redo.proofs.Seals.{seal_lawful}
+use Rattle.pm_redo.proofs.SealStored.{seal_lawful}
 
 module _ {M : Type 0} (at : M → View → Type 0) (old : Lane M) where
   -- where the seal leads, and what may be done there

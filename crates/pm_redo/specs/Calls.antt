@@ -1,5 +1,5 @@
--- WHAT REDO LOGGING DOES to a lane: by cases of what it returns, for each view that the lane's
--- memory may be seen as.
+-- WHAT THE CALLS OF REDO LOGGING DO to a lane: by cases of what they return, for each view that the
+-- lane's memory may be seen as.
 use Rattle.std.specs.Prelude.{◌≡◌, ℕ, ◌+◌, ◌<◌, ◌≤◌, [], ◌∷◌, ◌++◌, length, Result, Ok, Err}
 use Rattle.pm_layout.specs.Areas.{redo_entries}
 use Rattle.pm_memory.specs.Runs.{Stops}

@@ -1,5 +1,5 @@
-use Rattle.pm_redo.proofs.Chained.{apply_next, clear_next, performed, stopped_applying, stopped_sealing}
-use Rattle.pm_redo.proofs.performing.perform.Goals as goal
+use Rattle.pm_redo.proofs.PerformedLane.{apply_next, clear_next, performed, stopped_applying, stopped_sealing}
+use Rattle.pm_redo.proofs.effects.perform.Goals as goal
 
 pub returns-in_err-seal : goal.returns-in_err-seal
 returns-in_err-seal g c = stopped_sealing g.M.LaneMem.at c.args.lane.now c.seal.new.lane
