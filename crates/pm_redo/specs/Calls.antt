@@ -40,8 +40,8 @@ module _ {M : Type 0} (at : M → View → Type 0) where
     pub shape : lane.shape ≡ v.fixed.shape
     pub entries : lane.entries.items ≡ listed_entries v
 
-  -- THE PLAN WAS CARRIED OUT, the list is the log's, and this is so; or the first of the plan was, up
-  -- to the stop
+  -- THE PLAN WAS CARRIED OUT, the list is the log's, and this is so; or the first of the plan was,
+  -- up to the stop
   abbrev pub LeftAs : View → Plan → Type 0 → Lane M → Lane M → Result (Unit {0}) Stopped → Type 0
   LeftAs v plan kept old new (Ok done) = KeepsEntries new (after_all v (plan v)) × kept
   LeftAs v plan kept old new (Err stopped) =

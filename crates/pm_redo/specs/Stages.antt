@@ -65,8 +65,8 @@ pub record IsOfPlace (v : View) (e : Entry) : Type 0 where
   pub root : place ≡ RootWord → e.op ≡ Set
   pub small : e.value < 2 ^ 64
 
--- A LOG THAT MAY BE PERFORMED: its entries are of places, and after them comes the one that ends the
--- generation
+-- A LOG THAT MAY BE PERFORMED: its entries are of places, and after them comes the one that ends
+-- the generation
 pub record HasLog (v : View) : Type 0 where
   pub front : List Entry
   pub are : v.log.entries ≡ front ++ ends_with v.fixed.shape v.fixed.lane v.log.generation ∷ []
@@ -77,7 +77,8 @@ pub record HasLog (v : View) : Type 0 where
 
 -- these entries as the log has them, and after them the one that ends the generation
 abbrev pub all_logged : View → List Redo → List Entry
-all_logged v es = map (logged_entry v) es ++ ends_with v.fixed.shape v.fixed.lane v.log.generation ∷ []
+all_logged v es =
+    map (logged_entry v) es ++ ends_with v.fixed.shape v.fixed.lane v.log.generation ∷ []
 
 -- THE LOG IS WRITTEN: the entries stand in their pairs, and after them the one that ends the
 -- generation; nothing is undrained, and all words but those of pairs are known as they were. Of
@@ -125,8 +126,8 @@ pub record CanApply (v : View) : Type 0 where
   pub drained : v.changes ≡ []
   pub known : value_in v (generation_word v) ≡ Some v.log.generation
 
--- EVERY ENTRY HAS ITS EFFECT, in order, where these values were found, and that is persistent; other
--- words are known as they were
+-- EVERY ENTRY HAS ITS EFFECT, in order, where these values were found, and that is persistent;
+-- other words are known as they were
 pub record IsApplied (v : View) (found : ℕ → ℕ) (w : View) : Type 0 where
   pub same : w ≡ drained_as v w (record v.log { phase = Applying []; bumped = true })
   pub noted : HasNoted v w
@@ -141,7 +142,7 @@ pub record CanClear (v : View) : Type 0 where
   pub drained : v.changes ≡ []
   pub known : value_in v (seal_word v) ≡ Some (length v.log.entries)
 
--- THE LOG IS RETIRED: no call is open, the lane is of its next generation, and its seal is 0, drained
+-- THE LOG IS RETIRED: no call is open, the lane has its next generation, and its seal is 0, drained
 pub record IsCleared (v w : View) : Type 0 where
   pub same : w ≡ drained_as v w (next_log Idle v.log)
   pub noted : HasNoted v w

@@ -34,9 +34,9 @@ pub fn seals_may_be_cleared()
     ensures { (v : View) → CanClear v → Ready v (clears v) × IsCleared v (after_all v (clears v)) }
 {}
 
-/// A law: a lane that may seal its log may perform it: seal it, apply the entries, whatever their ORs
-/// and ANDs find, and clear the seal. Each entry has its effect then, and no call is open. No code
-/// runs.
+/// A law: a lane that may seal its log may perform it: seal it, apply the entries, whatever their
+/// ORs and ANDs find, and clear the seal. Each entry has its effect then, and no call is open. No
+/// code runs.
 pub fn logs_may_be_performed()
     ensures { (v : View) (found : ℕ → ℕ) → CanSeal v
         → Ready v (performs found v) × IsPerformed v found (after_all v (performs found v)) }
