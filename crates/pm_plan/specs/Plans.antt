@@ -128,8 +128,8 @@ IsMade old new plan = Runs {T = Unit {0}} old new plan (Ok tt)
 abbrev pub IsStopped : (View → Type 0) → (View → Type 0) → Plan → Type 0
 IsStopped old new plan = (stopped : Stopped) × Runs {T = Unit {0}} old new plan (Err stopped)
 
--- A STEP WAS MADE THAT FINDS SOMETHING: its plan for what was found was carried out; or, whatever would have been found, the first steps up to the
--- lane's stop
+-- A STEP WAS MADE THAT FINDS SOMETHING: its plan for what was found was carried out; or, whatever would
+-- have been found, the first steps up to the lane's stop
 abbrev pub RunsFinding : (View → Type 0) → (View → Type 0) → (ℕ → Plan) → Result ℕ Stopped → Type 0
 RunsFinding old new plans (Ok found) = Runs {T = ℕ} old new (plans found) (Ok found)
 RunsFinding old new plans (Err stopped) = (found : ℕ) → Runs {T = ℕ} old new (plans found) (Err stopped)

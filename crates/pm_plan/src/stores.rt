@@ -65,7 +65,11 @@ pub fn store<M: LawfulMem>(mem: &mut M, word: u64, value: u64) -> Result<(), Sto
     store_once(mem, word, value)
 }
 
-/// Stores consecutive words.
+/// Stores consecutive words, with room made for each change.
+///
+/// # Errors
+///
+/// `Stopped`: the lane came to its stop; the first of the calls are made.
 pub fn store_all<M: LawfulMem>(mem: &mut M, first: u64, values: &[u64]) -> Result<(), Stopped>
     requires inside { first + length values.now < 2 ^ 64 }
     requires ready { IsReady (M.at mem.old) (stores_from first values.now) }
@@ -94,6 +98,10 @@ fn and_once<M: LawfulMem>(mem: &mut M, word: u64, bits: u64) -> Result<u64, Stop
 }
 
 /// Sets these bits of a word, with room made for the change, and tells the word before.
+///
+/// # Errors
+///
+/// `Stopped`: the lane came to its stop; the first of the calls are made.
 pub fn or<M: LawfulMem>(mem: &mut M, word: u64, bits: u64) -> Result<u64, Stopped>
     requires { (found : ℕ) → IsReady (M.at mem.old) (ors word bits found) }
     ensures { RunsFinding (M.at mem.old) (M.at mem.new) (ors word bits) result }
@@ -103,6 +111,10 @@ pub fn or<M: LawfulMem>(mem: &mut M, word: u64, bits: u64) -> Result<u64, Stoppe
 }
 
 /// Clears the other bits of a word, with room made for the change, and tells the word before.
+///
+/// # Errors
+///
+/// `Stopped`: the lane came to its stop; the first of the calls are made.
 pub fn and<M: LawfulMem>(mem: &mut M, word: u64, bits: u64) -> Result<u64, Stopped>
     requires { (found : ℕ) → IsReady (M.at mem.old) (ands word bits found) }
     ensures { RunsFinding (M.at mem.old) (M.at mem.new) (ands word bits) result }

@@ -13,11 +13,11 @@ use Rattle.pm_world.specs.declared.lane.Lane.{Lane}
 use Rattle.pm_plan.specs.Plans.{Plan, IsReady, Ready, Runs, IsReadyFor, RunsFor}
 use Rattle.pm_redo.specs.Entries.{ending, listed_entries, listed_entry, logged_entry}
 use Rattle.pm_redo.specs.Plans.{applies, applies_all, clears, seals, writes_entries, writes_log, writes_seal}
-use Rattle.pm_redo.specs.Redoing.{Applied, CarriedAs, Cleared, KeepsEntries, Logged, MayLog, Sealed, StandsTo}
+use Rattle.pm_redo.specs.Calls.{Applied, LeftAs, Cleared, KeepsEntries, Logged, MayLog, Sealed, StandsTo}
 use Rattle.pm_redo.specs.Stages.{CanApply, CanClear, CanEnter, CanSeal}
 use Rattle.pm_redo.proofs.EntriesApplied.{apply_lawful}
 use Rattle.pm_redo.proofs.LogWritten.{log_lawful}
-use Rattle.pm_redo.proofs.Seals.{clear_lawful, seal_lawful}
+use Rattle.pm_redo.proofs.SealStored.{clear_lawful, seal_lawful}
 
 -- an entry that was logged is listed as it was
 listed_again : (v : View) (es : List Redo) → AllByRecursion (CanEnter v) es
@@ -33,7 +33,8 @@ module _ {M : Type 0} (at : M → View → Type 0) (lane : Lane M) where
   carried : (v : View) (plan : Plan) (new : M) (result : Result (Unit {0}) Stopped)
       → KeepsEntries at lane v → (after_all v (plan v)).fixed ≡ v.fixed
       → (after_all v (plan v)).log.entries ≡ v.log.entries → Ran (at new) v (plan v) result
-      → CarriedAs at v plan lane (record lane { memory = new }) result
+      → LeftAs at v plan (record lane { memory = new } ≡ record lane { memory = new }) lane
+      (record lane { memory = new }) result
   carried v plan new (Ok done) k fixed_ entries_ ran = (
     record {
       memory = ran;
@@ -226,10 +227,12 @@ module _ {M : Type 0} (at : M → View → Type 0) (lane : Lane M) where
                     ∙ (k.shape ∙ ap (λ (y : View). y.fixed.shape) (sym t.1.same));
                 entries = no_entries ∙ ap listed_entries (sym t.1.same);
               },
-              no_records,
-              lane_is ∙ ap (λ n. record lane {
-                memory = n;
-                log = record lane.log { records = emptied.log.records };
-                entries = emptied.entries;
-              }) (sym (ap (λ (l : Lane M). l.memory) lane_is)),
+              (
+                no_records,
+                lane_is ∙ ap (λ n. record lane {
+                  memory = n;
+                  log = record lane.log { records = emptied.log.records };
+                  entries = emptied.entries;
+                }) (sym (ap (λ (l : Lane M). l.memory) lane_is)),
+              ),
             )

@@ -32,7 +32,7 @@ use Rattle.pm_plan.proofs.Notes.{known_noted, making_same}
 use Rattle.pm_redo.specs.Entries.{entry_at, last_made, listed_entry, no_entry}
 use Rattle.pm_redo.specs.Plans.{applies, applies_all, applies_each, applies_entry, does}
 use Rattle.pm_redo.specs.Stages.{CanApply, IsApplied, IsOfPlace}
-use Rattle.pm_redo.proofs.Carrying.{at_index, goes_does, goes_persist, step_of}
+use Rattle.pm_redo.proofs.Plans.{at_index, goes_does, goes_persist, step_of}
 use Rattle.pm_redo.proofs.LastMade.{first_first, last_more, last_none, made_by, not_made}
 use Rattle.pm_plan.proofs.AreaParts.{by_part, part_generation, place_outside}
 
@@ -106,6 +106,10 @@ module _ (v : View) (found : ℕ → ℕ) where
           ∙ ap (λ o. first_of_two o (pictured sh t y))
           (sym (cond-false (e.word == y) (Some x) None q))
 
+  -- an unflushed change of bits of a word
+  abbrev of_bits : ℕ → ℕ → Option ℕ → Undrained
+  of_bits w mask old = record { word = w; mask = mask; old = old; flushed = false }
+
   -- some entries are applied, and these are left
   abbrev HasApplied : List Entry → List Entry → View → Type 0
   HasApplied es todo u = (u ≡ now u.claims u.changes u.calls todo) × Made es u.claims u.changes
@@ -138,32 +142,14 @@ module _ (v : View) (found : ℕ → ℕ) where
           q x (record v.log { phase = Applying (e ∷ todo) }))))
           (λ root. (
             refl,
-            made_more es t changes e (record {
-              word = w;
-              mask = all_bits;
-              old = option_map (λ old. bit_and old all_bits) (pictured sh t w);
-              flushed = false;
-            })
-                m,
+            made_more es t changes e
+                (of_bits w all_bits (option_map (λ old. bit_and old all_bits) (pictured sh t w))) m,
           ))
-          (λ c. (
-            refl,
-            made_more es t changes e (record {
-              word = w;
-              mask = all_bits;
-              old = None;
-              flushed = false;
-            }) m,
-          ))
+          (λ c. (refl, made_more es t changes e (of_bits w all_bits None) m))
           (λ c u. (
             refl,
-            made_more es t changes e (record {
-              word = w;
-              mask = all_bits;
-              old = option_map (λ old. bit_and old all_bits) (pictured sh t w);
-              flushed = false;
-            })
-                m,
+            made_more es t changes e
+                (of_bits w all_bits (option_map (λ old. bit_and old all_bits) (pictured sh t w))) m,
           )),
     )
       where
@@ -180,15 +166,7 @@ module _ (v : View) (found : ℕ → ℕ) where
             (λ root. absurd (let q = is.root root in cc)) (λ c. (refl, refl, refl))
             (λ c u. (refl, refl, refl));
       },
-      (
-        refl,
-        made_more es t changes e (record {
-          word = w;
-          mask = x;
-          old = Some (bit_and (found (length es)) x);
-          flushed = false;
-        }) m,
-      ),
+      (refl, made_more es t changes e (of_bits w x (Some (bit_and (found (length es)) x))) m),
     )
       where
         e : Entry
@@ -206,12 +184,8 @@ module _ (v : View) (found : ℕ → ℕ) where
       },
       (
         refl,
-        made_more es t changes e (record {
-          word = w;
-          mask = bit_not w64 x;
-          old = Some (bit_and (found (length es)) (bit_not w64 x));
-          flushed = false;
-        }) m,
+        made_more es t changes e
+            (of_bits w (bit_not w64 x) (Some (bit_and (found (length es)) (bit_not w64 x)))) m,
       ),
     )
       where
@@ -220,7 +194,8 @@ module _ (v : View) (found : ℕ → ℕ) where
 
     entry_goes : (e : Entry) → IsOfPlace v e → Goes (HasApplied es (e ∷ todo))
         (does e.op e.word e.value (found (length es))) (HasApplied (es ++ e ∷ []) todo)
-    entry_goes e is = goes_does (HasApplied es (e ∷ todo)) (HasApplied (es ++ e ∷ []) todo) e.op e.word
+    entry_goes e is = goes_does (HasApplied es (e ∷ todo)) (HasApplied (es ++ e ∷ []) todo) e.op
+        e.word
         e.value (found (length es)) (λ u p. let f = p.1.few in omega (arith, f, fit))
         (λ u p. subst (Takes es todo e) (sym p.0) (entry_steps e.word e.place e.op e.value is
         u.claims u.changes u.calls p.1))
@@ -230,7 +205,7 @@ module _ (v : View) (found : ℕ → ℕ) (can : CanApply v) where
   shape = v.fixed.shape
 
   abbrev front : List Entry
-  front = can.placed.front
+  front = can.log_.front
 
   abbrev end_ : Entry
   end_ = ends_with shape v.fixed.lane v.log.generation
@@ -245,7 +220,7 @@ module _ (v : View) (found : ℕ → ℕ) (can : CanApply v) where
   many = length-append front (end_ ∷ [])
 
   few_ : length front < 64
-  few_ = let n = many in let f = can.few in let e = ap length can.placed.are in
+  few_ = let n = many in let f = can.log_.few in let e = ap length can.log_.are in
       omega (arith, n, f, e)
 
   -- so many of the entries are applied
@@ -262,9 +237,9 @@ module _ (v : View) (found : ℕ → ℕ) (can : CanApply v) where
       entries k none_ no_entry (let n = many in omega (arith, n, low))
       ∙ ap listed_entry (get_or_append_left front (end_ ∷ []) none_ k low) in
       let long : length (take k front) ≡ k = length-take-le k front (omega (arith, low)) in
-      let goes = entry_goes v found can.lane (take k front) (drop (suc k) front ++ end_ ∷ [])
+      let goes = entry_goes v found can.log_.lane (take k front) (drop (suc k) front ++ end_ ∷ [])
       (let f = few_ in omega (arith, long, low, f)) e
-      (at_index (IsOfPlace v) front none_ k can.placed.each low) in
+      (at_index (IsOfPlace v) front none_ k can.log_.each low) in
       subst (λ q. Goes (Upto k) (does q.op (q.place / 8) q.value (found k)) (Upto (k + 1)))
       (sym listed)
       (subst (λ w. Goes (Upto k) (does e.op w e.value (found k)) (Upto (k + 1)))
@@ -301,13 +276,13 @@ module _ (v : View) (found : ℕ → ℕ) (can : CanApply v) where
   elsewhere [] all = tt
   elsewhere (e ∷ es) all = (
     (λ same. ⊎_elim (λ (root : e.word ≡ 64). let r = root in omega (arith, r, same))
-        (λ (far : IsBeyond shape e.word). let low = can.lane in omega (arith, far, low, same))
+        (λ (far : IsBeyond shape e.word). let low = can.log_.lane in omega (arith, far, low, same))
         (place_outside shape v.fixed.lane e.word (class v.claims) all.0.place all.0.at)),
     elsewhere es all.1,
   )
 
   unmade : last_made found front generation ≡ None
-  unmade = last_none found front generation (elsewhere front can.placed.each)
+  unmade = last_none found front generation (elsewhere front can.log_.each)
 
   abbrev Ends : View → Type 0
   Ends u = Allowed u (Store generation (v.log.generation + 1))
@@ -317,15 +292,16 @@ module _ (v : View) (found : ℕ → ℕ) (can : CanApply v) where
       → Ends (now v found t changes calls (end_ ∷ []))
   end_steps t changes calls m = (
     record {
-      inside = (let low = can.lane in omega (arith, low));
+      inside = (let low = can.log_.lane in omega (arith, low));
       room = (let f = m.few in let l = few_ in omega (arith, f, l));
-      small = (let b = can.below in omega (arith, b));
+      small = (let b = can.log_.below in omega (arith, b));
       fits = subst (λ q. StoreFits (now v found t changes calls (end_ ∷ [])) generation
           (v.log.generation + 1) (Applying (end_ ∷ [])) q)
           (sym (part_generation shape v.fixed.lane)) (
             (refl, refl, refl),
             m.values generation
-                ∙ (ap (λ o. first_of_two o (pictured shape v.claims generation)) unmade ∙ can.known),
+                ∙ (ap (λ o. first_of_two o (pictured shape v.claims generation)) unmade
+                ∙ can.known),
           );
     },
     subst (λ q. AllApplied (changed_from (now v found t changes calls (end_ ∷ [])) generation
@@ -335,12 +311,9 @@ module _ (v : View) (found : ℕ → ℕ) (can : CanApply v) where
         (record v.log { phase = Applying (end_ ∷ []) }))))
         (sym (part_generation shape v.fixed.lane)) (
           refl,
-          made_more v found front t changes end_ (record {
-            word = generation;
-            mask = all_bits;
-            old = option_map (λ old. bit_and old all_bits) (pictured shape t generation);
-            flushed = false;
-          }) m,
+          made_more v found front t changes end_
+              (of_bits v found generation all_bits (option_map (λ old. bit_and old all_bits)
+              (pictured shape t generation))) m,
         ),
   )
 
@@ -422,7 +395,7 @@ module _ (v : View) (found : ℕ → ℕ) (can : CanApply v) where
   starts : Upto 0 v
   starts = (
     ap (λ (l : Log). record v { log = l })
-        (ap (λ ph. record v.log { phase = ph }) (can.applying ∙ ap Applying can.placed.are)),
+        (ap (λ ph. record v.log { phase = ph }) (can.applying ∙ ap Applying can.log_.are)),
     record {
       notes = [];
       are = refl;
@@ -440,9 +413,9 @@ module _ (v : View) (found : ℕ → ℕ) (can : CanApply v) where
     noted = record { notes = p.1.notes; are = p.1.are; each = p.1.each };
     made = λ y. ap (λ (z : View). pictured z.fixed.shape u.claims y) p.0
         ∙ (p.1.values y ∙ ap (λ es. first_of_two (last_made found es y) (pictured shape v.claims y))
-        (sym can.placed.are));
+        (sym can.log_.are));
     known = λ y none. ap (λ (z : View). known z.fixed.shape (runs_one z) u.claims y) p.0
-        ∙ p.1.knowns y (ap (λ es. last_made found es y) (sym can.placed.are) ∙ none);
+        ∙ p.1.knowns y (ap (λ es. last_made found es y) (sym can.log_.are) ∙ none);
   }
 
   -- APPLYING IS LAWFUL
@@ -457,7 +430,7 @@ module _ (v : View) (found : ℕ → ℕ) (can : CanApply v) where
       (subst (λ z. IsPersisted z u) p.0 is))) in
       let t = subst
       (λ es. Goes (Upto 0) (in_turn (applies_each (map listed_entry es) found) persists_all)
-      Ended) (sym can.placed.are) goes v starts in (
+      Ended) (sym can.log_.are) goes v starts in (
         t.0,
         is_applied
             (after_all v (in_turn (applies_each (map listed_entry v.log.entries) found) persists_all

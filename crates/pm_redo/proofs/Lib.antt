@@ -1,11 +1,11 @@
-pub mod Seals
-pub mod Carrying
+pub mod SealStored
+pub mod Plans
 pub mod LastMade
 pub mod EntriesApplied
-pub mod Entering
+pub mod EntryPairs
 pub mod LogWritten
-pub mod Telling
+pub mod Finds
 pub mod Engines
 pub mod Performed
 pub mod Numbered
-pub mod Chained
+pub mod PerformedLane

@@ -2,7 +2,7 @@
 use Rattle.std.proofs.Common.{◌≡◌, ◌≢◌, ℕ, ◌+◌, ◌*◌, ◌/◌, ◌<◌, ◌≤◌, true, List, [], ◌∷◌, ◌++◌, length, map, take, get_or, refl, sym, ap, ◌∙◌, subst, arith, Option, None}
 use Rattle.std.specs.Prelude.{IfSome}
 use Rattle.std.specs.List.{All, AllByRecursion}
-use Rattle.std.proofs.lemmas.List.{length-map, length-take-le, map-append, take_all, take_more}
+use Rattle.std.proofs.lemmas.List.{length-append, length-map, length-take-le, map-append, take_all, take_more}
 use Rattle.std.proofs.lemmas.List.Elements.{All-from_recursion}
 use Rattle.std.proofs.lemmas.Option.{none-some, same_Some}
 use Rattle.pm_layout.specs.declared.shape.Shape.{Shape}
@@ -24,10 +24,10 @@ use Rattle.pm_plan.specs.Plans.{Ready, in_turn, persists_all, repeated}
 use Rattle.pm_plan.proofs.Going.{Goes, goes_repeated, goes_then}
 use Rattle.pm_redo.specs.Entries.{ending, entry_at, logged_entry, no_entry}
 use Rattle.pm_redo.specs.Plans.{ends_entries, writes_entries, writes_log, writes_pair, writes_pairs}
-use Rattle.pm_redo.specs.Stages.{AreOfPlaces, CanEnter, CanLog, IsLogged, IsOfPlace}
+use Rattle.pm_redo.specs.Stages.{HasLog, CanEnter, CanLog, IsLogged, IsOfPlace}
 use Rattle.pm_redo.proofs.EntriesApplied.{inside_pool}
-use Rattle.pm_redo.proofs.Carrying.{at_index, goes_persist}
-use Rattle.pm_redo.proofs.Entering.{CanPut, Entered, Entering, now, pair_goes, stays}
+use Rattle.pm_redo.proofs.Plans.{at_index, goes_persist}
+use Rattle.pm_redo.proofs.EntryPairs.{CanPut, Entered, Entering, now, pair_goes, stays}
 use Rattle.pm_plan.proofs.AreaParts.{no_place}
 
 module _ (v : View) (given : List Redo) (can : CanLog v given) where
@@ -227,10 +227,14 @@ module _ (v : View) (given : List Redo) (can : CanLog v given) where
               placed = All-from_recursion (λ (e : Entry). e.place ≢ None) front
                   (all_placed given can.each);
             });
-        placed = subst AreOfPlaces (sym same) (record {
+        log_ = subst HasLog (sym same) (record {
           front = front;
           are = refl;
           each = of_places u.claims u.calls f given can.each;
+          few = (let n = length-append front (end_ ∷ []) in let m = length-map given
+              (logged_entry v) in let few = can.few in omega (arith, n, m, few));
+          below = can.below;
+          lane = can.lane;
         });
         root = subst (λ (z : View). All (KeepsRoot z) z.log.entries) (sym same)
             (All-from_recursion (KeepsRoot (logged u.claims u.calls)) entries

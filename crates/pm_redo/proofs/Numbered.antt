@@ -1,8 +1,7 @@
--- A log that was written may be performed once its call has its number.
-use Rattle.std.proofs.Common.{◌≡◌, ℕ, ◌^◌, ◌<◌, ◌≤◌, nat_le, nat_lt, false, List, [], ◌∷◌, ◌++◌, length, map, refl, sym, ap, ◌∙◌, subst, arith, Some}
+-- A log that was written may be sealed once its call has its number.
+use Rattle.std.proofs.Common.{◌≡◌, ℕ, ◌<◌, nat_le, nat_lt, false, List, [], ◌∷◌, ◌++◌, map, refl, sym, ap, ◌∙◌, arith, Some}
 use Rattle.std.specs.List.{AllByRecursion}
 use Rattle.std.proofs.lemmas.Bool.{and_left}
-use Rattle.std.proofs.lemmas.List.{length-append, length-map}
 use Rattle.pm_layout.specs.declared.shape.Shape.{Shape}
 use Rattle.pm_layout.specs.Areas.{redo_entries, word_of_entry, word_of_generation, word_of_seal}
 use Rattle.pm_record.specs.declared.redo.Redo.{Redo}
@@ -14,7 +13,7 @@ use Rattle.pm_view.specs.View.{View, Constants}
 use Rattle.pm_view.specs.Views.{after, value_in}
 use Rattle.pm_world.specs.Logs.{ends_with}
 use Rattle.pm_redo.specs.Entries.{logged_entry}
-use Rattle.pm_redo.specs.Stages.{CanLog, CanPerform, IsLogged, IsOfPlace, generation_word, seal_word}
+use Rattle.pm_redo.specs.Stages.{CanLog, CanSeal, IsLogged, IsOfPlace, generation_word, seal_word}
 use Rattle.pm_plan.proofs.AreaParts.{not_le}
 
 -- a call with entries has yet to be decided
@@ -56,34 +55,27 @@ module _ (v w : View) (entries : List Redo) (n : ℕ) (can : CanLog v entries)
   }
   log_so = ap (λ (y : View). y.log) is.same
 
-  many : length w.log.entries ≤ 64
-  many = let a = ap (λ (l : Log). length l.entries) log_so in let b = length-append
-      (map (logged_entry v) entries) (ends_with v.fixed.shape v.fixed.lane v.log.generation ∷ []) in
-      let c = length-map entries (logged_entry v) in let few = can.few in
-      omega (arith, a, b, c, few)
-
-  pub numbered_lawful : value_in v (seal_word v) ≡ Some 0 → value_in v (generation_word v) ≡ Some
-      v.log.generation → CanPerform (after w (Draw n))
+  pub numbered_lawful : value_in v (seal_word v) ≡ Some 0
+      → value_in v (generation_word v) ≡ Some v.log.generation → CanSeal (after w (Draw n))
   numbered_lawful seal generation = record {
-    sealing = record {
-      number = n;
-      drawn = ap (phase_drawn n w.log.records) is.whole.are ∙ drawn_so n w.log.records
-          is.whole.front (ends_with w.fixed.shape w.fixed.lane w.log.generation);
-      whole = record { front = is.whole.front; are = is.whole.are; placed = is.whole.placed };
-      few = many;
-      below = subst (λ (l : Log). l.generation < 2 ^ 62) (sym log_so) can.below;
-      lane = subst (λ (f : Constants). f.lane < f.shape.lanes) (sym fixed_so) can.lane;
-      drained = ap (λ (y : View). y.changes) is.same;
-      known = ap (λ (f : Constants). value_in w (word_of_seal f.shape f.lane)) fixed_so
-          ∙ ((is.known (seal_word v) (not_entry v.fixed.shape v.fixed.lane (seal_word v)
-          (omega arith))).1 ∙ seal);
+    number = n;
+    drawn = ap (phase_drawn n w.log.records) is.whole.are ∙ drawn_so n w.log.records
+        is.whole.front (ends_with w.fixed.shape w.fixed.lane w.log.generation);
+    log_ = record {
+      front = is.log_.front;
+      are = is.log_.are;
+      each = still is.log_.front is.log_.each;
+      few = is.log_.few;
+      below = is.log_.below;
+      lane = is.log_.lane;
     };
-    placed = record {
-      front = is.placed.front;
-      are = is.placed.are;
-      each = still is.placed.front is.placed.each;
-    };
-    known = ap (λ (f : Constants). value_in w (word_of_generation f.shape f.lane)) fixed_so
+    drained = ap (λ (y : View). y.changes) is.same;
+    seal = ap (λ (f : Constants). value_in w (word_of_seal f.shape f.lane)) fixed_so
+        ∙ ((is.known (seal_word v) (not_entry v.fixed.shape v.fixed.lane (seal_word v)
+        (omega arith))).1
+        ∙ seal);
+    generation = ap (λ (f : Constants). value_in w (word_of_generation f.shape f.lane)) fixed_so
         ∙ ((is.known (generation_word v) (not_entry v.fixed.shape v.fixed.lane (generation_word v)
-        (omega arith))).1 ∙ (generation ∙ ap (λ (l : Log). Some l.generation) (sym log_so)));
+        (omega arith))).1
+        ∙ (generation ∙ ap (λ (l : Log). Some l.generation) (sym log_so)));
   }

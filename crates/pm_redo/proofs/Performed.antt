@@ -16,11 +16,11 @@ use Rattle.pm_plan.proofs.Going.{goes_then}
 use Rattle.pm_plan.proofs.Notes.{making_same}
 use Rattle.pm_redo.specs.Entries.{last_made}
 use Rattle.pm_redo.specs.Plans.{applies, clears, performs, seals}
-use Rattle.pm_redo.specs.Stages.{CanApply, CanClear, CanPerform, IsApplied, IsCleared, IsOfPlace, IsPerformed, IsSealed, decided}
+use Rattle.pm_redo.specs.Stages.{CanApply, CanClear, CanSeal, IsApplied, IsCleared, IsOfPlace, IsPerformed, IsSealed, decided}
 use Rattle.pm_redo.proofs.EntriesApplied.{apply_lawful}
 use Rattle.pm_redo.proofs.LastMade.{last_none}
 use Rattle.pm_plan.proofs.AreaParts.{place_outside}
-use Rattle.pm_redo.proofs.Seals.{clear_lawful, seal_lawful}
+use Rattle.pm_redo.proofs.SealStored.{clear_lawful, seal_lawful}
 use Rattle.pm_plan.specs.Notes.{IsBeyond}
 
 -- notes upon notes
@@ -37,7 +37,7 @@ notes_more sh (n ∷ ns) ms t a b = (
   notes_more sh ns ms t a.1 b,
 )
 
-module _ (v : View) (found : ℕ → ℕ) (can : CanPerform v) where
+module _ (v : View) (found : ℕ → ℕ) (can : CanSeal v) where
   abbrev shape : Shape
   shape = v.fixed.shape
 
@@ -67,17 +67,17 @@ module _ (v : View) (found : ℕ → ℕ) (can : CanPerform v) where
       (word_of_generation shape v.fixed.lane) → CanApply (sealed calls)
   may_apply calls seen = record {
     applying = refl;
-    placed = record {
-      front = can.placed.front;
-      are = can.placed.are;
-      each = still_placed calls can.placed.front can.placed.each;
+    log_ = record {
+      front = can.log_.front;
+      are = can.log_.are;
+      each = still_placed calls can.log_.front can.log_.each;
+      few = can.log_.few;
+      below = can.log_.below;
+      lane = can.log_.lane;
     };
-    few = can.sealing.few;
-    below = can.sealing.below;
-    lane = can.sealing.lane;
     unmaking = λ c. refl;
     drained = refl;
-    known = seen ∙ can.known;
+    known = seen ∙ can.generation;
   }
 
   pub can_apply : (w : View) → IsSealed v w → CanApply w
@@ -92,7 +92,7 @@ module _ (v : View) (found : ℕ → ℕ) (can : CanPerform v) where
   elsewhere [] all = ((λ e. omega (arith, e)), tt)
   elsewhere (e ∷ es) all = (
     (λ same. ⊎_elim (λ (root : e.word ≡ 64). let r = root in omega (arith, r, same))
-        (λ (far : IsBeyond shape e.word). let low = can.sealing.lane in
+        (λ (far : IsBeyond shape e.word). let low = can.log_.lane in
         omega (arith, far, low, same)) (place_outside shape v.fixed.lane e.word (class v.claims)
         all.0.place all.0.at)),
     elsewhere es all.1,
@@ -100,7 +100,7 @@ module _ (v : View) (found : ℕ → ℕ) (can : CanPerform v) where
 
   unmade : last_made found v.log.entries seal ≡ None
   unmade = last_none found v.log.entries seal (subst (AllByRecursion (λ (e : Entry). e.word ≢ seal))
-      (sym can.placed.are) (elsewhere can.placed.front can.placed.each))
+      (sym can.log_.are) (elsewhere can.log_.front can.log_.each))
 
   -- ---- one that is applied may be retired
   abbrev IsHalf : View → Type 0
@@ -116,7 +116,7 @@ module _ (v : View) (found : ℕ → ℕ) (can : CanPerform v) where
       ∙ (ap (λ o. first_of_two o (value_in (sealed calls) seal)) unmade ∙ known) in
       subst CanClear (sym is.same) (record {
         applied = refl;
-        lane = can.sealing.lane;
+        lane = can.log_.lane;
         unmaking = quiet;
         drained = refl;
         known = ap (λ (y : View). pictured y.fixed.shape u.claims seal) (sym is.same) ∙ value;
@@ -157,7 +157,7 @@ module _ (v : View) (found : ℕ → ℕ) (can : CanPerform v) where
   perform_lawful = goes_then (λ u. u ≡ v) (IsSealed v) (IsPerformed v found) seals
       (in_turn (applies found) clears)
       (λ u same. subst (λ y. Ready y (seals y) × IsSealed v (after_all y (seals y))) (sym same)
-      (seal_lawful v can.sealing))
+      (seal_lawful v can))
       (λ u s.
       let known : value_in (sealed u.calls) seal ≡ Some (length v.log.entries) =
       ap (λ (y : View). value_in y seal) (sym s.same) ∙ s.seal in

@@ -11,12 +11,8 @@ use Rattle.pm_world.specs.Logs.{ends_with}
 
 -- an entry of the lane's list as its log has it, and one of its log as its list has it
 abbrev pub logged_entry : View → Redo → Entry
-logged_entry v e = record {
-  word = e.place / 8;
-  place = place_in v (e.place / 8);
-  op = e.op;
-  value = e.value;
-}
+logged_entry v e =
+    record { word = e.place / 8; place = place_in v (e.place / 8); op = e.op; value = e.value }
 
 abbrev pub listed_entry : Entry → Redo
 listed_entry e = record { place = 8 * e.word; op = e.op; value = e.value }

@@ -1,4 +1,4 @@
 pub mod Entries
 pub mod Plans
 pub mod Stages
-pub mod Redoing
+pub mod Calls

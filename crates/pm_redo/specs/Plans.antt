@@ -9,8 +9,6 @@ use Rattle.pm_record.specs.declared.redo.Redo.{Redo}
 use Rattle.pm_plan.specs.Plans.{Plan, ands, in_turn, ors, persists, persists_all, repeated, stores, stores_from}
 use Rattle.pm_redo.specs.Entries.{ending, entry_at, listed_entries}
 
--- ---- writing a log
-
 -- an entry's two words are stored in the pair of this number
 unfoldable pub writes_pair : Shape → ℕ → ℕ → Redo → Plan
 writes_pair sh lane i e = stores_from (word_of_entry sh lane i) (redo_words e)
@@ -34,8 +32,6 @@ unfoldable pub writes_log : List Redo → Plan
 writes_log entries v = writes_entries v.fixed.shape v.fixed.lane entries
     (ending v.fixed.shape v.fixed.lane v.log.generation) v
 
--- ---- sealing it, and clearing the seal
-
 -- a seal is stored and made persistent
 unfoldable pub writes_seal : ℕ → ℕ → Plan
 writes_seal word n = in_turn (stores word n) (persists (word / 8))
@@ -46,8 +42,6 @@ seals v = writes_seal (word_of_seal v.fixed.shape v.fixed.lane) (length v.log.en
 
 unfoldable pub clears : Plan
 clears v = writes_seal (word_of_seal v.fixed.shape v.fixed.lane) 0 v
-
--- ---- applying it
 
 -- an operation on a word: for what an OR or an AND finds in it
 abbrev pub does : Op → ℕ → ℕ → ℕ → Plan
@@ -70,8 +64,6 @@ applies_all entries found = in_turn (applies_each entries found) persists_all
 -- the log's entries are applied
 unfoldable pub applies : (ℕ → ℕ) → Plan
 applies found v = applies_all (listed_entries v) found v
-
--- ---- performing it
 
 -- it is sealed, its entries are applied, and its seal is cleared
 unfoldable pub performs : (ℕ → ℕ) → Plan

@@ -33,8 +33,6 @@ seal_word v = word_of_seal v.fixed.shape v.fixed.lane
 abbrev pub drained_as : View → View → Log → View
 drained_as v w log = record v { claims = w.claims; changes = []; calls = w.calls; log = log }
 
--- ---- writing the log
-
 -- THE LANE MAY ENTER IT: its word is a place where the lane has the right to that, and it gives
 -- some bit
 pub record CanEnter (v : View) (e : Redo) : Type 0 where
@@ -67,43 +65,42 @@ pub record IsOfPlace (v : View) (e : Entry) : Type 0 where
   pub root : place ≡ RootWord → e.op ≡ Set
   pub small : e.value < 2 ^ 64
 
--- the entries are of places, and after them comes the one that ends the generation
-pub record AreOfPlaces (v : View) : Type 0 where
+-- A LOG THAT MAY BE PERFORMED: its entries are of places, and after them comes the one that ends
+-- the generation
+pub record HasLog (v : View) : Type 0 where
   pub front : List Entry
   pub are : v.log.entries ≡ front ++ ends_with v.fixed.shape v.fixed.lane v.log.generation ∷ []
   pub each : AllByRecursion (IsOfPlace v) front
+  pub few : length v.log.entries ≤ redo_entries v.fixed.shape
+  pub below : v.log.generation < greatest_generation v.fixed.shape
+  pub lane : v.fixed.lane < v.fixed.shape.lanes
 
--- the log with these entries, and after them the one that ends the generation
-abbrev pub with_log : View → List Redo → Log
-with_log v entries = record v.log {
-  entries = map (logged_entry v) entries ++ ends_with v.fixed.shape v.fixed.lane v.log.generation ∷ [];
-}
+-- these entries as the log has them, and after them the one that ends the generation
+abbrev pub all_logged : View → List Redo → List Entry
+all_logged v es =
+    map (logged_entry v) es ++ ends_with v.fixed.shape v.fixed.lane v.log.generation ∷ []
 
 -- THE LOG IS WRITTEN: the entries stand in their pairs, and after them the one that ends the
 -- generation; nothing is undrained, and all words but those of pairs are known as they were. Of
 -- the root word, the lines are locked that are to guard it
 pub record IsLogged (v : View) (entries : List Redo) (w : View) : Type 0 where
-  pub same : w ≡ drained_as v w (with_log v entries)
+  pub same : w ≡ drained_as v w (record v.log { entries = all_logged v entries })
   pub noted : HasNoted v w
   pub known : (u : ℕ) → is_entry_word v.fixed.shape v.fixed.lane u ≡ false
       → (knows w u ≡ knows v u) × (value_in w u ≡ value_in v u)
   pub whole : AreWhole w.fixed.shape w.fixed.lane w.log
-  pub placed : AreOfPlaces w
+  pub log_ : HasLog w
   pub root : All (KeepsRoot w) w.log.entries
 
--- ---- sealing it
-
--- the call has its number, the log is whole, and nothing is undrained; the lane knows that its
--- seal is 0
+-- the call has its number and its log, and nothing is undrained; the lane knows its generation, and
+-- that its seal is 0
 pub record CanSeal (v : View) : Type 0 where
   pub number : ℕ
   pub drawn : v.log.phase ≡ Drawn number
-  pub whole : AreWhole v.fixed.shape v.fixed.lane v.log
-  pub few : length v.log.entries ≤ redo_entries v.fixed.shape
-  pub below : v.log.generation < greatest_generation v.fixed.shape
-  pub lane : v.fixed.lane < v.fixed.shape.lanes
+  pub log_ : HasLog v
   pub drained : v.changes ≡ []
-  pub known : value_in v (seal_word v) ≡ Some 0
+  pub seal : value_in v (seal_word v) ≡ Some 0
+  pub generation : value_in v (generation_word v) ≡ Some v.log.generation
 
 -- the view of a call that is decided, with all entries to be applied yet
 abbrev pub decided : View → View
@@ -120,29 +117,22 @@ pub record IsSealed (v w : View) : Type 0 where
   pub seal : value_in w (seal_word v) ≡ Some (length v.log.entries)
   pub seen : (u : ℕ) → u ≢ seal_word v → value_in w u ≡ value_in v u
 
--- ---- applying it
-
--- the call is decided, none of its entries is applied, and nothing is undrained; the entries are of
--- places, and the lane knows its generation
+-- the call is decided, none of its entries is applied, and nothing is undrained; the lane knows its
+-- generation
 pub record CanApply (v : View) : Type 0 where
   pub applying : v.log.phase ≡ Applying v.log.entries
-  pub placed : AreOfPlaces v
-  pub few : length v.log.entries ≤ redo_entries v.fixed.shape
-  pub below : v.log.generation < greatest_generation v.fixed.shape
-  pub lane : v.fixed.lane < v.fixed.shape.lanes
+  pub log_ : HasLog v
   pub unmaking : MakesNone v
   pub drained : v.changes ≡ []
   pub known : value_in v (generation_word v) ≡ Some v.log.generation
 
--- EVERY ENTRY HAS ITS EFFECT, in order, where these values were found, and that is persistent; other
--- words are known as they were
+-- EVERY ENTRY HAS ITS EFFECT, in order, where these values were found, and that is persistent;
+-- other words are known as they were
 pub record IsApplied (v : View) (found : ℕ → ℕ) (w : View) : Type 0 where
   pub same : w ≡ drained_as v w (record v.log { phase = Applying []; bumped = true })
   pub noted : HasNoted v w
   pub made : (u : ℕ) → value_in w u ≡ first_of_two (last_made found v.log.entries u) (value_in v u)
   pub known : (u : ℕ) → last_made found v.log.entries u ≡ None → knows w u ≡ knows v u
-
--- ---- clearing the seal
 
 -- all entries are applied, and nothing is undrained; the lane knows its seal
 pub record CanClear (v : View) : Type 0 where
@@ -152,20 +142,12 @@ pub record CanClear (v : View) : Type 0 where
   pub drained : v.changes ≡ []
   pub known : value_in v (seal_word v) ≡ Some (length v.log.entries)
 
--- THE LOG IS RETIRED: no call is open, the lane is of its next generation, and its seal is 0, drained
+-- THE LOG IS RETIRED: no call is open, the lane has its next generation, and its seal is 0, drained
 pub record IsCleared (v w : View) : Type 0 where
   pub same : w ≡ drained_as v w (next_log Idle v.log)
   pub noted : HasNoted v w
   pub seal : value_in w (seal_word v) ≡ Some 0
   pub known : (u : ℕ) → u ≢ seal_word v → (knows w u ≡ knows v u) × (value_in w u ≡ value_in v u)
-
--- ---- performing it: sealing, applying and clearing in turn
-
--- the log may be sealed, its entries are of places, and the lane knows its generation
-pub record CanPerform (v : View) : Type 0 where
-  pub sealing : CanSeal v
-  pub placed : AreOfPlaces v
-  pub known : value_in v (generation_word v) ≡ Some v.log.generation
 
 -- THE LOG IS PERFORMED: the call was decided, every entry has its effect, and no call is open
 pub record IsPerformed (v : View) (found : ℕ → ℕ) (w : View) : Type 0 where

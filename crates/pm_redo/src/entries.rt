@@ -1,6 +1,6 @@
 ghost use Rattle.std.specs.Prelude.{◌≡◌, ◌*◌, ◌+◌, ◌^◌, ◌<◌};
 ghost use Rattle.pm_redo.specs.Entries.{ending};
-ghost use Rattle.pm_redo.specs.Redoing.{HasPut};
+ghost use Rattle.pm_redo.specs.Calls.{HasPut};
 
 use pm_layout::{REDO_ENTRIES, Shape, WORD_BYTES};
 use pm_objects::Refusal;

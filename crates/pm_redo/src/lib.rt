@@ -8,22 +8,20 @@
 //! "Sequences".
 #![tactic(auto)]
 
-mod applying;
+mod effects;
 mod entries;
 mod laws;
-mod logging;
-mod performing;
-mod sealing;
+mod pairs;
+mod seals;
 
-pub use applying::apply_all;
+pub use effects::{apply_all, perform};
 pub use entries::put;
 pub use laws::{
     entries_may_be_applied, logs_may_be_performed, logs_may_be_sealed, logs_may_be_written,
-    numbered_logs_may_be_performed, seals_may_be_cleared,
+    numbered_logs_may_be_sealed, seals_may_be_cleared,
 };
-pub use logging::log;
-pub use performing::perform;
-pub use sealing::{retire, seal};
+pub use pairs::log;
+pub use seals::{retire, seal};
 
 #[cfg(test)]
 mod tests;

@@ -1,5 +1,5 @@
 use Rattle.std.proofs.Common.{refl, arith}
-use Rattle.pm_redo.specs.Redoing.{HasPut}
+use Rattle.pm_redo.specs.Calls.{HasPut}
 use Rattle.pm_redo.proofs.entries.put.Goals as goal
 
 pub returns-then-len-ge-REDO_ENTRIES : goal.returns-then-len-ge-REDO_ENTRIES

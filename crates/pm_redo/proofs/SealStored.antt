@@ -1,6 +1,9 @@
 -- A seal is stored and made persistent.
 use Rattle.std.proofs.Common.{◌≡◌, ◌≢◌, ℕ, ◌+◌, ◌*◌, ◌/◌, ◌^◌, ◌<◌, ◌≤◌, Bool, true, false, cond, ◌==◌, List, [], ◌∷◌, length, refl, sym, ap, ◌∙◌, subst, arith, eq-eqb, ne_eqb, Option, Some, None, IsTrue}
+use Rattle.std.specs.List.{AllByRecursion}
 use Rattle.std.specs.Option.{option_map}
+use Rattle.std.proofs.lemmas.List.Elements.{All-from_recursion}
+use Rattle.std.proofs.lemmas.Option.{none-some}
 use Rattle.std.specs.Prelude.{bit_and}
 use Rattle.std.proofs.lemmas.Bool.{both_ways, cond-true, cond-false}
 use Rattle.pm_layout.specs.Areas.{word_of_seal}
@@ -8,19 +11,20 @@ use Rattle.pm_view.specs.Bits.{all_bits}
 use Rattle.pm_view.specs.Changes.{Undrained, mark}
 use Rattle.pm_view.specs.Claims.{Claim, Knows, Drained, Decided, class, known, pictured}
 use Rattle.pm_view.specs.Counts.{DropsSome, FlushesSome}
-use Rattle.pm_view.specs.Entries.{redos}
+use Rattle.pm_view.specs.Entries.{Entry, redos}
 use Rattle.pm_view.specs.Log.{Log, Idle, Drawn, Sealing, Applying, Clearing, log_stored, next_log}
 use Rattle.pm_view.specs.Parts.{Part, part_of}
 use Rattle.pm_view.specs.Steps.Step.{Store, Flush, Drain}
 use Rattle.pm_view.specs.View.{View, runs_one}
 use Rattle.pm_view.specs.Views.{after, after_all, changed_from, drained_to, marked_by, value_in, was_of}
 use Rattle.pm_world.specs.Lawful.{MayStore, StoreFits}
+use Rattle.pm_world.specs.Logs.{AreWhole}
 use Rattle.pm_plan.specs.Notes.{DrainedTo, Valued}
 use Rattle.pm_plan.specs.Plans.{IsPersisted, Ready, claims_persisted, in_turn, log_persisted, one, persists, stores}
 use Rattle.pm_plan.proofs.Going.{Goes, goes_one, goes_stores, goes_then}
 use Rattle.pm_plan.proofs.Notes.{known_noted}
 use Rattle.pm_redo.specs.Plans.{clears, seals, writes_seal}
-use Rattle.pm_redo.specs.Stages.{CanClear, CanSeal, IsCleared, IsSealed}
+use Rattle.pm_redo.specs.Stages.{CanClear, CanSeal, IsOfPlace, IsCleared, IsSealed}
 use Rattle.pm_plan.proofs.AreaParts.{part_seal}
 
 is_true : (b : Bool) → b ≡ true → IsTrue b
@@ -136,20 +140,33 @@ module _ (v : View) (can : CanSeal v) where
   abbrev decided : List Claim
   decided = Decided (redos v.log.entries) ∷ Drained [] ∷ Knows seal count ∷ v.claims
 
+  placed_ : (es : List Entry) → AllByRecursion (IsOfPlace v) es
+      → AllByRecursion (λ (e : Entry). e.place ≢ None) es
+  placed_ [] all = tt
+  placed_ (e ∷ es) all = ((λ none. none-some all.0.place (sym none ∙ all.0.is)), placed_ es all.1)
+
+  whole_ : AreWhole v.fixed.shape v.fixed.lane v.log
+  whole_ = record {
+    front = can.log_.front;
+    are = can.log_.are;
+    placed = All-from_recursion (λ (e : Entry). e.place ≢ None) can.log_.front
+        (placed_ can.log_.front can.log_.each);
+  }
+
   seal_may : (n : ℕ) → MayStore (record v { calls = n }) seal count
   seal_may n = record {
-    inside = let low = can.lane in omega (arith, low);
+    inside = let low = can.log_.lane in omega (arith, low);
     room = subst (λ (changes : List Undrained). length changes < 512) (sym can.drained)
         (omega arith);
-    small = let few = can.few in omega (arith, few);
+    small = let few = can.log_.few in omega (arith, few);
     fits = subst (λ ph. StoreFits (record v { calls = n }) seal count ph seal_part) (sym can.drawn)
         (subst (λ q. StoreFits (record v { calls = n }) seal count (Drawn can.number) q)
         (sym (part_seal v.fixed.shape v.fixed.lane seal refl))
         (record {
           all = refl;
-          known = can.known;
-          whole = can.whole;
-          below = can.below;
+          known = can.seal;
+          whole = whole_;
+          below = can.log_.below;
           drained = can.drained;
         }));
   }

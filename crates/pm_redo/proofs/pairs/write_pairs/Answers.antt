@@ -3,7 +3,7 @@ use Rattle.pm_plan.proofs.Plans.{repeated_none, repeated_next, repeated_more, re
 use Rattle.pm_plan.specs.Plans.{Runs, repeated}
 use Rattle.pm_redo.specs.Entries.{entry_at}
 use Rattle.pm_redo.specs.Plans.{writes_pair, writes_pairs}
-use Rattle.pm_redo.proofs.logging.write_pairs.Goals as goal
+use Rattle.pm_redo.proofs.pairs.write_pairs.Goals as goal
 
 pub loop-i-init : goal.loop-i-init
 loop-i-init g c = repeated_none (g.M.LaneMem.at c.args.mem.now)

@@ -1,5 +1,5 @@
 use Rattle.pm_redo.proofs.Engines.{applied_lane, apply_ready}
-use Rattle.pm_redo.proofs.applying.apply_all.Goals as goal
+use Rattle.pm_redo.proofs.effects.apply_all.Goals as goal
 
 pub apply_entries-requires : goal.apply_entries-requires
 apply_entries-requires g c = apply_ready g.M.LaneMem.at c.args.lane.now c.requires

@@ -1,6 +1,6 @@
 use Rattle.std.proofs.Common.{refl}
 use Rattle.pm_redo.proofs.Engines.{clear_ready, cleared_err, cleared_ok}
-use Rattle.pm_redo.proofs.sealing.retire.Goals as goal
+use Rattle.pm_redo.proofs.seals.retire.Goals as goal
 
 pub write_seal-requires : goal.write_seal-requires
 write_seal-requires g c = clear_ready g.M.LaneMem.at c.args.lane.now c.lane.result c.lane.ensures

@@ -2,7 +2,7 @@ use Rattle.std.proofs.Common.{ℕ}
 use Rattle.pm_plan.specs.Plans.{IsMade, repeated}
 use Rattle.pm_redo.specs.Entries.{entry_at}
 use Rattle.pm_redo.specs.Plans.{applies_entry}
-use Rattle.pm_redo.proofs.applying.apply_each.Given as goal
+use Rattle.pm_redo.proofs.effects.apply_each.Given as goal
 
 -- the first so many entries are applied, for what they found
 abbrev pub invariant-loop-entry : goal.invariant-loop-entry

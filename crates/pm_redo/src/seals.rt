@@ -1,6 +1,6 @@
 ghost use Rattle.pm_plan.specs.Plans.{IsReady, Runs};
 ghost use Rattle.pm_redo.specs.Plans.{writes_seal};
-ghost use Rattle.pm_redo.specs.Redoing.{Cleared, Sealed, StandsTo};
+ghost use Rattle.pm_redo.specs.Calls.{Cleared, Sealed, StandsTo};
 ghost use Rattle.pm_redo.specs.Stages.{CanClear, CanSeal};
 
 use pm_layout::LINE_WORDS;

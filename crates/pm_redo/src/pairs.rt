@@ -4,7 +4,7 @@ ghost use Rattle.pm_plan.specs.Plans.{IsReady, Runs};
 ghost use Rattle.pm_record.specs.declared.redo.Redo.{Redo};
 ghost use Rattle.pm_view.specs.View.{View};
 ghost use Rattle.pm_redo.specs.Plans.{ends_entries, writes_entries, writes_pair, writes_pairs};
-ghost use Rattle.pm_redo.specs.Redoing.{Logged, MayLog};
+ghost use Rattle.pm_redo.specs.Calls.{Logged, MayLog};
 
 use crate::entries::end;
 use pm_layout::Shape;

@@ -1,5 +1,5 @@
--- WHAT REDO LOGGING DOES to a lane: by cases of what it returns, for each view that the lane's
--- memory may be seen as.
+-- WHAT THE CALLS OF REDO LOGGING DO to a lane: by cases of what they return, for each view that the
+-- lane's memory may be seen as.
 use Rattle.std.specs.Prelude.{◌≡◌, ℕ, ◌+◌, ◌<◌, ◌≤◌, [], ◌∷◌, ◌++◌, length, Result, Ok, Err}
 use Rattle.pm_layout.specs.Areas.{redo_entries}
 use Rattle.pm_memory.specs.Runs.{Stops}
@@ -13,9 +13,7 @@ use Rattle.pm_world.specs.declared.lane.Lane.{Lane}
 use Rattle.pm_plan.specs.Plans.{Plan}
 use Rattle.pm_redo.specs.Entries.{listed_entries}
 use Rattle.pm_redo.specs.Plans.{applies, clears, performs, seals, writes_log}
-use Rattle.pm_redo.specs.Stages.{CanApply, CanClear, CanLog, CanPerform, CanSeal}
-
--- ---- listing an entry
+use Rattle.pm_redo.specs.Stages.{CanApply, CanClear, CanLog, CanSeal}
 
 -- the entry is the last of the lane's list; or the list had as many as a log has room for beside
 -- the entry that ends the generation
@@ -29,8 +27,6 @@ HasPut entry old new (Err refusal.ActionsFull) =
 HasPut entry old new (Err r) = ⊥
 
 module _ {M : Type 0} (at : M → View → Type 0) where
-  -- ---- writing the log
-
   -- the lane's memory may be seen so, and its list may be logged with this generation
   pub record MayLog (lane : Lane M) (generation : ℕ) (v : View) : Type 0 where
     pub memory : at lane.memory v
@@ -44,55 +40,43 @@ module _ {M : Type 0} (at : M → View → Type 0) where
     pub shape : lane.shape ≡ v.fixed.shape
     pub entries : lane.entries.items ≡ listed_entries v
 
-  -- the list was logged, and has the entry that ends the generation too; or the lane came to its stop
-  abbrev pub LoggedAs : View → Lane M → Lane M → Result (Unit {0}) Stopped → Type 0
-  LoggedAs v old new (Ok done) =
-      KeepsEntries new (after_all v (writes_log old.entries.items v))
-      × (new ≡ record old { memory = new.memory; entries = new.entries })
-  LoggedAs v old new (Err stopped) =
-      Stops (at new.memory) v (writes_log old.entries.items v)
-      × (new ≡ record old { memory = new.memory })
-
-  unfoldable pub Logged : ℕ → Lane M → Lane M → Result (Unit {0}) Stopped → Type 0
-  Logged generation old new result =
-      (v : View) → MayLog old generation v → LoggedAs v old new result
-
-  -- ---- sealing it, and applying it
-
-  -- the plan was carried out, and the list stays; or the first of it was, up to the stop
-  abbrev pub CarriedAs : View → Plan → Lane M → Lane M → Result (Unit {0}) Stopped → Type 0
-  CarriedAs v plan old new (Ok done) =
-      KeepsEntries new (after_all v (plan v)) × (new ≡ record old { memory = new.memory })
-  CarriedAs v plan old new (Err stopped) =
+  -- THE PLAN WAS CARRIED OUT, the list is the log's, and this is so; or the first of the plan was,
+  -- up to the stop
+  abbrev pub LeftAs : View → Plan → Type 0 → Lane M → Lane M → Result (Unit {0}) Stopped → Type 0
+  LeftAs v plan kept old new (Ok done) = KeepsEntries new (after_all v (plan v)) × kept
+  LeftAs v plan kept old new (Err stopped) =
       Stops (at new.memory) v (plan v) × (new ≡ record old { memory = new.memory })
 
+  unfoldable pub Logged : ℕ → Lane M → Lane M → Result (Unit {0}) Stopped → Type 0
+  Logged generation old new result = (v : View) → MayLog old generation v
+      → LeftAs v (writes_log old.entries.items)
+      (new ≡ record old { memory = new.memory; entries = new.entries }) old new result
+
   unfoldable pub Sealed : Lane M → Lane M → Result (Unit {0}) Stopped → Type 0
-  Sealed old new result =
-      (v : View) → KeepsEntries old v → CanSeal v → CarriedAs v seals old new result
+  Sealed old new result = (v : View) → KeepsEntries old v → CanSeal v
+      → LeftAs v seals (new ≡ record old { memory = new.memory }) old new result
 
   -- that was the plan for what each OR and AND found
   unfoldable pub Applied : Lane M → Lane M → Result (Unit {0}) Stopped → Type 0
-  Applied old new result = (found : ℕ → ℕ)
-      × ((v : View) → KeepsEntries old v → CanApply v → CarriedAs v (applies found) old new result)
+  Applied old new result = (found : ℕ → ℕ) × ((v : View) → KeepsEntries old v → CanApply v
+      → LeftAs v (applies found) (new ≡ record old { memory = new.memory }) old new result)
 
-  -- ---- clearing the seal, and performing the log
-
-  -- the plan was carried out, and no entry and no record is listed; or the first of it was
-  abbrev pub EmptiedAs : View → Plan → Lane M → Lane M → Result (Unit {0}) Stopped → Type 0
-  EmptiedAs v plan old new (Ok done) =
-      KeepsEntries new (after_all v (plan v)) × (new.log.records.items ≡ [])
-      × (new ≡ record old { memory = new.memory; log = record old.log { records = new.log.records }; entries = new.entries })
-  EmptiedAs v plan old new (Err stopped) =
-      Stops (at new.memory) v (plan v) × (new ≡ record old { memory = new.memory })
+  -- no entry and no record is listed any more
+  abbrev pub IsEmptied : Lane M → Lane M → Type 0
+  IsEmptied old new = (new.log.records.items ≡ [])
+      × (new ≡ record old {
+        memory = new.memory;
+        log = record old.log { records = new.log.records };
+        entries = new.entries;
+      })
 
   unfoldable pub Cleared : Lane M → Lane M → Result (Unit {0}) Stopped → Type 0
-  Cleared old new result =
-      (v : View) → KeepsEntries old v → CanClear v → EmptiedAs v clears old new result
+  Cleared old new result = (v : View) → KeepsEntries old v → CanClear v
+      → LeftAs v clears (IsEmptied old new) old new result
 
-  -- for what each OR and AND found
   unfoldable pub Performed : Lane M → Lane M → Result (Unit {0}) Stopped → Type 0
-  Performed old new result = (found : ℕ → ℕ)
-      × ((v : View) → KeepsEntries old v → CanPerform v → EmptiedAs v (performs found) old new result)
+  Performed old new result = (found : ℕ → ℕ) × ((v : View) → KeepsEntries old v → CanSeal v
+      → LeftAs v (performs found) (IsEmptied old new) old new result)
 
   -- the lane may be seen so that it may do this
   abbrev pub StandsTo : Lane M → (View → Type 0) → Type 0

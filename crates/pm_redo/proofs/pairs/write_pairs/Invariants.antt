@@ -1,7 +1,7 @@
 use Rattle.pm_plan.specs.Plans.{IsMade, repeated}
 use Rattle.pm_redo.specs.Entries.{entry_at}
 use Rattle.pm_redo.specs.Plans.{writes_pair}
-use Rattle.pm_redo.proofs.logging.write_pairs.Given as goal
+use Rattle.pm_redo.proofs.pairs.write_pairs.Given as goal
 
 -- the first so many entries are stored
 abbrev pub invariant-loop-i : goal.invariant-loop-i

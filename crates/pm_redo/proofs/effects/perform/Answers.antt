@@ -1,5 +1,5 @@
-use Rattle.pm_redo.proofs.Chained.{apply_next, clear_next, performed, stopped_applying, stopped_sealing}
-use Rattle.pm_redo.proofs.performing.perform.Goals as goal
+use Rattle.pm_redo.proofs.PerformedLane.{apply_next, clear_next, performed, stopped_applying, stopped_sealing}
+use Rattle.pm_redo.proofs.effects.perform.Goals as goal
 
 pub returns-in_err-seal : goal.returns-in_err-seal
 returns-in_err-seal g c = stopped_sealing g.M.LaneMem.at c.args.lane.now c.seal.new.lane
@@ -21,4 +21,5 @@ retire-requires g c = clear_next g.M.LaneMem.at c.args.lane.now c.seal.new.lane 
 
 pub returns : goal.returns
 returns g c = performed g.M.LaneMem.at c.args.lane.now c.seal.new.lane c.in_ok-seal.ensures
-    c.apply_all.new.lane c.in_ok-apply_all.ensures c.retire.new.lane c.retire.result c.retire.ensures
+    c.apply_all.new.lane c.in_ok-apply_all.ensures c.retire.new.lane c.retire.result
+    c.retire.ensures

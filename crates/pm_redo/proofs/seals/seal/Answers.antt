@@ -1,5 +1,5 @@
 use Rattle.pm_redo.proofs.Engines.{seal_ready, sealed_lane}
-use Rattle.pm_redo.proofs.sealing.seal.Goals as goal
+use Rattle.pm_redo.proofs.seals.seal.Goals as goal
 
 pub write_seal-requires : goal.write_seal-requires
 write_seal-requires g c = seal_ready g.M.LaneMem.at c.args.lane.now c.lane.result c.lane.ensures

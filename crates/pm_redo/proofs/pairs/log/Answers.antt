@@ -1,6 +1,6 @@
 use Rattle.std.proofs.Common.{refl}
 use Rattle.pm_redo.proofs.Engines.{log_ready, logged_err, logged_ok}
-use Rattle.pm_redo.proofs.logging.log.Goals as goal
+use Rattle.pm_redo.proofs.pairs.log.Goals as goal
 
 pub write_entries-requires-clause-ready : goal.write_entries-requires-clause-ready
 write_entries-requires-clause-ready g c = log_ready g.M.LaneMem.at c.args.lane.now

@@ -2,8 +2,8 @@ use Rattle.std.proofs.Common.{◌≡◌, length, rules}
 use Rattle.pm_plan.proofs.Plans.{repeated_none}
 use Rattle.pm_redo.specs.Entries.{entry_at}
 use Rattle.pm_redo.specs.Plans.{applies_entry}
-use Rattle.pm_redo.proofs.Telling.{all_made, next_err, next_made, next_ready}
-use Rattle.pm_redo.proofs.applying.apply_each.Goals as goal
+use Rattle.pm_redo.proofs.Finds.{all_made, next_err, next_made, next_ready}
+use Rattle.pm_redo.proofs.effects.apply_each.Goals as goal
 
 pub loop-entry-init : goal.loop-entry-init
 loop-entry-init g c = (

@@ -1,8 +1,8 @@
 use Rattle.std.proofs.Common.{ℕ, ◌/◌, sym, subst, Ok}
 use Rattle.pm_plan.specs.Plans.{IsReady, Plan, Runs, ands, ors, stores}
 use Rattle.pm_redo.specs.Plans.{applies_entry}
-use Rattle.pm_redo.proofs.Telling.{and_is, finding_none, finding_same, or_is, runs_any, set_is}
-use Rattle.pm_redo.proofs.applying.apply.Goals as goal
+use Rattle.pm_redo.proofs.Finds.{and_is, finding_none, finding_same, or_is, runs_any, set_is}
+use Rattle.pm_redo.proofs.effects.apply.Goals as goal
 
 pub store-requires : goal.store-requires
 store-requires g c = subst (IsReady (g.M.LaneMem.at c.args.mem.now))
