@@ -58,6 +58,7 @@ pub mod FreeBlocks
 pub mod SimAllocs
 pub mod SimCommits
 pub mod Telling
+pub mod Composing
 pub mod SimRoots
 pub mod Growing
 pub mod StepKnows

@@ -243,6 +243,11 @@ abbrev pub TellsGrow : Type 0
 TellsGrow = (v : View) (op : Operation) (reply : Option Value) (kept : Bool)
     → Grows v (is_kept_by op kept) (views.after v (Tell op reply)) kept
 
+-- WHAT GROWS TWICE GROWS: so it is along any steps
+abbrev pub GrowthsCompose : Type 0
+GrowthsCompose = (v mid next : View) (kept between kept' : Bool) → Grows v kept mid between
+    → Grows mid between next kept' → Grows v kept next kept'
+
 -- A STEP THAT TEACHES NOTHING OF BITS: flushes, tries that fail, zones' locks, occupancy words, numbers
 -- and stop words seen. It changes no claim, no record and nothing that was told
 abbrev pub SimIsKept : Type 0

@@ -1,12 +1,13 @@
 -- THE STEPS OF AN OPEN CALL: after each of them the lane knows no less of the bits before its call.
 use Rattle.std.specs.Prelude.{◌≡◌, ◌≢◌, ℕ, ◌<◌, Bool, true, false, List}
+use Rattle.pm_view.specs.Changes.{Undrained}
 use Rattle.pm_view.specs.Claims.{is_among, is_block_of, making}
 use Rattle.pm_view.specs.Entries.{Entry}
 use Rattle.pm_view.specs.Log.{Open, Voiding}
 use Rattle.pm_view.specs.Places.{Place, Block, Big}
 use Rattle.pm_view.specs.Steps.{Step}
 use Rattle.pm_view.specs.Steps.Step.{Drain, Give, Occupy, Vacate, Draw, Tell}
-use Rattle.pm_view.specs.View.{View}
+use Rattle.pm_view.specs.View.{Seen, View}
 use Rattle.pm_view.specs.Views.{after}
 use Rattle.pm_world.specs.Laws.{Turn}
 use Rattle.pm_world.specs.Lawful.{IsLawful}
@@ -52,6 +53,17 @@ abbrev pub StepsGrow : Step → Type 0
 StepsGrow s = (o : Opening) (old mem : Memory) (views new : Views) (g : Past) (k : ℕ) (kept : Bool)
     → IsStep o old mem views new g k s → GivesUpNothing (views k) kept s
     → Grows (views k) kept (after (views k) s) kept
+
+-- a step that teaches nothing of bits leaves what it knows, in whatever phase
+abbrev pub QuietStepsGrow : Type 0
+QuietStepsGrow = (v : View) (kept : Bool) (changes : List Undrained) (calls : ℕ)
+    (occupancy : List Seen) (zones : List ℕ) (seen : List Step) → Grows v kept (record v {
+      changes = changes;
+      calls = calls;
+      occupancy = occupancy;
+      zones = zones;
+      seen = seen;
+    }) kept
 
 -- AN ABORT voids its records once their words are as they were, and then knows of these words that they
 -- are an object's: by the drain of the generation that it stored, all that it knew is so still

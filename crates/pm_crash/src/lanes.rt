@@ -1,7 +1,7 @@
-ghost use Rattle.pm_crash.specs.Sim.{SimBegins, SimGoesOn, SimIsKept, SimStays, TellsGrow};
+ghost use Rattle.pm_crash.specs.Sim.{GrowthsCompose, SimBegins, SimGoesOn, SimIsKept, SimStays, TellsGrow};
 ghost use Rattle.pm_crash.specs.SimOps.{NoRootIsAsked, SimAborts, SimExtends, SimRefuses, SimWrites};
 ghost use Rattle.pm_crash.specs.SimRoots.{RootIsKnown};
-ghost use Rattle.pm_crash.specs.SimSteps.{StepsGrow, StepsKeepSims, VoidingGrows};
+ghost use Rattle.pm_crash.specs.SimSteps.{QuietStepsGrow, StepsGrow, StepsKeepSims, VoidingGrows};
 ghost use Rattle.pm_view.specs.Steps.{Step};
 ghost use Rattle.pm_crash.specs.SimAllocs.{SimAllocates, SimFrees, SimPublishes, SimReserves};
 ghost use Rattle.pm_crash.specs.SimCommits.{SimCommits};
@@ -20,6 +20,7 @@ pub fn a_lane_follows_the_model()
     ensures stays { SimStays }
     ensures goes_on { SimGoesOn }
     ensures tells { TellsGrow }
+    ensures composes { GrowthsCompose }
     ensures kept { SimIsKept }
 {}
 
@@ -31,6 +32,7 @@ pub fn steps_of_a_call_keep_what_is_known()
     ensures grow { (step : Step) → StepsGrow step }
     ensures sims { (step : Step) → StepsKeepSims step }
     ensures voids { VoidingGrows }
+    ensures quiet { QuietStepsGrow }
 {}
 
 /// A law: what each operation owes has no bits in it. Operations on the lane's lists, those that are

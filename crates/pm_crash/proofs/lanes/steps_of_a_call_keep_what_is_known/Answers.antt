@@ -1,4 +1,4 @@
-use Rattle.pm_crash.proofs.SimSteps.{steps_grow, steps_keep_sims, voiding_grows}
+use Rattle.pm_crash.proofs.SimSteps.{steps_grow, steps_keep_sims, still, voiding_grows}
 use Rattle.pm_crash.proofs.lanes.steps_of_a_call_keep_what_is_known.Goals as goal
 
 pub returns-clause-grow : goal.returns-clause-grow
@@ -9,3 +9,6 @@ returns-clause-sims c = steps_keep_sims
 
 pub returns-clause-voids : goal.returns-clause-voids
 returns-clause-voids c = voiding_grows
+
+pub returns-clause-quiet : goal.returns-clause-quiet
+returns-clause-quiet c = still
