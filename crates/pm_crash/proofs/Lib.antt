@@ -63,5 +63,6 @@ pub mod SimRoots
 pub mod Growing
 pub mod StepKnows
 pub mod SimSteps
+pub mod RecordsKnown
 pub mod SimOutside
 pub mod SimPublish

@@ -1,5 +1,5 @@
 -- THE STEPS OF AN OPEN CALL: after each of them the lane knows no less of the bits before its call.
-use Rattle.std.specs.Prelude.{◌≡◌, ◌≢◌, ℕ, ◌<◌, Bool, true, false, List}
+use Rattle.std.specs.Prelude.{◌≡◌, ◌≢◌, ℕ, ◌<◌, Bool, true, false, List, []}
 use Rattle.pm_view.specs.Changes.{Undrained}
 use Rattle.pm_view.specs.Claims.{is_among, is_block_of, making}
 use Rattle.pm_view.specs.Entries.{Entry}
@@ -10,7 +10,7 @@ use Rattle.pm_view.specs.Steps.Step.{Drain, Give, Occupy, Vacate, Draw, Tell}
 use Rattle.pm_view.specs.View.{Seen, View}
 use Rattle.pm_view.specs.Views.{after}
 use Rattle.pm_world.specs.Laws.{Turn}
-use Rattle.pm_world.specs.Lawful.{IsLawful}
+use Rattle.pm_world.specs.Lawful.{IsLawful, is_guarded, offset_in}
 use Rattle.pm_world.specs.Memory.{Memory}
 use Rattle.pm_world.specs.Sights.{is_recorded}
 use Rattle.pm_world.specs.Moves.{Moves}
@@ -82,6 +82,21 @@ abbrev pub VoidingGrows : Type 0
 VoidingGrows = (o : Opening) (old mem : Memory) (views new : Views) (g : Past) (k : ℕ) (kept : Bool)
     → IsVoiding o old mem views new g k → GivesUpNothing (views k) kept Drain
     → Grows (views k) kept (after (views k) Drain) kept
+
+-- WHAT IT RECORDED it knows to be an object's, whose size it knew as it recorded the word; no record is of
+-- the word that has a size. So it is as a call begins, and after each of its steps
+pub record KnowsRecorded (v : View) : Type 0 where
+  pub objects : (p : Place) (b : ℕ) → sees_at v p b ≡ true
+      → is_recorded v.log.records p ≡ true → IsInObject v p
+  pub guarded : (p : Place) → is_recorded v.log.records p ≡ true → is_guarded (offset_in v p) ≡ true
+
+abbrev pub RecordsBegin : Type 0
+RecordsBegin = (v : View) → v.log.records ≡ [] → KnowsRecorded v
+
+abbrev pub RecordsStayKnown : Step → Type 0
+RecordsStayKnown s = (o : Opening) (old mem : Memory) (views new : Views) (g : Past) (k : ℕ)
+    (kept : Bool) → IsStep o old mem views new g k s → GivesUpNothing (views k) kept s
+    → KnowsRecorded (views k) → KnowsRecorded (after (views k) s)
 
 -- so the simulation goes on, where the step leaves the bits as the call has made them
 abbrev pub StepsKeepSims : Step → Type 0
