@@ -542,6 +542,27 @@ module _ (o : Opening) (old mem : Memory) (views new : Views) (g : Past) (k : �
       by None q e = e
       by (Some n) q e = fits p n b q ∙ e
 
+  -- and known to be objects'
+  objects : (p : Place) (b : ℕ) → sees_at (views k) p b ≡ true → is_recorded (views k).log.records p ≡ true → IsInObject (Left [] (log_drained Voiding (views k).log)) p
+  objects (InRun c w) b s r = let z = y.known.objects (InRun c w) b s r in record {
+    of_block = z.of_block;
+    size = z.size;
+    small = z.small;
+    has_line = z.has_line;
+    sees = z.sees;
+    sized = λ d l. restored (Rattle.pm_crash.specs.Sim.size_place (views k) (InRun c w)) d (bit z.size d) (z.sized d l);
+  }
+  objects (InHuge c w) b s r = let z = y.known.objects (InHuge c w) b s r in record {
+    of_block = z.of_block;
+    size = z.size;
+    small = z.small;
+    has_line = z.has_line;
+    sees = z.sees;
+    sized = λ d l. restored (Rattle.pm_crash.specs.Sim.size_place (views k) (InHuge c w)) d (bit z.size d) (z.sized d l);
+  }
+  objects (Descr c) b s r = absurd (both_ways false refl (y.known.objects (Descr c) b s r).of_block)
+  objects RootWord b s r = absurd (both_ways false refl (y.known.objects RootWord b s r).of_block)
+
   voided : (left : List Undrained) → after (views k) Drain ≡ drained_to (views k) left → Grows (views k) kept (after (views k) Drain) kept
   voided (c ∷ left) is = grown_to (c ∷ left) (views k).log is (λ p b s r. inl r) (λ p b z s e. e)
   voided [] is =
@@ -552,7 +573,7 @@ module _ (o : Opening) (old mem : Memory) (views new : Views) (g : Past) (k : �
         log = log_drained ph (views k).log;
       } in
       let so : after (views k) Drain ≡ drains Voiding = is ∙ ap drains y.voids in
-      grown_to [] (log_drained Voiding (views k).log) so (λ p b s r. inr (subst (λ (w : View). IsInObject w p) so (y.objects p b s r)))
+      grown_to [] (log_drained Voiding (views k).log) so (λ p b s r. inr (objects p b s r))
       (λ p b z s e. restored p b z e)
 
 pub voiding_grows : VoidingGrows

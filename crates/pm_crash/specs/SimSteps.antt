@@ -65,24 +65,6 @@ QuietStepsGrow = (v : View) (kept : Bool) (changes : List Undrained) (calls : �
       seen = seen;
     }) kept
 
--- AN ABORT voids its records once their words are as they were, and then knows of these words that they
--- are an object's: by the drain of the generation that it stored, all that it knew is so still
-pub record IsVoiding (o : Opening) (old mem : Memory) (views new : Views) (g : Past) (k : ℕ)
-    : Type 0 where
-  pub world : World o old views g
-  pub runs : k < o.lanes
-  pub voids : (views k).log.phase ≡ Voiding
-  pub lawful : IsLawful (views k) Drain
-  pub moves : Moves k Drain old mem
-  pub turn : Turn views new k (after (views k) Drain)
-  pub objects : (p : Place) (b : ℕ) → sees_at (views k) p b ≡ true
-      → is_recorded (views k).log.records p ≡ true → IsInObject (after (views k) Drain) p
-
-abbrev pub VoidingGrows : Type 0
-VoidingGrows = (o : Opening) (old mem : Memory) (views new : Views) (g : Past) (k : ℕ) (kept : Bool)
-    → IsVoiding o old mem views new g k → GivesUpNothing (views k) kept Drain
-    → Grows (views k) kept (after (views k) Drain) kept
-
 -- WHAT IT RECORDED it knows to be an object's, whose size it knew as it recorded the word; no record is of
 -- the word that has a size. So it is as a call begins, and after each of its steps
 pub record KnowsRecorded (v : View) : Type 0 where
@@ -97,6 +79,23 @@ abbrev pub RecordsStayKnown : Step → Type 0
 RecordsStayKnown s = (o : Opening) (old mem : Memory) (views new : Views) (g : Past) (k : ℕ)
     (kept : Bool) → IsStep o old mem views new g k s → GivesUpNothing (views k) kept s
     → KnowsRecorded (views k) → KnowsRecorded (after (views k) s)
+
+-- AN ABORT voids its records once their words are as they were: by the drain of the generation that it
+-- stored, all that it knew is so still
+pub record IsVoiding (o : Opening) (old mem : Memory) (views new : Views) (g : Past) (k : ℕ)
+    : Type 0 where
+  pub world : World o old views g
+  pub runs : k < o.lanes
+  pub voids : (views k).log.phase ≡ Voiding
+  pub lawful : IsLawful (views k) Drain
+  pub moves : Moves k Drain old mem
+  pub turn : Turn views new k (after (views k) Drain)
+  pub known : KnowsRecorded (views k)
+
+abbrev pub VoidingGrows : Type 0
+VoidingGrows = (o : Opening) (old mem : Memory) (views new : Views) (g : Past) (k : ℕ) (kept : Bool)
+    → IsVoiding o old mem views new g k → GivesUpNothing (views k) kept Drain
+    → Grows (views k) kept (after (views k) Drain) kept
 
 -- so the simulation goes on, where the step leaves the bits as the call has made them
 abbrev pub StepsKeepSims : Step → Type 0

@@ -1,7 +1,7 @@
 ghost use Rattle.pm_crash.specs.Sim.{GrowthsCompose, SimBegins, SimGoesOn, SimIsKept, SimStays, TellsGrow};
 ghost use Rattle.pm_crash.specs.SimOps.{NoRootIsAsked, SimAborts, SimExtends, SimRefuses, SimWrites};
 ghost use Rattle.pm_crash.specs.SimRoots.{RootIsKnown};
-ghost use Rattle.pm_crash.specs.SimSteps.{QuietStepsGrow, StepsGrow, StepsKeepSims, VoidingGrows};
+ghost use Rattle.pm_crash.specs.SimSteps.{QuietStepsGrow, RecordsBegin, RecordsStayKnown, StepsGrow, StepsKeepSims, VoidingGrows};
 ghost use Rattle.pm_view.specs.Steps.{Step};
 ghost use Rattle.pm_crash.specs.SimAllocs.{SimAllocates, SimFrees, SimPublishes, SimReserves};
 ghost use Rattle.pm_crash.specs.SimCommits.{SimCommits};
@@ -27,11 +27,13 @@ pub fn a_lane_follows_the_model()
 /// A law: after each lawful step of an open call, whatever other lanes do, its lane knows no less of the
 /// bits before the call, where the step gives up nothing that the call rests on; and the lane follows the
 /// model still where the step leaves the bits as the call has made them. So it is of the drain that voids
-/// the records of an abort. No code runs.
+/// the records of an abort; for what a lane recorded it knows to be an object's. No code runs.
 pub fn steps_of_a_call_keep_what_is_known()
     ensures grow { (step : Step) → StepsGrow step }
     ensures sims { (step : Step) → StepsKeepSims step }
     ensures voids { VoidingGrows }
+    ensures records_begin { RecordsBegin }
+    ensures records { (step : Step) → RecordsStayKnown step }
     ensures quiet { QuietStepsGrow }
 {}
 

@@ -1,3 +1,4 @@
+use Rattle.pm_crash.proofs.RecordsKnown.{records_begin, records_stay_known}
 use Rattle.pm_crash.proofs.SimSteps.{steps_grow, steps_keep_sims, still, voiding_grows}
 use Rattle.pm_crash.proofs.lanes.steps_of_a_call_keep_what_is_known.Goals as goal
 
@@ -12,3 +13,9 @@ returns-clause-voids c = voiding_grows
 
 pub returns-clause-quiet : goal.returns-clause-quiet
 returns-clause-quiet c = still
+
+pub returns-clause-records_begin : goal.returns-clause-records_begin
+returns-clause-records_begin c = records_begin
+
+pub returns-clause-records : goal.returns-clause-records
+returns-clause-records c = records_stay_known
