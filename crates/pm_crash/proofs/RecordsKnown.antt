@@ -27,9 +27,9 @@ use Rattle.pm_world.proofs.Known.{known_so}
 use Rattle.pm_world.proofs.Recording.{old_in_at, place_is, recorded_cases}
 use Rattle.pm_crash.specs.Footprints.{bit_before, has_found}
 use Rattle.pm_crash.specs.Sim.{Grows, IsInObject, object_line, sees_at, size_place}
-use Rattle.pm_crash.specs.SimSteps.{GivesUpNothing, IsStep, KnowsRecorded, RecordsBegin, RecordsStayKnown, goes_on}
+use Rattle.pm_crash.specs.SimSteps.{GivesUpNothing, IsStep, KnowsRecorded, QuietStepsKeepRecords, RecordsBegin, RecordsStayKnown, goes_on}
 use Rattle.pm_crash.proofs.Composing.{still_object}
-use Rattle.pm_crash.proofs.SimSteps.{steps_grow}
+use Rattle.pm_crash.proofs.SimSteps.{steps_grow, still}
 use Rattle.pm_crash.proofs.StepKnows as known
 
 pub records_begin : RecordsBegin
@@ -244,3 +244,16 @@ records_stay_known s o old mem views new g k kept z nothing y =
     can_seen v (InHuge c w) own plain = (and_parts (has_found v (Big (first v.fixed.shape v.claims c))) _ own.0).0
     can_seen v (Descr c) own plain = absurd own
     can_seen v RootWord own plain = absurd (both_ways false refl plain)
+
+pub quiet_keeps_records : QuietStepsKeepRecords
+quiet_keeps_records v changes calls occupancy zones seen y = record {
+  objects = λ p b t r. still_object v (record v { changes = changes; calls = calls; occupancy = occupancy; zones = zones; seen = seen }) true true
+      (still v true changes calls occupancy zones seen) p b t (y.objects p b t r);
+  guarded = λ p r. still_guarded p (y.guarded p r);
+}
+  where
+    still_guarded : (p : Place) → is_guarded (offset_in v p) ≡ true → is_guarded (offset_in (record v { changes = changes; calls = calls; occupancy = occupancy; zones = zones; seen = seen }) p) ≡ true
+    still_guarded (InRun c w) e = e
+    still_guarded (InHuge c w) e = e
+    still_guarded (Descr c) e = e
+    still_guarded RootWord e = e

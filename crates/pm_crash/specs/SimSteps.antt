@@ -80,6 +80,17 @@ RecordsStayKnown s = (o : Opening) (old mem : Memory) (views new : Views) (g : P
     (kept : Bool) → IsStep o old mem views new g k s → GivesUpNothing (views k) kept s
     → KnowsRecorded (views k) → KnowsRecorded (after (views k) s)
 
+-- what teaches nothing leaves that too
+abbrev pub QuietStepsKeepRecords : Type 0
+QuietStepsKeepRecords = (v : View) (changes : List Undrained) (calls : ℕ) (occupancy : List Seen)
+    (zones : List ℕ) (seen : List Step) → KnowsRecorded v → KnowsRecorded (record v {
+      changes = changes;
+      calls = calls;
+      occupancy = occupancy;
+      zones = zones;
+      seen = seen;
+    })
+
 -- AN ABORT voids its records once their words are as they were: by the drain of the generation that it
 -- stored, all that it knew is so still
 pub record IsVoiding (o : Opening) (old mem : Memory) (views new : Views) (g : Past) (k : ℕ)

@@ -1,7 +1,7 @@
 ghost use Rattle.pm_crash.specs.Sim.{GrowthsCompose, SimBegins, SimGoesOn, SimIsKept, SimStays, TellsGrow};
 ghost use Rattle.pm_crash.specs.SimOps.{NoRootIsAsked, SimAborts, SimExtends, SimRefuses, SimWrites};
 ghost use Rattle.pm_crash.specs.SimRoots.{RootIsKnown};
-ghost use Rattle.pm_crash.specs.SimSteps.{QuietStepsGrow, RecordsBegin, RecordsStayKnown, StepsGrow, StepsKeepSims, VoidingGrows};
+ghost use Rattle.pm_crash.specs.SimSteps.{QuietStepsGrow, QuietStepsKeepRecords, RecordsBegin, RecordsStayKnown, StepsGrow, StepsKeepSims, VoidingGrows};
 ghost use Rattle.pm_view.specs.Steps.{Step};
 ghost use Rattle.pm_crash.specs.SimAllocs.{SimAllocates, SimFrees, SimPublishes, SimReserves};
 ghost use Rattle.pm_crash.specs.SimCommits.{SimCommits};
@@ -35,6 +35,7 @@ pub fn steps_of_a_call_keep_what_is_known()
     ensures records_begin { RecordsBegin }
     ensures records { (step : Step) → RecordsStayKnown step }
     ensures quiet { QuietStepsGrow }
+    ensures quiet_records { QuietStepsKeepRecords }
 {}
 
 /// A law: what each operation owes has no bits in it. Operations on the lane's lists, those that are
