@@ -1,12 +1,12 @@
 -- THE STEPS OF AN OPEN CALL: after each of them the lane knows no less of the bits before its call.
 use Rattle.std.specs.Prelude.{◌≡◌, ◌≢◌, ℕ, ◌<◌, Bool, true, false, List, []}
 use Rattle.pm_view.specs.Changes.{Undrained}
-use Rattle.pm_view.specs.Claims.{is_among, is_block_of, making}
+use Rattle.pm_view.specs.Claims.{is_among, making}
 use Rattle.pm_view.specs.Entries.{Entry}
 use Rattle.pm_view.specs.Log.{Open, Voiding}
 use Rattle.pm_view.specs.Places.{Place, Block, Big}
 use Rattle.pm_view.specs.Steps.{Step}
-use Rattle.pm_view.specs.Steps.Step.{Drain, Give, Occupy, Vacate, Draw, Tell}
+use Rattle.pm_view.specs.Steps.Step.{Drain, Give, Vacate, Draw, Tell}
 use Rattle.pm_view.specs.View.{Seen, View}
 use Rattle.pm_view.specs.Views.{after}
 use Rattle.pm_world.specs.Laws.{Turn}
@@ -24,15 +24,13 @@ goes_on v (Draw n) = false
 goes_on v (Tell operation reply) = false
 goes_on v s = true
 
--- IT GIVES UP NOTHING that the call rests on: no lock goes back under which the root word was seen; the
--- blocks that are to be objects stay the lane's own, and as large
+-- IT GIVES UP NOTHING that the call rests on: no lock goes back under which the root word was seen; and the
+-- blocks that are to be objects stay the lane's own
 abbrev pub GivesUpNothing : View → Bool → Step → Type 0
 GivesUpNothing v kept (Give line) =
     (line ≢ 0) × ((value : ℕ) → saw_root v.fixed.shape v.claims line value ≡ false)
 GivesUpNothing v kept (Vacate at bits) = (B : Block) → is_kept_block v kept B ≡ true
     → is_among v.fixed.shape at bits B ≡ false
-GivesUpNothing v kept (Occupy at bits true) = (f : ℕ) → is_kept_block v kept (Big f) ≡ true
-    → is_block_of v.fixed.shape at bits (Big f) ≡ false
 GivesUpNothing v kept Drain = (c : ℕ) → is_kept_block v kept (Big c) ≡ true
     → making v.fixed.shape v.claims c ≡ false
 GivesUpNothing v kept s = Unit {0}
