@@ -1,15 +1,15 @@
 -- What a lane recorded in an open call it knows to be an object's.
-use Rattle.std.proofs.Common.{◌≡◌, ◌⊎◌, inl, inr, ⊎_elim, ℕ, zero, suc, ◌+◌, ◌-◌, ◌*◌, ◌/◌, ◌%◌, ◌^◌, ◌<◌, ◌≤◌, ◌==◌, ◌&&◌, ◌||◌, nat_le, nat_lt, not, Bool, true, false, cond, List, [], ◌∷◌, ◌++◌, length, Option, None, Some, refl, sym, ap, ◌∙◌, subst, arith, eq-eqb, ne_eqb}
+use Rattle.std.proofs.Common.{◌≡◌, ◌⊎◌, inl, inr, ⊎_elim, ℕ, ◌+◌, ◌-◌, ◌*◌, ◌/◌, ◌%◌, ◌^◌, ◌<◌, ◌≤◌, ◌==◌, ◌&&◌, nat_le, nat_lt, not, Bool, true, false, cond, List, [], ◌∷◌, ◌++◌, length, Option, None, Some, refl, sym, ap, ◌∙◌, subst, arith, eq-eqb, ne_eqb}
 use Rattle.std.specs.Prelude.{IfSome, slice_index}
 use Rattle.std.specs.Option.{option_map}
-use Rattle.std.proofs.lemmas.Bool.{and_from, and_parts, both_ways, cases_Bool, cond-false, eqb-true, false_from_ne_true, le-leb, leb-true, lt-ltb, ltb-true, or_cases, or_left, or_right}
+use Rattle.std.proofs.lemmas.Bool.{and_from, and_parts, both_ways, cond-false, eqb-true, false_from_ne_true, le-leb, leb-true, lt-ltb, ltb-true}
 use Rattle.std.proofs.Math.Nat.{mod-eq-sub-div-mul, mul-div-le, mul_comm}
 use Rattle.std.proofs.Math.Arith.{digits_div}
-use Rattle.pm_layout.specs.Chunks.{chunks_of, word_of_chunk}
+use Rattle.pm_layout.specs.Chunks.{chunks_of}
 use Rattle.pm_view.specs.Changes.{Undrained, drained}
-use Rattle.pm_view.specs.Claims.{class, first, locked, pictured}
+use Rattle.pm_view.specs.Claims.{class, first, pictured}
 use Rattle.pm_view.specs.Entries.{first_of_two}
-use Rattle.pm_view.specs.Founds.{FindsKnown, knows}
+use Rattle.pm_view.specs.Founds.{knows}
 use Rattle.pm_view.specs.Log.{Phase, Open, Log, Recorded, log_drained, log_stored, old_in, old_of, recorded, with_pair, with_slot}
 use Rattle.pm_view.specs.Parts.{Part, GenerationPart, SealPart, EntryPart, SlotPart, RootPart, DescriptorPart, ChunkPart, OtherPart}
 use Rattle.pm_view.specs.Places.{Place, InRun, InHuge, Descr, RootWord, Block, Small, Big, distance, is_data, is_place, part, place_after, word_of}
@@ -21,13 +21,13 @@ use Rattle.pm_world.specs.Lanes.{is_decided}
 use Rattle.pm_world.specs.Lawful.{AppendsToSlot, CanRecordAt, MayChangeAt, StoreFits, is_guarded, offset_in, size_in}
 use Rattle.pm_world.specs.Memory.{Memory, PoolWord, bit}
 use Rattle.pm_world.specs.Sights.{is_pictured, is_recorded, picture, sight_of}
-use Rattle.pm_world.specs.World.{Opening, Views, Past, World, ghost_of}
+use Rattle.pm_world.specs.World.{Opening, Views, Past, World}
 use Rattle.pm_world.proofs.Frame.{found_has}
 use Rattle.pm_world.proofs.Known.{known_so}
 use Rattle.pm_world.proofs.Recording.{old_in_at, place_is, recorded_cases}
 use Rattle.pm_crash.specs.Footprints.{bit_before, has_found}
-use Rattle.pm_crash.specs.Sim.{Grows, IsInObject, object_line, sees_at, size_place}
-use Rattle.pm_crash.specs.SimSteps.{GivesUpNothing, IsStep, KnowsRecorded, QuietStepsKeepRecords, RecordsBegin, RecordsStayKnown, goes_on}
+use Rattle.pm_crash.specs.Sim.{Grows, IsInObject, sees_at}
+use Rattle.pm_crash.specs.SimSteps.{IsStep, KnowsRecorded, QuietStepsKeepRecords, RecordsBegin, RecordsStayKnown}
 use Rattle.pm_crash.proofs.Composing.{still_object}
 use Rattle.pm_crash.proofs.SimSteps.{steps_grow, still}
 use Rattle.pm_crash.proofs.StepKnows as known
@@ -232,9 +232,10 @@ records_stay_known s o old mem views new g k kept z nothing y =
     let at = old_in_at e.appends.next p (sym (ap (λ (d : Recorded). Rattle.pm_world.specs.States.given (old_in d p)) is) ∙ q) in
     let can = subst (λ (d : Place). CanRecordAt (views k) d (slice_index e.appends.next.old (distance e.appends.next.place p))) (place_is e.appends.next.place p at.0) (e.appends.can.each (distance e.appends.next.place p) at.1) in
     let object = can_object o old views g z.world k z.runs z.is_open y p _ can in
-    let t = can_seen (views k) p can.word.own can.word.plain in
-    (still_object (views k) (after (views k) s) kept kept grows p 64 t object,
-    ap is_guarded (offset_same (views k) (after (views k) s) kept grows p 64 t) ∙ can_guarded o old views g z.world k z.runs z.is_open y p can.word.own can.word.plain))
+    let t = can_seen (views k) p can.word.own can.word.plain in (
+      still_object (views k) (after (views k) s) kept kept grows p 64 t object,
+      ap is_guarded (offset_same (views k) (after (views k) s) kept grows p 64 t) ∙ can_guarded o old views g z.world k z.runs z.is_open y p can.word.own can.word.plain,
+    ))
     (recorded_cases (views k).log.records (recorded (views k).fixed.shape (class (views k).claims) ((views k).log.slot ++ e.value ∷ [])) p (sym (ap (λ rs. is_recorded rs p) e.more) ∙ r)))
     (records_after o old mem views new g k s z) in
     record { objects = λ p b t r. (each p r).0; guarded = λ p r. (each p r).1 }
