@@ -38,8 +38,8 @@ KeepsFootprints s = (o : Opening) (old mem : Memory) (views new : Views) (g : Pa
     → Turn views new k (after (views k) s)
     → Footprints o id views g → Footprints o id new (past_after g (views k) s)
 
--- WHAT EACH CALL SAW OF THE ROOT WORD, under locks that its lane held as it took its number, is so of the
--- bits before it, whichever calls are kept
+-- WHAT EACH CALL SAW OF THE ROOT WORD, under locks that its lane held as it took its number, is so
+-- of the bits before it, whichever calls are kept
 abbrev pub CallsSeeRoots : Type 0
 CallsSeeRoots = (o : Opening) (id : ℕ) (views : Views) (g : Past) → Footprints o id views g
     → (keep : ℕ → Bool) → KeepsDecided g keep → (n : ℕ) → n < g.length

@@ -1,5 +1,5 @@
--- PUBLISH OUTSIDE A TRANSACTION: what is reserved comes to be, what is to be freed goes, and words are
--- set, in a call of its own. What it owes has no bits in it.
+-- PUBLISH OUTSIDE A TRANSACTION: what is reserved comes to be, what is to be freed goes, and words
+-- are set, in a call of its own. What it owes has no bits in it.
 use Rattle.std.specs.Prelude.{◌≡◌, ◌⊎◌, ℕ, true, All, List, [], ◌∷◌, Option, None, Some, map}
 use Rattle.pm_objects.specs.declared.calls.Operation.TheVariants.{Publish}
 use Rattle.pm_objects.specs.declared.ids.Oid.{Oid}
@@ -35,8 +35,8 @@ abbrev pub publish_refusal : Seen → View → Option ℕ → Option Refusal
 publish_refusal seen v root = refusal_outside seen
     (outside_before v (record (pool_seen v root) { items = items_seen v })) Publish
 
--- each object that is to be freed or set is there, the one with the look at the root, the other with its
--- size
+-- each object that is to be freed or set is there, the one with the look at the root, the other
+-- with its size
 pub record LooksToPublish (v : View) (value : ℕ) : Type 0 where
   pub frees : All (λ (id : Oid). Finds v [] id.off) (pending_before v).frees
   pub roots : All (λ (id : Oid). SawRoot v value id.off) (pending_before v).frees
@@ -72,8 +72,8 @@ PublicationsAreFacts = (v : View) (ran : Ran) → IsLonePublication v ran → Fa
 
 -- ---- ONE THAT IS REFUSED changes nothing
 
--- the tests that look at no object: whether a number is left, whether the ids have places, and under
--- whose locks no object was found
+-- the tests that look at no object: whether a number is left, whether the ids have places, and
+-- under whose locks no object was found
 abbrev pub early_refusal : Seen → View → Option Refusal
 early_refusal seen v = first_of ((Spent, seen.spent)
     ∷ found_tests seen (pool_seen v None) (wants_pending (pending_before v)))

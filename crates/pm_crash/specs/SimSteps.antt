@@ -24,8 +24,8 @@ goes_on v (Draw n) = false
 goes_on v (Tell operation reply) = false
 goes_on v s = true
 
--- IT GIVES UP NOTHING that the call rests on: no lock goes back under which the root word was seen; and the
--- blocks that are to be objects stay the lane's own
+-- IT GIVES UP NOTHING that the call rests on: no lock goes back under which the root word was
+-- seen; and the blocks that are to be objects stay the lane's own
 abbrev pub GivesUpNothing : View → Bool → Step → Type 0
 GivesUpNothing v kept (Give line) =
     (line ≢ 0) × ((value : ℕ) → saw_root v.fixed.shape v.claims line value ≡ false)
@@ -63,8 +63,8 @@ QuietStepsGrow = (v : View) (kept : Bool) (changes : List Undrained) (calls : �
       seen = seen;
     }) kept
 
--- WHAT IT RECORDED it knows to be an object's, whose size it knew as it recorded the word; no record is of
--- the word that has a size. So it is as a call begins, and after each of its steps
+-- WHAT IT RECORDED it knows to be an object's, whose size it knew as it recorded the word; no
+-- record is of the word that has a size. So it is as a call begins, and after each of its steps
 pub record KnowsRecorded (v : View) : Type 0 where
   pub objects : (p : Place) (b : ℕ) → sees_at v p b ≡ true
       → is_recorded v.log.records p ≡ true → IsInObject v p
@@ -89,8 +89,8 @@ QuietStepsKeepRecords = (v : View) (changes : List Undrained) (calls : ℕ) (occ
       seen = seen;
     })
 
--- AN ABORT voids its records once their words are as they were: by the drain of the generation that it
--- stored, all that it knew is so still
+-- AN ABORT voids its records once their words are as they were: by the drain of the generation
+-- that it stored, all that it knew is so still
 pub record IsVoiding (o : Opening) (old mem : Memory) (views new : Views) (g : Past) (k : ℕ)
     : Type 0 where
   pub world : World o old views g
