@@ -64,5 +64,6 @@ pub mod Growing
 pub mod StepKnows
 pub mod SimSteps
 pub mod RecordsKnown
+pub mod CallRuns
 pub mod SimOutside
 pub mod SimPublish

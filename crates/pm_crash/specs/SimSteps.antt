@@ -1,5 +1,5 @@
 -- THE STEPS OF AN OPEN CALL: after each of them the lane knows no less of the bits before its call.
-use Rattle.std.specs.Prelude.{◌≡◌, ◌≢◌, ℕ, ◌<◌, Bool, true, false, List, []}
+use Rattle.std.specs.Prelude.{◌≡◌, ◌≢◌, ℕ, ◌<◌, Bool, true, false, List, [], ◌∷◌}
 use Rattle.pm_view.specs.Changes.{Undrained}
 use Rattle.pm_view.specs.Claims.{is_among, making}
 use Rattle.pm_view.specs.Entries.{Entry}
@@ -12,6 +12,7 @@ use Rattle.pm_view.specs.Views.{after}
 use Rattle.pm_world.specs.Laws.{Turn}
 use Rattle.pm_world.specs.Lawful.{IsLawful, is_guarded, offset_in}
 use Rattle.pm_world.specs.Memory.{Memory}
+use Rattle.pm_world.specs.Runs.{IsWorld, LaneStep, Leads, Moment}
 use Rattle.pm_world.specs.Sights.{is_recorded}
 use Rattle.pm_world.specs.Moves.{Moves}
 use Rattle.pm_world.specs.World.{Opening, Views, Past, World}
@@ -113,3 +114,21 @@ StepsKeepSims s = (o : Opening) (old mem : Memory) (views new : Views) (g : Past
     → ((kept : Bool) → GivesUpNothing (views k) kept s)
     → SameBits (views k) entries (after (views k) s) entries'
     → Sim (views k) entries → Sim (after (views k) s) entries'
+
+-- ---- ALONG A RUN, whatever steps other lanes make between those of the call
+
+-- the step of the lane goes on in its open call and gives up nothing
+pub record IsOfCall (v : View) (kept : Bool) (s : Step) : Type 0 where
+  pub is_open : v.log.phase ≡ Open
+  pub goes : goes_on v s ≡ true
+  pub keeps : GivesUpNothing v kept s
+
+unfoldable pub IsCallRun : Opening → ℕ → Bool → Moment → List LaneStep → Moment → Type 0
+IsCallRun o k kept old [] new = new ≡ old
+IsCallRun o k kept old (t ∷ rest) new = (next : Moment) × Leads o old t next
+    × (t.lane ≡ k → IsOfCall (old.views k) kept t.step) × IsCallRun o k kept next rest new
+
+abbrev pub RunsGrow : Type 0
+RunsGrow = (o : Opening) (k : ℕ) (kept : Bool) (turns : List LaneStep) (old new : Moment)
+    → IsWorld o old → k < o.lanes → IsCallRun o k kept old turns new
+    → Grows (old.views k) kept (new.views k) kept

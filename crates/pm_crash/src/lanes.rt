@@ -1,7 +1,7 @@
 ghost use Rattle.pm_crash.specs.Sim.{GrowthsCompose, SimBegins, SimGoesOn, SimIsKept, SimStays, TellsGrow};
 ghost use Rattle.pm_crash.specs.SimOps.{NoRootIsAsked, SimAborts, SimExtends, SimRefuses, SimWrites};
 ghost use Rattle.pm_crash.specs.SimRoots.{RootIsKnown};
-ghost use Rattle.pm_crash.specs.SimSteps.{QuietStepsGrow, QuietStepsKeepRecords, RecordsBegin, RecordsStayKnown, StepsGrow, StepsKeepSims, VoidingGrows};
+ghost use Rattle.pm_crash.specs.SimSteps.{QuietStepsGrow, QuietStepsKeepRecords, RecordsBegin, RecordsStayKnown, RunsGrow, StepsGrow, StepsKeepSims, VoidingGrows};
 ghost use Rattle.pm_view.specs.Steps.{Step};
 ghost use Rattle.pm_crash.specs.SimAllocs.{SimAllocates, SimFrees, SimPublishes, SimReserves};
 ghost use Rattle.pm_crash.specs.SimCommits.{SimCommits};
@@ -32,6 +32,7 @@ pub fn a_lane_follows_the_model()
 pub fn steps_of_a_call_keep_what_is_known()
     ensures grow { (step : Step) → StepsGrow step }
     ensures sims { (step : Step) → StepsKeepSims step }
+    ensures runs { RunsGrow }
     ensures voids { VoidingGrows }
     ensures records_begin { RecordsBegin }
     ensures records { (step : Step) → RecordsStayKnown step }

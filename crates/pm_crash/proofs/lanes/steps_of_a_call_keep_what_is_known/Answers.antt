@@ -1,3 +1,4 @@
+use Rattle.pm_crash.proofs.CallRuns.{runs_grow}
 use Rattle.pm_crash.proofs.RecordsKnown.{quiet_keeps_records, records_begin, records_stay_known}
 use Rattle.pm_crash.proofs.SimSteps.{steps_grow, steps_keep_sims, still, voiding_grows}
 use Rattle.pm_crash.proofs.lanes.steps_of_a_call_keep_what_is_known.Goals as goal
@@ -22,3 +23,6 @@ returns-clause-records c = records_stay_known
 
 pub returns-clause-quiet_records : goal.returns-clause-quiet_records
 returns-clause-quiet_records c = quiet_keeps_records
+
+pub returns-clause-runs : goal.returns-clause-runs
+returns-clause-runs c = runs_grow
