@@ -67,3 +67,4 @@ pub mod RecordsKnown
 pub mod CallRuns
 pub mod SimOutside
 pub mod SimPublish
+pub mod SimReads

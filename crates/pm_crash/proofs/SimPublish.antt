@@ -67,7 +67,7 @@ mapped Q f [] a = All-nil Q
 mapped Q f (e ∷ es) a = All-cons Q (f e) (map f es) (All-head (λ e. Q (f e)) e es a) (mapped Q f es (All-tail (λ e. Q (f e)) e es a))
 
 -- nothing is entered where nothing is recorded
-enters_none : (v : View) → v.log.records ≡ [] → Enters v []
+pub enters_none : (v : View) → v.log.records ≡ [] → Enters v []
 enters_none v none = record {
   makes = λ B m. absurd (no_make B m);
   frees = λ B f. absurd (no_turn B false f);

@@ -6,6 +6,7 @@ ghost use Rattle.pm_view.specs.Steps.{Step};
 ghost use Rattle.pm_crash.specs.SimAllocs.{SimAllocates, SimFrees, SimPublishes, SimReserves};
 ghost use Rattle.pm_crash.specs.SimCommits.{SimCommits};
 ghost use Rattle.pm_crash.specs.SimFacts.{SimsAreFacts};
+ghost use Rattle.pm_crash.specs.SimReads.{LoneReadsAreFacts};
 ghost use Rattle.pm_crash.specs.SimPublish.{PublicationsAreFacts, RefusedPublicationsAreFacts};
 ghost use Rattle.pm_crash.specs.SimOutside.{ActionsAreFacts, BareOutsidesAreFacts, OutsidesAreFacts};
 ghost use Rattle.pm_crash.specs.Looked.{ReadIs, RefusalIs};
@@ -77,11 +78,13 @@ pub fn transactions_have_facts()
 /// whatever bits it replies as the model says, and its bits hold what the model's operation makes
 /// of the pool. One that changes no object owes its reply alone; and what is asked of the pending
 /// list (reserve, a write to what is reserved, a deferred free, a word to be set, cancel) has its
-/// fact, done or refused, with no bits in it; so has a publish, done or refused. No code runs.
+/// fact, done or refused, with no bits in it; so have a publish, and reads of an object's usable
+/// size and type. No code runs.
 pub fn lone_operations_have_facts()
     ensures leads { OutsidesAreFacts }
     ensures bare { BareOutsidesAreFacts }
     ensures actions { ActionsAreFacts }
     ensures publishes { PublicationsAreFacts }
     ensures refused { RefusedPublicationsAreFacts }
+    ensures reads { LoneReadsAreFacts }
 {}
