@@ -60,9 +60,13 @@ pub mod FreeBlocks
 pub mod SimAllocs
 pub mod SimCommits
 pub mod Telling
+pub mod Composing
 pub mod SimRoots
 pub mod Growing
 pub mod StepKnows
 pub mod SimSteps
+pub mod RecordsKnown
+pub mod CallRuns
 pub mod SimOutside
 pub mod SimPublish
+pub mod SimReads

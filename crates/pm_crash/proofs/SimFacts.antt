@@ -1,9 +1,8 @@
 -- A transaction that is over, and came to what the model's transaction has, has its fact.
-use Rattle.std.proofs.Common.{◌≡◌, ◌≢◌, ◌⊎◌, ⊎_elim, inl, inr, ℕ, zero, suc, ◌+◌, ◌-◌, ◌/◌, ◌<◌, ◌≤◌, ◌&&◌, ◌||◌, ◌==◌, not, nat_le, Bool, true, false, cond, List, [], ◌∷◌, map, Option, Some, None, IsSome, refl, sym, ◌∙◌, ap, subst, arith}
-use Rattle.std.proofs.lemmas.Bool.{and_from, and_parts, both_ways, cases_eq, cond-false, eq-eqb, false_from_ne_true, le-leb, ne_eqb, or_cases, or_left, or_right}
+use Rattle.std.proofs.Common.{◌≡◌, ⊎_elim, inl, ℕ, zero, suc, ◌-◌, ◌&&◌, ◌||◌, not, nat_le, Bool, true, false, cond, List, [], ◌∷◌, map, Option, Some, None, IsSome, refl, sym, ◌∙◌, ap, subst}
+use Rattle.std.proofs.lemmas.Bool.{and_parts, both_ways, or_cases, or_left, or_right}
 use Rattle.pm_header.specs.declared.header.Header.{Header}
 use Rattle.pm_layout.specs.declared.shape.Shape.{Shape}
-use Rattle.pm_objects.specs.Pool.{block_lines}
 use Rattle.pm_objects.specs.declared.calls.Operation.{Operation}
 use Rattle.pm_objects.specs.declared.calls.Operation.TheVariants.{Abort, Commit}
 use Rattle.pm_objects.specs.declared.history.TxErr.{TxErr}
@@ -13,7 +12,7 @@ use Rattle.pm_objects.specs.declared.history.TxErr.TheVariants as error
 use Rattle.pm_objects.specs.declared.pool.PoolView.{PoolView}
 use Rattle.pm_model.specs.CallStep.{CallRun, Runs, TransactionStep, is_transaction}
 use Rattle.pm_model.specs.Inside.{Ran, after, after_reply, is_action}
-use Rattle.pm_model.specs.Items.{Item, Items, all_edited, plain_pool}
+use Rattle.pm_model.specs.Items.{Items, all_edited, plain_pool}
 use Rattle.pm_model.specs.Parts.{parts_inside}
 use Rattle.pm_model.specs.Pending.{Pending, set_edits}
 use Rattle.pm_model.specs.Refusals.{Seen}
@@ -23,25 +22,23 @@ use Rattle.pm_model.specs.declared.stage.Stage.TheVariants as stage
 use Rattle.pm_view.specs.Entries.{latest, turn}
 use Rattle.pm_view.specs.Places.{Place, InRun, InHuge, Descr, RootWord, Block, Small, Big, Root, block_of, is_data}
 use Rattle.pm_view.specs.View.{Told, View}
-use Rattle.pm_world.specs.Lanes.{is_occupancy}
 use Rattle.pm_world.specs.Sights.{is_made, is_recorded, picture}
 use Rattle.pm_world.specs.States.{State as Bits, Diff, given}
-use Rattle.pm_world.proofs.Replays.{over_none}
 use Rattle.pm_crash.specs.Calls.{IsRunOf, pending_after, pending_of, state_of, told_by}
 use Rattle.pm_crash.specs.Facts.{HasEffect, state_with}
 use Rattle.pm_crash.specs.Footprints.{MayPrecede, geometry_of, has_found, has_own}
 use Rattle.pm_crash.specs.Freshness.{root_told}
 use Rattle.pm_crash.specs.HeapChanges.{ChangesHeap, Frees, Makes}
-use Rattle.pm_crash.specs.Looked.{ChangesAt, Enters, IsChanged, KnowsWord}
-use Rattle.pm_crash.specs.Objects.{is_allocated, item_of, lines_of, offset_of}
+use Rattle.pm_crash.specs.Looked.{ChangesAt, Enters, IsChanged}
+use Rattle.pm_crash.specs.Objects.{item_of}
 use Rattle.pm_crash.specs.OpenRuns.{AreReplies, after_told, no_pool}
 use Rattle.pm_crash.specs.Sim.{Agrees, Came, Sim, bits_now, change_so_far, copy_of, is_kept_block, tx_with}
 use Rattle.pm_crash.specs.SimFacts.{CallsWithoutEntriesAreOver, CallsWithoutEntriesHaveFacts, CallsWithoutLogAreOver, EndsTransaction, IsOver, IsSized, SimsAreFacts, TransactionsEnd, is_begun, lists_after}
-use Rattle.pm_crash.specs.Spelled.{Holds, number, words_by}
+use Rattle.pm_crash.specs.Spelled.{Holds, number}
 use Rattle.pm_crash.proofs.Effects.{effects_are_facts}
 use Rattle.pm_crash.proofs.OpenPools.{pending_so, root_stays}
 use Rattle.pm_crash.proofs.OpenRuns.{are_runs, told_once_more}
-use Rattle.pm_crash.proofs.OwnEntries.{changes_blocks, descriptors, kept_is_own}
+use Rattle.pm_crash.proofs.OwnEntries.{kept_is_own}
 use Rattle.pm_crash.proofs.Simulation.{no_turn, now_is}
 use Rattle.pm_crash.proofs.SimHeap as good
 

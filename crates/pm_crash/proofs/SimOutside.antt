@@ -213,7 +213,7 @@ module _ (op : Operation) (s : Outside) (none : (off : ℕ) → outside.edits_of
     root = root off i;
   }
 
-  left_same : (reply : Option Value) → (after_reply_outside op reply s).pool ≡ s.pool
+  pub left_same : (reply : Option Value) → (after_reply_outside op reply s).pool ≡ s.pool
   left_same None = done_same 0
   left_same (Some (value.Offset off)) = done_same off
   left_same (Some (value.Number n)) = done_same 0

@@ -1,21 +1,23 @@
 -- A publish outside a transaction has its fact.
-use Rattle.std.proofs.Common.{◌≡◌, ℕ, ◌+◌, ◌==◌, ◌||◌, not, Bool, true, false, All, List, [], ◌∷◌, ◌++◌, map, Option, Some, None, IsSome, refl, sym, ap, ◌∙◌, subst}
+use Rattle.std.proofs.Common.{◌≡◌, ⊎_elim, ℕ, ◌+◌, ◌==◌, ◌||◌, not, Bool, true, false, cond, All, List, [], ◌∷◌, ◌++◌, map, Option, Some, None, IsSome, refl, sym, ap, ◌∙◌, subst}
 use Rattle.std.specs.Prelude.{MatchOption}
 use Rattle.std.specs.List.{list_any}
 use Rattle.std.proofs.lemmas.Bool.{both_ways}
+use Rattle.std.proofs.lemmas.Option.{none-some}
 use Rattle.std.proofs.lemmas.List.Elements.{All-append, All-cons, All-head, All-nil, All-tail}
 use Rattle.pm_header.specs.declared.header.Header.{Header}
 use Rattle.pm_objects.specs.declared.calls.Operation.TheVariants.{Publish}
 use Rattle.pm_objects.specs.declared.calls.Want.{Want}
 use Rattle.pm_objects.specs.declared.ids.Oid.{Oid}
 use Rattle.pm_objects.specs.declared.pool.PoolView.{PoolView}
+use Rattle.pm_objects.specs.declared.refusal.Refusal.{Refusal}
 use Rattle.pm_objects.specs.declared.refusal.Refusal.TheVariants as refusal
 use Rattle.pm_model.specs.Inside.{IsRefused, Ran}
 use Rattle.pm_model.specs.Items.{Item, Items, PlainPool, all_edited, freed_item, is_root, made_item, plain_pool, size_of}
-use Rattle.pm_model.specs.Outside.{IsDoneOutside, RepliesOutside, after_reply_outside, is_outside, refusal_outside, tests_outside}
+use Rattle.pm_model.specs.Outside.{IsDoneOutside, RepliesOutside, after_reply_outside, found_tests, is_outside, late_tests, refusal_outside, tests_outside}
 use Rattle.pm_model.specs.Pending.{Pending, SetWord, block_edits, blocks_reserved, passes_object, set_edits, want_to_write, wants_pending}
 use Rattle.pm_model.specs.Places.{has_place}
-use Rattle.pm_model.specs.Refusals.{first_of, is_listed}
+use Rattle.pm_model.specs.Refusals.{Seen, Test, first_of, is_listed}
 use Rattle.pm_model.proofs.Lists.{each_weaker, none_applies, none_pass}
 use Rattle.pm_model.proofs.SoundTransactions.{edits_append}
 use Rattle.pm_view.specs.Entries.{turn}
@@ -31,8 +33,8 @@ use Rattle.pm_crash.specs.Sim.{Agrees, StandIn, bits_now, change_so_far}
 use Rattle.pm_crash.specs.SimBlocks.{object_edits}
 use Rattle.pm_crash.specs.SimCommits.{Setting}
 use Rattle.pm_crash.specs.SimOps.{Finds}
-use Rattle.pm_crash.specs.SimOutside.{LeadsOutside, outside_before, pool_after}
-use Rattle.pm_crash.specs.SimPublish.{IsLonePublication, PublicationsAreFacts, publish_refusal}
+use Rattle.pm_crash.specs.SimOutside.{LeadsOutside, LeavesPool, outside_before, pool_after}
+use Rattle.pm_crash.specs.SimPublish.{IsLateRefusal, IsLonePublication, IsRefusedPublication, LooksToPublish, PublicationsAreFacts, RefusedPublicationsAreFacts, early_refusal, publish_refusal}
 use Rattle.pm_crash.specs.SimRoots.{SawRoot}
 use Rattle.pm_crash.specs.Spelled.{Holds}
 use Rattle.pm_crash.proofs.FreeBlocks.{are_free}
@@ -43,7 +45,7 @@ use Rattle.pm_crash.proofs.SceneSteps.{scenes_begin}
 use Rattle.pm_crash.proofs.SimBlocks.{objects_changed}
 use Rattle.pm_crash.proofs.SimCommits.{sets_now}
 use Rattle.pm_crash.proofs.SimHeap as good
-use Rattle.pm_crash.proofs.SimOutside.{outsides_are_facts}
+use Rattle.pm_crash.proofs.SimOutside.{bare_outsides_are_facts, outsides_are_facts}
 use Rattle.pm_crash.proofs.SimRoots.{same_root}
 use Rattle.pm_crash.proofs.Simulation.{nothing_yet}
 
@@ -65,7 +67,7 @@ mapped Q f [] a = All-nil Q
 mapped Q f (e ∷ es) a = All-cons Q (f e) (map f es) (All-head (λ e. Q (f e)) e es a) (mapped Q f es (All-tail (λ e. Q (f e)) e es a))
 
 -- nothing is entered where nothing is recorded
-enters_none : (v : View) → v.log.records ≡ [] → Enters v []
+pub enters_none : (v : View) → v.log.records ≡ [] → Enters v []
 enters_none v none = record {
   makes = λ B m. absurd (no_make B m);
   frees = λ B f. absurd (no_turn B false f);
@@ -85,19 +87,19 @@ enters_none v none = record {
     no_make : (B : Block) → Makes (change_so_far v []) B → ⊥
     no_make B m = no_turn B true m
 
-module _ (v : View) (ran : Ran) (y : IsLonePublication v ran) (classes : ℕ → ℕ) (s : State) (header : Header) (pool : PoolView)
+module _ (v : View) (seen : Seen) (value : ℕ) (looks : LooksToPublish v value) (none : v.log.records ≡ []) (classes : ℕ → ℕ) (s : State) (header : Header) (pool : PoolView)
     (agrees : Agrees classes v true s) (holds : Holds v.fixed.shape classes s header pool) (id : header.id ≡ v.fixed.pool) where
-  abbrev p : Pending
-  p = pending_of v.entries
+  abbrev pends : Pending
+  pends = pending_of v.entries
 
-  abbrev items : Items
-  items = (plain_pool pool).items
+  abbrev stock : Items
+  stock = (plain_pool pool).items
 
-  none_entered : Enters v []
-  none_entered = enters_none v y.records
+  pub none_entered : Enters v []
+  none_entered = enters_none v none
 
-  begun : StandIn v.fixed.shape classes (bits_now v [] s) items
-  begun = subst (λ (t : State). StandIn v.fixed.shape classes t items) (λ i q b. ap (λ o. Rattle.pm_world.specs.States.over o (s q b)) (sym (nothing_yet v y.records q b)) i)
+  pub begun : StandIn v.fixed.shape classes (bits_now v [] s) stock
+  begun = subst (λ (t : State). StandIn v.fixed.shape classes t stock) (λ i q b. ap (λ o. Rattle.pm_world.specs.States.over o (s q b)) (sym (nothing_yet v none q b)) i)
       (scenes_begin v.fixed.shape classes s header pool holds)
 
   -- ---- ITS FIRST REFUSAL
@@ -106,46 +108,60 @@ module _ (v : View) (ran : Ran) (y : IsLonePublication v ran) (classes : ℕ →
   pool_id = ap (λ (q : PoolView). q.id) holds.is_pool ∙ id
 
   seen_pool : PlainPool
-  seen_pool = record (pool_seen v (root_told y.value)) { items = items_seen v }
+  seen_pool = record (pool_seen v (root_told value)) { items = items_seen v }
 
-  root_so : All (λ (i : Oid). is_root (plain_pool pool).root i.off ≡ is_root (root_told y.value) i.off) p.frees
-  root_so = all_so (λ (i : Oid). SawRoot v y.value i.off) (λ (i : Oid). is_root (plain_pool pool).root i.off ≡ is_root (root_told y.value) i.off)
-      (λ i saw. ap (λ r. is_root r i.off) (root_is_told v.fixed.shape classes s header pool holds) ∙ same_root v classes _ s agrees y.value i.off saw) p.frees y.looks.roots
+  root_so : All (λ (i : Oid). is_root (plain_pool pool).root i.off ≡ is_root (root_told value) i.off) pends.frees
+  root_so = all_so (λ (i : Oid). SawRoot v value i.off) (λ (i : Oid). is_root (plain_pool pool).root i.off ≡ is_root (root_told value) i.off)
+      (λ i saw. ap (λ r. is_root r i.off) (root_is_told v.fixed.shape classes s header pool holds) ∙ same_root v classes _ s agrees value i.off saw) pends.frees looks.roots
 
-  size_is : All (λ (a : SetWord). passes_object items a ≡ passes_object (items_seen v) a) p.sets
-  size_is = all_so (λ (a : SetWord). KnowsSize v [] a.id.off) (λ (a : SetWord). passes_object items a ≡ passes_object (items_seen v) a)
+  size_is : All (λ (a : SetWord). passes_object stock a ≡ passes_object (items_seen v) a) pends.sets
+  size_is = all_so (λ (a : SetWord). KnowsSize v [] a.id.off) (λ (a : SetWord). passes_object stock a ≡ passes_object (items_seen v) a)
       (λ a k. ap (λ n. Rattle.std.specs.Prelude.nat_lt n (a.off + 8))
-      (size_so v [] true classes s header pool holds agrees none_entered items begun a.id.off k ∙ sym (seen_size (size_seen v a.id.off) k.size k.seen))) p.sets y.looks.sets
+      (size_so v [] true classes s header pool holds agrees none_entered stock begun a.id.off k ∙ sym (seen_size (size_seen v a.id.off) k.size k.seen))) pends.sets looks.sets
 
-  unlisted_so : All (λ (i : Oid). is_listed items i.off ≡ is_listed (items_seen v) i.off) p.frees
-  unlisted_so = every (λ (i : Oid). is_listed items i.off ≡ is_listed (items_seen v) i.off)
-      (λ i. unlisted v [] true classes s header pool holds agrees none_entered items begun i.off ∙ sym (seen_is_unlisted v i.off)) p.frees
+  unlisted_so : All (λ (i : Oid). is_listed stock i.off ≡ is_listed (items_seen v) i.off) pends.frees
+  unlisted_so = every (λ (i : Oid). is_listed stock i.off ≡ is_listed (items_seen v) i.off)
+      (λ i. unlisted v [] true classes s header pool holds agrees none_entered stock begun i.off ∙ sym (seen_is_unlisted v i.off)) pends.frees
 
-  alike : refusal_outside ran.seen (outside_before v (plain_pool pool)) Publish ≡ publish_refusal ran.seen v (root_told y.value)
+  pub alike : refusal_outside seen (outside_before v (plain_pool pool)) Publish ≡ publish_refusal seen v (root_told value)
   alike =
       let lanes = ap (λ (q : PoolView). q.lanes) holds.is_pool in
       let zones = ap (λ (q : PoolView). q.zones) holds.is_pool in
-      let roots = any_same (λ (d : Oid). is_root (plain_pool pool).root d.off) (λ (d : Oid). is_root (root_told y.value) d.off) p.frees root_so in
-      let listed = any_same (λ (d : Oid). is_listed items d.off) (λ (d : Oid). is_listed (items_seen v) d.off) p.frees unlisted_so in
-      let passes = any_same (passes_object items) (passes_object (items_seen v)) p.sets size_is in
+      let roots = any_same (λ (d : Oid). is_root (plain_pool pool).root d.off) (λ (d : Oid). is_root (root_told value) d.off) pends.frees root_so in
+      let listed = any_same (λ (d : Oid). is_listed stock d.off) (λ (d : Oid). is_listed (items_seen v) d.off) pends.frees unlisted_so in
+      let passes = any_same (passes_object stock) (passes_object (items_seen v)) pends.sets size_is in
       λ i. first_of (
-      (refusal.Spent, ran.seen.spent)
-      ∷ (refusal.NoObject, list_any (λ (w : Want). not (has_place (record (plain_pool pool) { id = pool_id i; lanes = lanes i; zones = zones i }) w.id)) (wants_pending p))
-      ∷ (refusal.NoObject, list_any (λ (w : Want). Rattle.pm_model.specs.Items.is_among ran.seen.missing w.id.off) (wants_pending p))
-      ∷ (refusal.NoObject, p.late)
+      (refusal.Spent, seen.spent)
+      ∷ (refusal.NoObject, list_any (λ (w : Want). not (has_place (record (plain_pool pool) { id = pool_id i; lanes = lanes i; zones = zones i }) w.id)) (wants_pending pends))
+      ∷ (refusal.NoObject, list_any (λ (w : Want). Rattle.pm_model.specs.Items.is_among seen.missing w.id.off) (wants_pending pends))
+      ∷ (refusal.NoObject, pends.late)
       ∷ (refusal.RootKept, roots i)
       ∷ (refusal.Listed, listed i)
       ∷ (refusal.OutOfRange, passes i)
       ∷ []
       )
 
+module _ (v : View) (ran : Ran) (y : IsLonePublication v ran) (classes : ℕ → ℕ) (s : State) (header : Header) (pool : PoolView)
+    (agrees : Agrees classes v true s) (holds : Holds v.fixed.shape classes s header pool) (id : header.id ≡ v.fixed.pool) where
+  abbrev p : Pending
+  p = pending_of v.entries
+
+  abbrev items : Items
+  items = (plain_pool pool).items
+
+  nothing : Enters v []
+  nothing = none_entered v ran.seen y.value y.looks y.records classes s header pool agrees holds id
+
+  starts : StandIn v.fixed.shape classes (bits_now v [] s) items
+  starts = begun v ran.seen y.value y.looks y.records classes s header pool agrees holds id
+
   unrefused : refusal_outside ran.seen (outside_before v (plain_pool pool)) Publish ≡ None
-  unrefused = alike ∙ y.unrefused
+  unrefused = alike v ran.seen y.value y.looks y.records classes s header pool agrees holds id ∙ y.unrefused
 
   -- ---- ITS REPLY
 
   there : (B : Block) (off : ℕ) → Rattle.pm_crash.specs.Looked.IsObject v [] B → Rattle.pm_crash.specs.Sim.known_offset v B ≡ off → IsSome (items off)
-  there B off o at = ap Rattle.std.specs.Prelude.is_some (item_so v [] true classes s header pool holds agrees none_entered items begun B off o at)
+  there B off o at = ap Rattle.std.specs.Prelude.is_some (item_so v [] true classes s header pool holds agrees nothing items starts B off o at)
 
   done : IsDoneOutside (outside_before v (plain_pool pool)) Publish ran.seen ran.reply
   done = record {
@@ -177,7 +193,7 @@ module _ (v : View) (ran : Ran) (y : IsLonePublication v ran) (classes : ℕ →
 
   stands : StandIn v.fixed.shape classes (bits_now v v.log.entries s) final
   stands = sets_now v v y.entered v.log.entries y.settings y.sets true classes s header pool holds agrees y.changes.enters changed
-      (objects_changed v v [] y.entered y.olds y.news y.changes true true classes s header pool holds agrees agrees none_entered items begun)
+      (objects_changed v v [] y.entered y.olds y.news y.changes true true classes s header pool holds agrees agrees nothing items starts)
 
   final_is : final ≡ all_edited (block_edits p ++ set_edits p.sets) items
   final_is = (λ i. all_edited (set_edits (y.are i)) (all_edited (y.freed i ++ y.made i) items)) ∙ sym (edits_append (block_edits p) (set_edits p.sets) items)
@@ -206,3 +222,44 @@ module _ (v : View) (ran : Ran) (y : IsLonePublication v ran) (classes : ℕ →
 
 pub publications_are_facts : PublicationsAreFacts
 publications_are_facts v ran y = outsides_are_facts v ran y.lone (λ classes s header pool agrees holds id. leads v ran y classes s header pool agrees holds id)
+
+-- ---- ONE THAT IS REFUSED
+
+by_test : (q : Bool) (a b c : Option Refusal) (r : Refusal) → (b ≡ Some r → c ≡ Some r) → cond q a b ≡ Some r → cond q a c ≡ Some r
+by_test true a b c r f e = e
+by_test false a b c r f e = f e
+
+first_some : (xs ys : List Test) (r : Refusal) → first_of xs ≡ Some r → first_of (xs ++ ys) ≡ Some r
+unfolding first_of
+first_some [] ys r e = absurd (none-some r e)
+first_some (x ∷ xs) ys r e = by_test x.1 (Some x.0) (first_of xs) (first_of (xs ++ ys)) r (λ z. first_some xs ys r z) e
+
+module _ (v : View) (ran : Ran) (y : IsRefusedPublication v ran) (classes : ℕ → ℕ) (s : State) (header : Header) (pool : PoolView)
+    (agrees : Agrees classes v true s) (holds : Holds v.fixed.shape classes s header pool) (id : header.id ≡ v.fixed.pool) where
+  early : early_refusal ran.seen v ≡ Some y.refusal → refusal_outside ran.seen (outside_before v (plain_pool pool)) Publish ≡ Some y.refusal
+  early e =
+      let same : pool.id ≡ v.fixed.pool = ap (λ (q : PoolView). q.id) holds.is_pool ∙ id in
+      let lanes = ap (λ (q : PoolView). q.lanes) holds.is_pool in
+      let zones = ap (λ (q : PoolView). q.zones) holds.is_pool in
+      first_some ((refusal.Spent, ran.seen.spent) ∷ found_tests ran.seen (plain_pool pool) (wants_pending (pending_of v.entries)))
+      (late_tests ran.seen (plain_pool pool) (pending_of v.entries) Publish) y.refusal
+      ((λ i. first_of ((refusal.Spent, ran.seen.spent) ∷ found_tests ran.seen (record (plain_pool pool) { id = same i; lanes = lanes i; zones = zones i }) (wants_pending (pending_of v.entries)))) ∙ e)
+
+  first : refusal_outside ran.seen (outside_before v (plain_pool pool)) Publish ≡ Some y.refusal
+  first = ⊎_elim early
+      (λ (l : IsLateRefusal v ran.seen y.refusal). alike v ran.seen l.value l.looks y.bare.records classes s header pool agrees holds id ∙ l.first)
+      y.looked
+
+  pub refused_leaves : LeavesPool v ran (plain_pool pool)
+  refused_leaves = record {
+    replies = record {
+      outside = ap is_outside y.publishes;
+      reply = subst (λ op. MatchOption (refusal_outside ran.seen (outside_before v (plain_pool pool)) op) (IsDoneOutside (outside_before v (plain_pool pool)) op ran.seen ran.reply) (λ r. IsRefused r ran.reply)) (sym y.publishes)
+          (subst (λ o. MatchOption o (IsDoneOutside (outside_before v (plain_pool pool)) Publish ran.seen ran.reply) (λ r. IsRefused r ran.reply)) (sym first) y.refused);
+    };
+    same = ap (λ r. (after_reply_outside ran.operation r (outside_before v (plain_pool pool))).pool) y.refused.replied;
+  }
+
+pub refused_publications_are_facts : RefusedPublicationsAreFacts
+refused_publications_are_facts v ran y = bare_outsides_are_facts v ran y.lone y.bare
+    (λ classes s header pool agrees holds id. refused_leaves v ran y classes s header pool agrees holds id)

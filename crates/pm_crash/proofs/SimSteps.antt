@@ -1,15 +1,15 @@
 -- EACH STEP OF AN OPEN CALL leaves the lane that makes it knowing no less.
-use Rattle.std.proofs.Common.{◌≡◌, ◌≢◌, ◌⊎◌, inl, inr, ⊎_elim, ℕ, zero, suc, ◌+◌, ◌*◌, ◌<◌, ◌/◌, ◌==◌, ◌&&◌, ◌||◌, not, Bool, true, false, cond, List, [], ◌∷◌, ◌++◌, length, Option, None, Some, refl, sym, ap, ◌∙◌, subst, arith, eq-eqb, ne_eqb}
+use Rattle.std.proofs.Common.{◌≡◌, ◌≢◌, ◌⊎◌, inl, inr, ⊎_elim, ℕ, zero, suc, ◌+◌, ◌*◌, ◌<◌, ◌≤◌, ◌/◌, ◌%◌, nat_le, nat_lt, ◌==◌, ◌&&◌, ◌||◌, not, Bool, true, false, cond, List, [], ◌∷◌, ◌++◌, length, Option, None, Some, refl, sym, ap, ◌∙◌, subst, arith, eq-eqb, ne_eqb}
 use Rattle.std.specs.Option.{option_map}
 use Rattle.std.specs.List.{list_any}
 use Rattle.pm_model.specs.Blocks.{Block as Placed}
-use Rattle.std.proofs.lemmas.Bool.{and_from, and_parts, both_ways, cases_Bool, cond-false, cond-true, eqb-true, false_from_ne_true, leb-true, ltb-true, or_left, or_right}
+use Rattle.std.proofs.lemmas.Bool.{and_from, and_parts, both_ways, cases_Bool, cond-false, cond-true, eqb-true, false_from_ne_true, le-leb, leb-true, lt-ltb, ltb-true, or_left, or_right}
 use Rattle.pm_layout.specs.declared.shape.Shape.{Shape}
-use Rattle.pm_layout.specs.Chunks.{word_of_chunk}
+use Rattle.pm_layout.specs.Chunks.{chunks_of, word_of_chunk}
 use Rattle.pm_view.specs.declared.occ.Occ.{Occ}
 use Rattle.pm_view.specs.declared.occ.Occ.TheVariants.{Run, Zone}
 use Rattle.pm_view.specs.Changes.{Undrained, drained, flushed}
-use Rattle.pm_view.specs.Claims.{Claim, Took, Raised, Gave, SawDescriptor, SawBitmap, Reserved, Released, Marked, Drained, Knows, becomes, block_at, class, first, found, header_in, holds, is_among, is_block_of, is_new, is_new_by, locked, making, mine, passes, pictured, reads, shown_by_bitmap, shown_by_descriptor, span}
+use Rattle.pm_view.specs.Claims.{Claim, Took, Raised, Gave, SawDescriptor, SawBitmap, Reserved, Released, Marked, Drained, Knows, becomes, block_at, class, first, found, header_in, holds, is_among, is_block_of, is_new, is_new_by, locked, lowest, making, mine, passes, pictured, reads, shown_by_bitmap, shown_by_descriptor, span}
 use Rattle.pm_view.specs.Log.{Phase, Open, Voiding, Log, log_drained, log_stored, old_of, recorded, with_pair}
 use Rattle.pm_view.specs.Parts.{Part, GenerationPart, SealPart, EntryPart, SlotPart, RootPart, DescriptorPart, ChunkPart, OtherPart}
 use Rattle.pm_view.specs.Places.{Place, InRun, InHuge, Descr, RootWord, Block, Small, Big, Root, is_data, part, word_of}
@@ -20,7 +20,7 @@ use Rattle.pm_view.specs.Views.{after, begun, changed, claims_drained, decided_b
 use Rattle.pm_world.specs.States.{there}
 use Rattle.pm_world.specs.Sights.{is_pictured, is_recorded, picture, sight_of}
 use Rattle.pm_world.specs.Lawful.{ChangeFits, StoreFits}
-use Rattle.pm_world.specs.Memory.{Memory, PoolWord, bit}
+use Rattle.pm_world.specs.Memory.{Memory, PoolWord, ZoneWord, bit}
 use Rattle.pm_world.specs.Logs.{AreRestored, PhaseFits}
 use Rattle.pm_view.specs.Entries.{first_of_two}
 use Rattle.pm_world.specs.Course.{past_after, past_decided, past_drained, past_made, past_stored}
@@ -29,6 +29,8 @@ use Rattle.pm_world.proofs.BlockLines.{classes_stay}
 use Rattle.pm_world.proofs.EveryStep.{every_step}
 use Rattle.pm_world.proofs.Looks.{passed}
 use Rattle.pm_world.proofs.Recording.{recorded_more}
+use Rattle.pm_world.proofs.RowBits.{lowest_row, row_bit}
+use Rattle.pm_world.proofs.WordPlaces.{clear_bit}
 use Rattle.pm_crash.specs.Footprints.{bit_before, has_found, has_own}
 use Rattle.pm_crash.specs.Roots.{saw_root}
 use Rattle.pm_crash.specs.Sim.{Grows, IsInObject, blocks_kept, is_kept_block, known_offset, sees_at}
@@ -437,6 +439,33 @@ module _ (o : Opening) (old mem : Memory) (views new : Views) (g : Past) (k : �
     store_by RootPart f is = plain_store w n may (views k).claims unmarked changes calls (views k).log is refl
     store_by OtherPart f is = plain_store w n may (views k).claims unmarked changes calls (views k).log is refl
 
+-- ---- WHAT IS GOT was no lane's own before
+module _ (o : Opening) (old mem : Memory) (views new : Views) (g : Past) (k : ℕ) (zone bits : ℕ) (y : IsStep o old mem views new g k (Occupy (Zone zone) bits true)) where
+  got_new : (f : ℕ) → has_own (views k) (Big f) ≡ true → is_block_of (views k).fixed.shape (Zone zone) bits (Big f) ≡ false
+  got_new f m = false_from_ne_true (is_block_of (views k).fixed.shape (Zone zone) bits (Big f)) (λ e.
+      let one = y.lawful.allowed.one in
+      let low : lowest 64 bits ≡ one.0 = ap (lowest 64) one.4 ∙ lowest_row 64 one.0 one.1 one.2 one.3 in
+      let some = one.2 in
+      let room = one.3 in
+      let at : f ≡ 64 * zone + lowest 64 bits = eqb-true f (64 * zone + lowest 64 bits) e in
+      let index : f % 64 ≡ one.0 = omega arith in
+      let page : f / 64 ≡ zone = omega arith in
+      let set : bit bits (f % 64) ≡ true = ap (λ i. bit bits i) index ∙ (ap (λ w. bit w one.0) one.4 ∙ (row_bit one.0 one.1 one.0
+      ∙ and_from (nat_le one.0 one.0) (nat_lt one.0 (one.0 + one.1)) (le-leb one.0 one.0 (omega arith)) (lt-ltb one.0 (one.0 + one.1) (omega arith)))) in
+      let inside : zone < o.shape.zones = subst (λ (sh : Shape). zone < sh.zones) (y.world.each_lane k y.runs).shape y.lawful.allowed.there in
+      let clear : bit (old (ZoneWord (f / 64))) (f % 64) ≡ false = ap (λ q. bit (old (ZoneWord q)) (f % 64)) page ∙ clear_bit (old (ZoneWord zone)) bits (f % 64) y.moves.1 set in
+      let h = (y.world.bits.each_lane k).hold.mine (Big f) m in
+      let taken = y.world.bits.occ (Big f) (lt-ltb f (chunks_of o.shape) (omega arith)) in
+      both_ways (bit (old (ZoneWord (f / 64))) (f % 64)) clear
+      (taken ∙ or_right (g.runs f) (there (settled_words o g) (Big (g.geo.first f)) || not (g.holder (Big (g.geo.first f)) == 0))
+      (or_right (there (settled_words o g) (Big (g.geo.first f))) (not (g.holder (Big (g.geo.first f)) == 0))
+      (ap not (ne_eqb (g.holder (Big (g.geo.first f))) 0 (λ z. let held : g.holder (Big (g.geo.first f)) ≡ suc k = ap (λ n. g.holder (Big n)) (eqb-true (g.geo.first f) f h.1) ∙ h.0 in omega arith))))))
+
+got : (o : Opening) (old mem : Memory) (views new : Views) (g : Past) (k : ℕ) (at : Occ) (bits : ℕ) → IsStep o old mem views new g k (Occupy at bits true)
+    → (f : ℕ) → has_own (views k) (Big f) ≡ true → is_block_of (views k).fixed.shape at bits (Big f) ≡ false
+got o old mem views new g k (Run place) bits y f m = refl
+got o old mem views new g k (Zone zone) bits y f m = got_new o old mem views new g k zone bits y f m
+
 -- ---- EVERY STEP
 
 no_change : (v : View) (how : Rattle.pm_record.specs.declared.redo.Op.Op) (w bits : ℕ) (part : Part) → v.log.phase ≡ Open → ChangeFits v how w bits v.log.phase part → ⊥
@@ -493,7 +522,7 @@ steps_grow (Give line) o old mem views new g k kept y u = gave o old mem views n
 steps_grow (ZoneTry zone won) o old mem views new g k kept y u = still (views k) kept (views k).changes (views k).calls (views k).occupancy (Rattle.pm_view.specs.Views.zone_taken won zone (views k).zones) (ZoneTry zone won ∷ (views k).seen)
 steps_grow (ZoneGive zone) o old mem views new g k kept y u = still (views k) kept (views k).changes (views k).calls (views k).occupancy (after (views k) (ZoneGive zone)).zones (views k).seen
 steps_grow (Occupied at found) o old mem views new g k kept y u = still (views k) kept (views k).changes (views k).calls (record { at = at; bits = found } ∷ (views k).occupancy) (views k).zones (views k).seen
-steps_grow (Occupy at bits true) o old mem views new g k kept y u = occupied_ o old mem views new g k kept (Occupy at bits true) y at bits (after (views k) (Occupy at bits true)).occupancy refl u
+steps_grow (Occupy at bits true) o old mem views new g k kept y u = occupied_ o old mem views new g k kept (Occupy at bits true) y at bits (after (views k) (Occupy at bits true)).occupancy refl (λ f m. got o old mem views new g k at bits y f (kept_own (views k) kept (Big f) m))
 steps_grow (Occupy at bits false) o old mem views new g k kept y u = still (views k) kept (views k).changes (views k).calls (views k).occupancy (views k).zones (Occupy at bits false ∷ (views k).seen)
 steps_grow (Vacate at bits) o old mem views new g k kept y u = vacated_ o old mem views new g k kept (Vacate at bits) y at bits (after (views k) (Vacate at bits)).occupancy refl u
 steps_grow (Draw n) o old mem views new g k kept y u = absurd (both_ways false refl y.goes)
@@ -542,6 +571,27 @@ module _ (o : Opening) (old mem : Memory) (views new : Views) (g : Past) (k : �
       by None q e = e
       by (Some n) q e = fits p n b q ∙ e
 
+  -- and known to be objects'
+  objects : (p : Place) (b : ℕ) → sees_at (views k) p b ≡ true → is_recorded (views k).log.records p ≡ true → IsInObject (Left [] (log_drained Voiding (views k).log)) p
+  objects (InRun c w) b s r = let z = y.known.objects (InRun c w) b s r in record {
+    of_block = z.of_block;
+    size = z.size;
+    small = z.small;
+    has_line = z.has_line;
+    sees = z.sees;
+    sized = λ d l. restored (Rattle.pm_crash.specs.Sim.size_place (views k) (InRun c w)) d (bit z.size d) (z.sized d l);
+  }
+  objects (InHuge c w) b s r = let z = y.known.objects (InHuge c w) b s r in record {
+    of_block = z.of_block;
+    size = z.size;
+    small = z.small;
+    has_line = z.has_line;
+    sees = z.sees;
+    sized = λ d l. restored (Rattle.pm_crash.specs.Sim.size_place (views k) (InHuge c w)) d (bit z.size d) (z.sized d l);
+  }
+  objects (Descr c) b s r = absurd (both_ways false refl (y.known.objects (Descr c) b s r).of_block)
+  objects RootWord b s r = absurd (both_ways false refl (y.known.objects RootWord b s r).of_block)
+
   voided : (left : List Undrained) → after (views k) Drain ≡ drained_to (views k) left → Grows (views k) kept (after (views k) Drain) kept
   voided (c ∷ left) is = grown_to (c ∷ left) (views k).log is (λ p b s r. inl r) (λ p b z s e. e)
   voided [] is =
@@ -552,7 +602,7 @@ module _ (o : Opening) (old mem : Memory) (views new : Views) (g : Past) (k : �
         log = log_drained ph (views k).log;
       } in
       let so : after (views k) Drain ≡ drains Voiding = is ∙ ap drains y.voids in
-      grown_to [] (log_drained Voiding (views k).log) so (λ p b s r. inr (subst (λ (w : View). IsInObject w p) so (y.objects p b s r)))
+      grown_to [] (log_drained Voiding (views k).log) so (λ p b s r. inr (objects p b s r))
       (λ p b z s e. restored p b z e)
 
 pub voiding_grows : VoidingGrows

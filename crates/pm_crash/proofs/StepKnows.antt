@@ -140,13 +140,13 @@ module _ (o : Opening) (mem : Memory) (views : Views) (g : Past) (x : World o me
   abbrev v : View
   v = views k
 
-  fit : (j : ℕ) → SightFits o.shape (cells_of o.shape mem) (settled_words o g) (Flies (ghost_of g) j) (ghost_of g) j (sight_of (views j))
+  pub fit : (j : ℕ) → SightFits o.shape (cells_of o.shape mem) (settled_words o g) (Flies (ghost_of g) j) (ghost_of g) j (sight_of (views j))
   fit j = x.bits.each_lane j
 
   shape_is : (views k).fixed.shape ≡ o.shape
   shape_is = (x.each_lane k ink).shape
 
-  first_is : (c : ℕ) → has_found (views k) (Big (first (views k).fixed.shape (views k).claims c)) ≡ true → first (views k).fixed.shape (views k).claims c ≡ g.geo.first c
+  pub first_is : (c : ℕ) → has_found (views k) (Big (first (views k).fixed.shape (views k).claims c)) ≡ true → first (views k).fixed.shape (views k).claims c ≡ g.geo.first c
   first_is c f = first_so o.shape (cells_of o.shape mem) (settled_words o g) (Flies (ghost_of g) k) (ghost_of g) x.bits.geo k (views k) (views k).log.phase (fit k) c
       (found_has (sight_of (views k)).hold (Big (first (views k).fixed.shape (views k).claims c)) f)
 
@@ -253,7 +253,7 @@ module _ (o : Opening) (mem : Memory) (views : Views) (g : Past) (x : World o me
   used (Descr c) b t i q e = absurd (both_ways false refl i)
   used RootWord b t i q e = sym (Rattle.std.proofs.lemmas.Option.same_Some RootWord q e)
 
-  found_or_own : (B : Block) → has_found (views k) B ≡ true → has_own (views k) B ≡ true → ⊥
+  pub found_or_own : (B : Block) → has_found (views k) B ≡ true → has_own (views k) B ≡ true → ⊥
   found_or_own B f m = both_ways (there (settled_words o g) B) ((fit k).hold.mine B m).2 ((fit k).hold.found B f).2
 
   -- its block, by any bit of its word
@@ -313,17 +313,22 @@ module _ (o : Opening) (mem : Memory) (views : Views) (g : Past) (x : World o me
       (subst (λ ph. StoreFits (views k) (word_of (views k).fixed.shape p) n ph (part_in (views k) (word_of (views k).fixed.shape p))) is_open
       (subst (λ z. StoreFits (views k) z n (views k).log.phase (part_in (views k) z)) (eqb-true w (word_of (views k).fixed.shape p) e) m.fits)))
 
-  -- ---- A RECORD has what it knows of a word
+  -- ---- A RECORD is the one that the lane was to make
+  pub record_is : (w n : ℕ) (a : AppendsToSlot (views k) w n) → length ((views k).log.slot ++ n ∷ []) ≡ 8
+      → recorded (views k).fixed.shape (class (views k).claims) ((views k).log.slot ++ n ∷ []) ≡ a.next
+  record_is w n a full =
+      let seven : length (views k).log.slot ≡ 7 = let q = Rattle.std.proofs.lemmas.List.length-append (views k).log.slot (n ∷ []) in omega arith in
+      let eight : (views k).log.slot ++ n ∷ [] ≡ take 8 (spelled (views k).fixed.shape (views k).log.generation a.next) =
+      a.spells ∙ ap (λ m. take (m + 1) (spelled (views k).fixed.shape (views k).log.generation a.next)) seven in
+      ap (recorded (views k).fixed.shape (class (views k).claims)) eight
+      ∙ record_spelled (views k).fixed.shape (class (views k).claims) (views k).log.generation a.next.place a.next.old a.can.use_ a.can.some a.can.most
+
+  -- and has what it knows of a word
   pub records_known : (w n : ℕ) (a : AppendsToSlot (views k) w n) → length ((views k).log.slot ++ n ∷ []) ≡ 8
       → (p : Place) (b : ℕ) (y : Bool) (z : ℕ) → picture (views k).fixed.shape (views k).claims p b ≡ Some y
       → old_in (recorded (views k).fixed.shape (class (views k).claims) ((views k).log.slot ++ n ∷ [])) p ≡ Some z → bit z b ≡ y
   records_known w n a full p b y z e r =
-      let seven : length (views k).log.slot ≡ 7 = let q = Rattle.std.proofs.lemmas.List.length-append (views k).log.slot (n ∷ []) in omega arith in
-      let eight : (views k).log.slot ++ n ∷ [] ≡ take 8 (spelled (views k).fixed.shape (views k).log.generation a.next) =
-      a.spells ∙ ap (λ m. take (m + 1) (spelled (views k).fixed.shape (views k).log.generation a.next)) seven in
-      let is : recorded (views k).fixed.shape (class (views k).claims) ((views k).log.slot ++ n ∷ []) ≡ a.next =
-      ap (recorded (views k).fixed.shape (class (views k).claims)) eight
-      ∙ record_spelled (views k).fixed.shape (class (views k).claims) (views k).log.generation a.next.place a.next.old a.can.use_ a.can.some a.can.most in
+      let is = record_is w n a full in
       let old : old_in a.next p ≡ Some z = sym (ap (λ (q : Recorded). old_in q p) is) ∙ r in
       let at = old_in_at a.next p (ap given old) in
       let d : ℕ = Rattle.pm_view.specs.Places.distance a.next.place p in

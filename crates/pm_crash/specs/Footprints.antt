@@ -30,7 +30,8 @@ has_found v B = found v.fixed.shape v.claims B
 abbrev pub has_own : View → Block → Bool
 has_own v B = mine v.fixed.shape v.claims B
 
--- the bit before the call, where the lane knows it: a recorded word's old one, else what it last saw
+-- the bit before the call, where the lane knows it: a recorded word's old one, else what it last
+-- saw
 abbrev pub bit_before : View → Diff
 bit_before v p b =
     first_of_two (option_map (λ x. bit x b) (old_of v.log.records p))
@@ -56,7 +57,8 @@ pub record MayPrecedeBut (classes : ℕ → ℕ) (v : View) (own : Block → Boo
   -- runs in which it found blocks, or has some, are of the class that it knows
   pub class : (c i : ℕ) → (has_found v (Small c i) || own (Small c i)) ≡ true
       → classes c ≡ Rattle.pm_view.specs.Claims.class v.claims c
-  -- what it knows of the objects that it found, and of the root word under the lock of line 0, is so
+  -- what it knows of the objects that it found, and of the root word under the lock of line 0, is
+  -- so
   pub known : (p : Place) (b : ℕ) (y : Bool)
       → sees (geometry_of v) s (sight_of v).hold p b ≡ true → is_of_object v s p ≡ true
       → bit_before v p b ≡ Some y → s p b ≡ y
@@ -79,8 +81,8 @@ kept_bits o g keep n = replay keep (origin o) (ghost_of g).log n
 abbrev pub KeepsDecided : Past → (ℕ → Bool) → Type 0
 KeepsDecided g keep = (n : ℕ) → n < g.length → g.decided n ≡ true → keep n ≡ true
 
--- THE FOOTPRINTS OF A HISTORY: of a pool with this id, for each call what it rested on stands in the
--- bits before it, whichever calls are kept, the decided ones among them
+-- THE FOOTPRINTS OF A HISTORY: of a pool with this id, for each call what it rested on stands in
+-- the bits before it, whichever calls are kept, the decided ones among them
 pub record Footprints (o : Opening) (id : ℕ) (views : Views) (g : Past) : Type 0 where
   pub ids : (k : ℕ) → k < o.lanes → (views k).fixed.pool ≡ id
   pub drawn_ids : (n : ℕ) → n < g.length → (g.drew n).fixed.pool ≡ id
@@ -102,8 +104,8 @@ pub record Footprints (o : Opening) (id : ℕ) (views : Views) (g : Past) : Type
       → valid (ghost_of g) (Small c i) ≡ true
   pub precede : (keep : ℕ → Bool) → KeepsDecided g keep → (n : ℕ) → n < g.length
       → MayPrecede g.geo.class (g.drew n) (kept_bits o g keep n)
-  -- each lane holds the guards of the root word that it sets; and what it saw of the word is so after
-  -- the calls so far, until its own call sets it
+  -- each lane holds the guards of the root word that it sets; and what it saw of the word is so
+  -- after the calls so far, until its own call sets it
   pub holds_roots : (k : ℕ) → k < o.lanes
       → HoldsItsRoots (views k).fixed.shape (views k).claims (views k).log
   pub sees_roots : (k : ℕ) → k < o.lanes → leaves_root (views k).log ≡ true → (keep : ℕ → Bool)

@@ -19,6 +19,7 @@ use Rattle.pm_crash.specs.Described.{MemoryHasClasses}
 use Rattle.pm_crash.specs.Footprints.{Footprints, KeepsDecided, kept_bits}
 use Rattle.pm_crash.specs.Images.{MeansReplay, OpensPool}
 use Rattle.pm_crash.specs.Replayed.{HasFacts, HoldsReplay, kept_calls, kept_pending}
+use Rattle.pm_crash.specs.Roots.{RootsAreSeen}
 use Rattle.pm_crash.specs.Spelled.{Holds}
 
 -- ---- FOOTPRINTS STAND: as a world opens, and after every lawful step
@@ -36,6 +37,13 @@ KeepsFootprints s = (o : Opening) (old mem : Memory) (views new : Views) (g : Pa
     → World o old views g → k < o.lanes → IsLawful (views k) s → Moves k s old mem
     → Turn views new k (after (views k) s)
     → Footprints o id views g → Footprints o id new (past_after g (views k) s)
+
+-- WHAT EACH CALL SAW OF THE ROOT WORD, under locks that its lane held as it took its number, is so
+-- of the bits before it, whichever calls are kept
+abbrev pub CallsSeeRoots : Type 0
+CallsSeeRoots = (o : Opening) (id : ℕ) (views : Views) (g : Past) → Footprints o id views g
+    → (keep : ℕ → Bool) → KeepsDecided g keep → (n : ℕ) → n < g.length
+    → RootsAreSeen (g.drew n).fixed.shape (g.drew n).claims (kept_bits o g keep n)
 
 -- so every run keeps them, of any lanes in any order
 abbrev pub RunsKeepFootprints : Type 0

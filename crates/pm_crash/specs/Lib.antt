@@ -30,3 +30,4 @@ pub mod SimBlocks
 pub mod SimAllocs
 pub mod SimCommits
 pub mod SimPublish
+pub mod SimReads

@@ -1,6 +1,6 @@
--- A LANE AT WORK AGAINST THE PLAIN MODEL: from whatever bits are before its call, as far as it knows
--- them, and whatever pool they hold, what it told leads the model to one transaction; and the copy of
--- the objects in it is what stands in the bits as the call has made them so far.
+-- A LANE AT WORK AGAINST THE PLAIN MODEL: from whatever bits are before its call, as far as it
+-- knows them, and whatever pool they hold, what it told leads the model to one transaction; and
+-- the copy of the objects in it is what stands in the bits as the call has made them so far.
 use Rattle.std.specs.Prelude.{◌≡◌, ◌⊎◌, ℕ, ◌+◌, ◌-◌, ◌*◌, ◌/◌, ◌%◌, ◌^◌, ◌<◌, ◌≤◌, nat_le, nat_lt, ◌==◌, ◌&&◌, ◌||◌, Bool, true, false, if◌then◌else◌, List, [], ◌∷◌, ◌++◌, map, Option, None, Some}
 use Rattle.std.specs.List.{list_any}
 use Rattle.pm_header.specs.declared.header.Header.{Header}
@@ -39,8 +39,8 @@ use Rattle.pm_crash.specs.Spelled.{Holds, words_by}
 
 -- ---- THE TRANSACTION
 
--- the lane's lists as the model has them: level and stage, locks and records, what the call made and
--- freed, what is pending and what is to be set. They follow from what it told
+-- the lane's lists as the model has them: level and stage, locks and records, what the call made
+-- and freed, what is pending and what is to be set. They follow from what it told
 abbrev pub lists_of : View → Transaction
 lists_of v = after_told v.call (idle no_pool (pending_of v.entries))
 
@@ -96,8 +96,8 @@ abbrev pub is_kept_block : View → Bool → Block → Bool
 is_kept_block v kept B = has_own v B
     && list_any (λ (b : Placed). b.off == known_offset v B) (blocks_kept kept v)
 
--- the bits may be those before the call: what the lane found, recorded and knows is so, and these of
--- its blocks are free
+-- the bits may be those before the call: what the lane found, recorded and knows is so, and these
+-- of its blocks are free
 abbrev pub Agrees : (ℕ → ℕ) → View → Bool → State → Type 0
 Agrees classes v kept s = MayPrecedeBut classes v (is_kept_block v kept) s
 
@@ -132,8 +132,8 @@ IsSamePlace v next (InHuge c w) =
     first next.fixed.shape next.claims c ≡ first v.fixed.shape v.claims c
 IsSamePlace v next p = Unit {0}
 
--- THE LANE KNOWS THAT A PLACE IS AN OBJECT'S, whether it recorded the place or not: it knows the size of
--- the object, which has the place's line
+-- THE LANE KNOWS THAT A PLACE IS AN OBJECT'S, whether it recorded the place or not: it knows the
+-- size of the object, which has the place's line
 abbrev pub size_place : View → Place → Place
 size_place v (InRun c w) = size_at (class v.claims c) c ((w / 8 - 1) / class v.claims c)
 size_place v (InHuge c w) = InHuge (first v.fixed.shape v.claims c) 1
@@ -243,8 +243,13 @@ abbrev pub TellsGrow : Type 0
 TellsGrow = (v : View) (op : Operation) (reply : Option Value) (kept : Bool)
     → Grows v (is_kept_by op kept) (views.after v (Tell op reply)) kept
 
--- A STEP THAT TEACHES NOTHING OF BITS: flushes, tries that fail, zones' locks, occupancy words, numbers
--- and stop words seen. It changes no claim, no record and nothing that was told
+-- WHAT GROWS TWICE GROWS: so it is along any steps
+abbrev pub GrowthsCompose : Type 0
+GrowthsCompose = (v mid next : View) (kept between kept' : Bool) → Grows v kept mid between
+    → Grows mid between next kept' → Grows v kept next kept'
+
+-- A STEP THAT TEACHES NOTHING OF BITS: flushes, tries that fail, zones' locks, occupancy words,
+-- numbers and stop words seen. It changes no claim, no record and nothing that was told
 abbrev pub SimIsKept : Type 0
 SimIsKept = (v : View) (entries : List Entry) (changes : List Undrained) (calls : ℕ)
     (occupancy : List Seen) (zones : List ℕ) (seen : List Step) → Sim v entries

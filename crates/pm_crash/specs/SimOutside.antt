@@ -37,8 +37,8 @@ pool_after v ran pool = (after_outside ran (outside_before v pool)).pool
 abbrev pub IsLone : View → Ran → Type 0
 IsLone v ran = v.call ≡ told_by ran ∷ []
 
--- WHAT IT OWES, with the bits in it: it replies as the model says; its bits hold a heap again; and the
--- objects and the root that the model's operation makes of the pool are those of the bits then
+-- WHAT IT OWES, with the bits in it: it replies as the model says; its bits hold a heap again; and
+-- the objects and the root that the model's operation makes of the pool are those of the bits then
 pub record LeadsOutside (v : View) (ran : Ran) (classes : ℕ → ℕ) (s : State) (pool : PlainPool)
     : Type 0 where
   pub replies : RepliesOutside (outside_before v pool) ran

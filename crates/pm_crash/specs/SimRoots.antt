@@ -16,8 +16,8 @@ use Rattle.pm_crash.specs.Roots.{saw_root}
 use Rattle.pm_crash.specs.Sim.{lists_of, tx_with}
 use Rattle.pm_crash.specs.SimOps.{KnowsRoot}
 
--- the root word has this value as far as the object at the offset goes: the lane saw it under the lock of
--- the object's line; or it holds line 0 and knows the word
+-- the root word has this value as far as the object at the offset goes: the lane saw it under the
+-- lock of the object's line; or it holds line 0 and knows the word
 abbrev pub SawRoot : View → ℕ → ℕ → Type 0
 SawRoot v value off =
     ((line : ℕ) × (off ≡ 64 * line + 64)
@@ -25,7 +25,8 @@ SawRoot v value off =
     ⊎ ((holds v.claims 0 ≡ true) × (value < 2 ^ 64)
     × ((b : ℕ) → b < 64 → bit_before v RootWord b ≡ Some (bit value b)))
 
--- THE LANE LOOKED AT THE ROOT for each object that the operation frees, which it holds and did not free
+-- THE LANE LOOKED AT THE ROOT for each object that the operation frees, which it holds and did not
+-- free
 pub record LookedAtRoot (v : View) (root : Option ℕ) (op : Operation) : Type 0 where
   pub value : ℕ
   pub is : root ≡ root_told value

@@ -1,41 +1,50 @@
-ghost use Rattle.pm_crash.specs.Sim.{SimBegins, SimGoesOn, SimIsKept, SimStays, TellsGrow};
+ghost use Rattle.pm_crash.specs.Sim.{SimBegins, SimGoesOn, SimIsKept, SimStays, TellsGrow, GrowthsCompose};
 ghost use Rattle.pm_crash.specs.SimOps.{NoRootIsAsked, SimAborts, SimExtends, SimRefuses, SimRollsBack, SimWrites};
 ghost use Rattle.pm_crash.specs.SimAllocs.{SimAllocates, SimFrees, SimPublishes, SimReserves};
 ghost use Rattle.pm_crash.specs.SimCommits.{SimCommits};
 ghost use Rattle.pm_crash.specs.SimFacts.{CallsWithoutEntriesAreOver, CallsWithoutEntriesHaveFacts, CallsWithoutLogAreOver, CommittedCallsHaveFacts, RolledBackCallsHaveFacts, SimsAreFacts, TransactionsEnd};
 ghost use Rattle.pm_crash.specs.SimRoots.{RootIsKnown};
-ghost use Rattle.pm_crash.specs.SimSteps.{StepsGrow, StepsKeepSims, VoidingGrows};
+ghost use Rattle.pm_crash.specs.SimSteps.{QuietStepsGrow, QuietStepsKeepRecords, RecordsBegin, RecordsStayKnown, RunsGrow, StepsGrow, StepsKeepSims, VoidingGrows};
 ghost use Rattle.pm_view.specs.Steps.{Step};
-ghost use Rattle.pm_crash.specs.SimPublish.{PublicationsAreFacts};
+ghost use Rattle.pm_crash.specs.SimPublish.{PublicationsAreFacts, RefusedPublicationsAreFacts};
+ghost use Rattle.pm_crash.specs.SimReads.{LoneReadsAreFacts};
 ghost use Rattle.pm_crash.specs.SimOutside.{ActionsAreFacts, BareOutsidesAreFacts, OutsidesAreFacts};
 ghost use Rattle.pm_crash.specs.Looked.{ReadIs, RefusalIs};
 ghost use Rattle.pm_crash.specs.Looks.{RefusalsLook};
 
-/// A law: from whatever bits a lane agrees with, and whatever pool they hold, what the lane told leads
-/// the plain model's transaction, whose copy of the objects stands in the bits as the call has made
-/// them. It holds as a call begins, a lane that tells nothing and knows no less keeps it, and one more
-/// operation owes its reply and what becomes of the copy. No code runs.
+/// A law: from whatever bits a lane agrees with, and whatever pool they hold, what the lane told
+/// leads the plain model's transaction, whose copy of the objects stands in the bits as the call
+/// has made them. It holds as a call begins, a lane that tells nothing and knows no less keeps it,
+/// and one more operation owes its reply and what becomes of the copy. No code runs.
 pub fn a_lane_follows_the_model()
     ensures begins { SimBegins }
     ensures stays { SimStays }
     ensures goes_on { SimGoesOn }
     ensures tells { TellsGrow }
+    ensures composes { GrowthsCompose }
     ensures kept { SimIsKept }
 {}
 
-/// A law: after each lawful step of an open call, whatever other lanes do, its lane knows no less of the
-/// bits before the call, where the step gives up nothing that the call rests on; and the lane follows the
-/// model still where the step leaves the bits as the call has made them. So it is of the drain that voids
-/// the records of an abort. No code runs.
+/// A law: after each lawful step of an open call, whatever other lanes do, its lane knows no less
+/// of the bits before the call, where the step gives up nothing that the call rests on; and the
+/// lane follows the model still where the step leaves the bits as the call has made them. So it is
+/// of the drain that voids the records of an abort; for what a lane recorded it knows to be an
+/// object's. No code runs.
 pub fn steps_of_a_call_keep_what_is_known()
     ensures grow { (step : Step) → StepsGrow step }
     ensures sims { (step : Step) → StepsKeepSims step }
+    ensures runs { RunsGrow }
     ensures voids { VoidingGrows }
+    ensures records_begin { RecordsBegin }
+    ensures records { (step : Step) → RecordsStayKnown step }
+    ensures quiet { QuietStepsGrow }
+    ensures quiet_records { QuietStepsKeepRecords }
 {}
 
-/// A law: what each operation owes has no bits in it. Operations on the lane's lists, those that are
-/// refused, and abort, of a transaction that recorded words too; writes and increments; objects that are
-/// freed, made, reserved and published; and commits, with the words that they set. No code runs.
+/// A law: what each operation owes has no bits in it. Operations on the lane's lists, those that
+/// are refused, and abort, of a transaction that recorded words too; writes and increments; objects
+/// that are freed, made, reserved and published; and commits, with the words that they set. No code
+/// runs.
 pub fn operations_follow_the_model()
     ensures extends { SimExtends }
     ensures refuses { SimRefuses }
@@ -49,10 +58,10 @@ pub fn operations_follow_the_model()
     ensures commits { SimCommits }
 {}
 
-/// A law: the first refusal of each operation of a transaction is the model's, by the lane's lists and
-/// by what it looked at; and so are the bytes that it reads. Two transactions of the same lists are
-/// refused alike where what an operation looks at is the same. A lane that saw the root word under an
-/// object's lock knows whether the object is the root. No code runs.
+/// A law: the first refusal of each operation of a transaction is the model's, by the lane's lists
+/// and by what it looked at; and so are the bytes that it reads. Two transactions of the same
+/// lists are refused alike where what an operation looks at is the same. A lane that saw the root
+/// word under an object's lock knows whether the object is the root. No code runs.
 pub fn first_refusals_are_the_models()
     ensures refusal { RefusalIs }
     ensures reads { ReadIs }
@@ -61,8 +70,8 @@ pub fn first_refusals_are_the_models()
     ensures root_known { RootIsKnown }
 {}
 
-/// A law: a transaction that is over, and has the entries of the blocks that it made and freed in its
-/// log, has the fact that its call owes. No code runs.
+/// A law: a transaction that is over, and has the entries of the blocks that it made and freed in
+/// its log, has the fact that its call owes. No code runs.
 pub fn transactions_have_facts()
     ensures { SimsAreFacts }
 {}
@@ -81,13 +90,16 @@ pub fn ended_transactions_are_over()
 {}
 
 /// A law: a call that is one operation outside a transaction has the fact that it owes, where from
-/// whatever bits it replies as the model says, and its bits hold what the model's operation makes of the
-/// pool. One that changes no object owes its reply alone; and what is asked of the pending list (reserve,
-/// a write to what is reserved, a deferred free, a word to be set, cancel) has its fact, done or refused,
-/// with no bits in it; so has a publish that is done. No code runs.
+/// whatever bits it replies as the model says, and its bits hold what the model's operation makes
+/// of the pool. One that changes no object owes its reply alone; and what is asked of the pending
+/// list (reserve, a write to what is reserved, a deferred free, a word to be set, cancel) has its
+/// fact, done or refused, with no bits in it; so have a publish, and reads of an object's usable
+/// size and type. No code runs.
 pub fn lone_operations_have_facts()
     ensures leads { OutsidesAreFacts }
     ensures bare { BareOutsidesAreFacts }
     ensures actions { ActionsAreFacts }
     ensures publishes { PublicationsAreFacts }
+    ensures refused { RefusedPublicationsAreFacts }
+    ensures reads { LoneReadsAreFacts }
 {}

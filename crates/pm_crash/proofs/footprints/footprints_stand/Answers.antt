@@ -9,3 +9,6 @@ returns-clause-goes_on _ = onward.goes_on
 
 pub returns-clause-runs : goal.returns-clause-runs
 returns-clause-runs _ = onward.runs
+
+pub returns-clause-roots : goal.returns-clause-roots
+returns-clause-roots _ = λ o id views g fp keep d n l. (fp.precede keep d n l).roots

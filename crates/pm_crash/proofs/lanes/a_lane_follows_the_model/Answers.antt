@@ -1,3 +1,4 @@
+use Rattle.pm_crash.proofs.Composing.{growths_compose}
 use Rattle.pm_crash.proofs.Simulation.{sim_begins, sim_goes_on, sim_stays}
 use Rattle.pm_crash.proofs.Telling.{sim_is_kept, tells_grow}
 use Rattle.pm_crash.proofs.lanes.a_lane_follows_the_model.Goals as goal
@@ -16,3 +17,6 @@ returns-clause-tells c = tells_grow
 
 pub returns-clause-kept : goal.returns-clause-kept
 returns-clause-kept c = sim_is_kept
+
+pub returns-clause-composes : goal.returns-clause-composes
+returns-clause-composes c = growths_compose
