@@ -93,6 +93,21 @@ module _ (sh : Shape) (t : List Claim) where
       go true e = ap (λ y. cond (one || is_held sh t w) y None) (cond-true (v == w) (Some x) (pictured sh t w) e)
           ∙ at (one || is_held sh t w) refl (subst (λ u. known sh one t u ≡ Some x) (eqb-true v w e) is)
 
+  -- nor any picture
+  pub pictured_again : (one : Bool) (v x : ℕ) → known sh one t v ≡ Some x → (w : ℕ)
+      → pictured sh (Knows v x ∷ t) w ≡ pictured sh t w
+  pictured_again one v x is w = go (v == w) refl
+    where
+      at : (h : Bool) → cond h (pictured sh t w) None ≡ Some x → Some x ≡ pictured sh t w
+      at true k = sym k
+      at false k = absurd (none-some x k)
+
+      go : (b : Bool) → (v == w) ≡ b
+          → cond (v == w) (Some x) (pictured sh t w) ≡ pictured sh t w
+      go false e = cond-false (v == w) (Some x) (pictured sh t w) e
+      go true e = cond-true (v == w) (Some x) (pictured sh t w) e
+          ∙ at (one || is_held sh t w) (subst (λ u. known sh one t u ≡ Some x) (eqb-true v w e) is)
+
   -- what a note says of a word that is known, is known
   pub known_here : (one : Bool) (w x y : ℕ) → known sh one t w ≡ Some y → known sh one (Knows w x ∷ t) w ≡ Some x
   known_here one w x y is = ap (λ z. cond (one || is_held sh t w) z None) (cond-true (w == w) (Some x) (pictured sh t w) (eq-eqb w w refl)) ∙ go (one || is_held sh t w) refl

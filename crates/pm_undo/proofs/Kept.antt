@@ -18,7 +18,7 @@ use Rattle.pm_plan.specs.Notes.{IsBeyond}
 use Rattle.pm_undo.specs.Working.{IsWorking}
 use Rattle.pm_world.specs.declared.lane.KeptRecord.{KeptRecord}
 use Rattle.pm_plan.proofs.AreaParts.{data_beyond}
-use Rattle.pm_undo.proofs.Logging.{knows_so}
+use Rattle.pm_undo.proofs.Logging.{beyond_slots, knows_so}
 use Rattle.pm_undo.proofs.Snapshotted.{at_index, looks_so}
 use Rattle.pm_undo.proofs.Snapshotting.{HasClean, clean_start, looks_firsts, looks_some}
 
@@ -33,7 +33,7 @@ module _ (v : View) (working : IsWorking v) where
         let far : IsBeyond v.fixed.shape (s.word + m) = subst (IsBeyond v.fixed.shape) (is_at v.fixed.shape (Rattle.pm_view.specs.Claims.class v.claims) (s.word + m) l.place l.at).word (data_beyond v.fixed.shape l.place l.plain) in
         let t = looks_some v working s can m (omega (arith, less)) u clean in
         ap (λ ws. ws ++ known_word (after_all u (looks_from s.word m u)) (s.word + m) ∷ []) (words_known m (omega (arith, less)))
-        ∙ (ap (λ x. map (known_word v) (range_with_len s.word m) ++ x ∷ []) (ap (λ (o : Option ℕ). unwrap_or o 0) (knows_so t.1.0 (s.word + m) far))
+        ∙ (ap (λ x. map (known_word v) (range_with_len s.word m) ++ x ∷ []) (ap (λ (o : Option ℕ). unwrap_or o 0) (knows_so t.1.0 (s.word + m) (beyond_slots v working (s.word + m) far)))
         ∙ (sym (map-range_with_len_more (known_word v) s.word m (s.word + m) refl) ∙ ap (λ n. map (known_word v) (range_with_len s.word n)) (let e : m + 1 ≡ suc m = omega arith in e)))
 
     pub span_known : looked_span s u ≡ kept_in v s

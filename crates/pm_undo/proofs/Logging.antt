@@ -1,6 +1,6 @@
 -- Where a lane's view has come since its log began to grow, or to be put back: what it noted, its
 -- changes and its log.
-use Rattle.std.proofs.Common.{◌≡◌, ◌≢◌, ℕ, ◌+◌, ◌*◌, ◌^◌, ◌<◌, ◌≤◌, false, List, [], ◌∷◌, ◌++◌, length, take, refl, sym, ap, ◌∙◌, subst, None}
+use Rattle.std.proofs.Common.{◌≡◌, ◌≢◌, ℕ, ◌+◌, ◌*◌, ◌^◌, ◌<◌, ◌≤◌, inr, false, List, [], ◌∷◌, ◌++◌, length, take, refl, sym, ap, ◌∙◌, subst, arith, None}
 use Rattle.std.specs.List.{AllByRecursion}
 use Rattle.pm_layout.specs.declared.shape.Shape.{Shape}
 use Rattle.pm_layout.specs.Areas.{line_of_slot, word_of_generation}
@@ -21,7 +21,7 @@ use Rattle.pm_world.specs.Logs.{spelled}
 use Rattle.pm_world.specs.Sights.{is_recorded}
 use Rattle.pm_plan.specs.Plans.{IsPersisted, claims_persisted, log_persisted}
 use Rattle.pm_plan.specs.Notes.{AreNotes, IsBeyond, IsNote, Note, Valued, DrainedTo, claim_of, noted}
-use Rattle.pm_undo.specs.Working.{AreOnce, IsStanding, IsWorking}
+use Rattle.pm_undo.specs.Working.{AreOnce, IsNoSlot, IsStanding, IsWorking}
 use Rattle.pm_undo.proofs.Moved.{moved_record}
 use Rattle.pm_plan.proofs.Notes.{IsOther, class_same, first_same, here_same, known_noted, making_same, pictured_noted}
 
@@ -47,8 +47,8 @@ view_with v claims changes calls records slot = record v {
 abbrev pub generation_word : View → ℕ
 generation_word v = word_of_generation v.fixed.shape v.fixed.lane
 
--- SINCE v the lane noted something, its log has these records and words of a slot, and it knows
--- these words as it did
+-- SINCE v the lane noted something, its log has these records and words of a slot, and these words
+-- it knows and pictures as it did
 pub record Logging (v : View) (stay : ℕ → Type 0) (records : List Recorded) (slot : List ℕ)
     (u : View) : Type 0 where
   pub notes : List Note
@@ -56,13 +56,16 @@ pub record Logging (v : View) (stay : ℕ → Type 0) (records : List Recorded) 
   pub each : AreNotes v.fixed.shape v.claims notes
   pub same : u ≡ view_with v u.claims u.changes u.calls records slot
   pub known_ : (w : ℕ) → stay w → known v.fixed.shape (runs_one v) u.claims w ≡ knows v w
-  pub ends : pictured v.fixed.shape u.claims (generation_word v) ≡ pictured v.fixed.shape v.claims
-      (generation_word v)
+  pub pictured_ : (w : ℕ) → stay w → pictured v.fixed.shape u.claims w ≡ pictured v.fixed.shape
+      v.claims w
 
 abbrev pub AreBeyond : Shape → List Undrained → Type 0
 AreBeyond sh changes = AllByRecursion (λ (c : Undrained). IsBeyond sh c.word) changes
 
 module _ (v : View) (working : IsWorking v) where
+  pub beyond_slots : (y : ℕ) → IsBeyond v.fixed.shape y → IsNoSlot v.fixed.shape v.fixed.lane y
+  beyond_slots y far = inr (let low = working.lane in omega (arith, low, far))
+
   -- a lane at work is such
   pub log_again : (records : List Recorded) → record v.log { records = records } ≡ log_with v
       records []
@@ -85,7 +88,7 @@ module _ (v : View) (working : IsWorking v) where
     each = tt;
     same = ap (λ l. record v { log = l }) (log_again v.log.records);
     known_ = λ w s. refl;
-    ends = refl;
+    pictured_ = λ w s. refl;
   }
 
 module _ {v : View} {stay : ℕ → Type 0} {records : List Recorded} {slot : List ℕ} {u : View}
@@ -96,24 +99,39 @@ module _ {v : View} {stay : ℕ → Type 0} {records : List Recorded} {slot : Li
   pub knows_so : (w : ℕ) → stay w → knows u w ≡ knows v w
   knows_so w s = ap (λ (y : View). knows y w) at.same ∙ at.known_ w s
 
+  pub pictures_so : (w : ℕ) → stay w → value_in u w ≡ value_in v w
+  pictures_so w s = ap (λ (y : View). value_in y w) at.same ∙ at.pictured_ w s
+
   pub class_so : class u.claims ≡ class v.claims
   class_so = ap class at.are ∙ class_same at.notes v.claims
 
   -- one note more, and whatever changes and log
-  pub noted_more : (n : Note) → IsNote v.fixed.shape u.claims n → IsOther n (generation_word v)
+  pub noted_more : (n : Note) → IsNote v.fixed.shape u.claims n
       → ((w : ℕ) → stay w → known v.fixed.shape (runs_one v) (claim_of n ∷ u.claims) w ≡ known
       v.fixed.shape (runs_one v) u.claims w)
+      → ((w : ℕ) → stay w → pictured v.fixed.shape (claim_of n ∷ u.claims) w ≡ pictured
+      v.fixed.shape u.claims w)
       → (changes : List Undrained) (calls : ℕ) (records' : List Recorded) (slot' : List ℕ)
       → Logging v stay records' slot' (view_with v (claim_of n ∷ u.claims) changes calls
       records' slot')
-  noted_more n is other stays changes calls records' slot' = record {
+  noted_more n is knows_ pictures changes calls records' slot' = record {
     notes = n ∷ at.notes;
     are = ap (λ t. claim_of n ∷ t) at.are;
     each = (subst (λ t. IsNote v.fixed.shape t n) at.are is, at.each);
     same = refl;
-    known_ = λ w s. stays w s ∙ at.known_ w s;
-    ends = pictured_noted v.fixed.shape u.claims n is (generation_word v) other ∙ at.ends;
+    known_ = λ w s. knows_ w s ∙ at.known_ w s;
+    pictured_ = λ w s. pictures w s ∙ at.pictured_ w s;
   }
+
+  -- where the note names none of these words
+  pub noted_others : (n : Note) → IsNote v.fixed.shape u.claims n
+      → ((w : ℕ) → stay w → IsOther n w)
+      → (changes : List Undrained) (calls : ℕ) (records' : List Recorded) (slot' : List ℕ)
+      → Logging v stay records' slot' (view_with v (claim_of n ∷ u.claims) changes calls
+      records' slot')
+  noted_others n is other = noted_more n is
+      (λ w s. known_noted v.fixed.shape u.claims (runs_one v) n is w (other w s))
+      (λ w s. pictured_noted v.fixed.shape u.claims n is w (other w s))
 
   -- where fewer words are asked of
   pub logging_weaker : (stay' : ℕ → Type 0) → ((y : ℕ) → stay' y → stay y)
@@ -124,7 +142,7 @@ module _ {v : View} {stay : ℕ → Type 0} {records : List Recorded} {slot : Li
     each = at.each;
     same = at.same;
     known_ = λ w s. at.known_ w (fewer w s);
-    ends = at.ends;
+    pictured_ = λ w s. at.pictured_ w (fewer w s);
   }
 
   module _ (working : IsWorking v) where
@@ -134,9 +152,8 @@ module _ {v : View} {stay : ℕ → Type 0} {records : List Recorded} {slot : Li
 
     pub drained_more : (left : List Undrained) (calls : ℕ) → Logging v stay records slot
         (view_with v (Drained left ∷ u.claims) left calls records slot)
-    drained_more left calls = noted_more (DrainedTo left) no_making tt
-        (λ w s. known_noted v.fixed.shape u.claims (runs_one v) (DrainedTo left) no_making w tt)
-        left calls records slot
+    drained_more left calls = noted_others (DrainedTo left) no_making (λ w s. tt) left calls
+        records slot
 
     -- all is made persistent; the lane pictures what it did
     pub still_logging : (w : View) → IsPersisted u w → Logging v stay records slot w
@@ -167,7 +184,7 @@ module _ {v : View} {stay : ℕ → Type 0} {records : List Recorded} {slot : Li
               each = at.each;
               same = refl;
               known_ = at.known_;
-              ends = at.ends;
+              pictured_ = at.pictured_;
             })
         go (c ∷ changes) e = subst (Logging v stay records slot) (sym e) (drained_more [] w.calls)
 
@@ -198,9 +215,10 @@ module _ {v : View} {stay : ℕ → Type 0} {records : List Recorded} {slot : Li
             u.claims (runs_one v) (DrainedTo []) no_making y tt
 
     -- the lane is at work where its records may be put back
-    pub still_working : AreBeyond v.fixed.shape u.changes → slot ≡ [] → length records ≤ 64
-        → AllByRecursion (IsStanding v) records → AreOnce records → IsWorking u
-    still_working far whole few standing once = subst IsWorking (sym at.same) (record {
+    pub still_working : stay (generation_word v) → AreBeyond v.fixed.shape u.changes → slot ≡ []
+        → length records ≤ 64 → AllByRecursion (IsStanding v) records → AreOnce records
+        → IsWorking u
+    still_working stays far whole few standing once = subst IsWorking (sym at.same) (record {
       is_open = refl;
       whole = (whole, refl);
       unentered = refl;
@@ -213,7 +231,7 @@ module _ {v : View} {stay : ℕ → Type 0} {records : List Recorded} {slot : Li
       few = few;
       standing = all_still records standing;
       once = once;
-      known = at.ends ∙ working.known;
+      known = at.pictured_ (generation_word v) stays ∙ working.known;
     })
       where
         all_still : (rs : List Recorded) → AllByRecursion (IsStanding v) rs
@@ -238,18 +256,18 @@ abbrev pub slot_change : ℕ → Undrained
 slot_change w = record { word = w; mask = all_bits; old = None; flushed = false }
 
 module _ {v : View} {records : List Recorded} {slot : List ℕ} {u : View}
-    (at : Logging v (IsBeyond v.fixed.shape) records slot u) where
+    (at : Logging v (IsNoSlot v.fixed.shape v.fixed.lane) records slot u) where
   abbrev stored_view : ℕ → ℕ → List Recorded → List ℕ → View
   stored_view w x records' slot' = view_with v (Knows w x ∷ u.claims) (slot_change w ∷ u.changes)
       (u.calls + 1) records' slot'
 
   pub slot_stored : (w x : ℕ) → part_of v.fixed.shape v.fixed.lane w ≡ SlotPart
-      → ((y : ℕ) → IsBeyond v.fixed.shape y → w ≢ y) → w ≢ generation_word v
+      → ((y : ℕ) → IsNoSlot v.fixed.shape v.fixed.lane y → w ≢ y)
       → (records' : List Recorded) (slot' : List ℕ) → with_slot v.fixed.shape (class v.claims)
       (slot ++ x ∷ []) (log_with v records slot) ≡ log_with v records' slot'
-      → (after u (Store w x) ≡ stored_view w x records' slot') × Logging v (IsBeyond v.fixed.shape)
-      records' slot' (stored_view w x records' slot')
-  slot_stored w x part other apart records' slot' grows = (
+      → (after u (Store w x) ≡ stored_view w x records' slot') × Logging v
+      (IsNoSlot v.fixed.shape v.fixed.lane) records' slot' (stored_view w x records' slot')
+  slot_stored w x part other records' slot' grows = (
     ap (λ (y : View). after y (Store w x)) at.same
         ∙ (ap (λ q. changed_from here_ w all_bits (was_of Open q (value_in here_ w)) x
         (marked_by Open q x u.claims) (log_stored v.fixed.shape (class u.claims) Open q x
@@ -257,8 +275,8 @@ module _ {v : View} {records : List Recorded} {slot : List ℕ} {u : View}
         ∙ ap (λ l. record (stored_view w x records slot) { log = l })
         (ap (λ cl. with_slot v.fixed.shape cl (slot ++ x ∷ []) (log_with v records slot))
         (class_so at) ∙ grows)),
-    noted_more at (Valued w x) tt apart (λ y far. known_noted v.fixed.shape u.claims (runs_one v)
-        (Valued w x) tt y (other y far)) (slot_change w ∷ u.changes) (u.calls + 1) records' slot',
+    noted_others at (Valued w x) tt other (slot_change w ∷ u.changes) (u.calls + 1) records'
+        slot',
   )
     where
       here_ : View
@@ -283,7 +301,7 @@ module _ {v : View} {records : List Recorded} {slot : List ℕ} {u : View}
               can = moved_record v u.claims u.changes u.calls (log_with v records slot) (class_so at)
                   (ap (first v.fixed.shape) at.are ∙ first_same v.fixed.shape at.notes v.claims)
                   (λ B. ap (λ t. here v.fixed.shape t B) at.are ∙ here_same v.fixed.shape at.notes v.claims
-                  at.each B) at.known_ r new can;
+                  at.each B) (λ y far. at.known_ y (beyond_slots v working y far)) r new can;
               spells = spells;
               at = place;
               free = free;

@@ -25,7 +25,7 @@ use Rattle.pm_plan.specs.Plans.{stores_from}
 use Rattle.pm_undo.specs.Plans.{writes_record, writes_slot}
 use Rattle.pm_world.specs.LaneFields.{kept_of}
 use Rattle.pm_plan.specs.Notes.{IsBeyond}
-use Rattle.pm_undo.specs.Working.{IsWorking}
+use Rattle.pm_undo.specs.Working.{IsNoSlot, IsWorking}
 use Rattle.pm_plan.proofs.AreaParts.{in_pool, part_slot, small_word}
 use Rattle.pm_undo.proofs.Logging.{Logging, log_with, may_store_slot, slot_change, slot_stored, still_logging}
 use Rattle.pm_undo.proofs.Slots.{length_spelled, small_spelled, slot_short, slot_whole, spelled_back}
@@ -87,7 +87,7 @@ module _ (v : View) (working : IsWorking v) (records : List Recorded) (r : Recor
   -- these records and words of the slot are stored, and all that is undrained and not flushed is
   -- past the areas, or in the line
   record Stored (rs : List Recorded) (slot : List ℕ) (u : View) : Type 0 where
-    at : Logging v (IsBeyond v.fixed.shape) rs slot u
+    at : Logging v (IsNoSlot v.fixed.shape v.fixed.lane) rs slot u
     aside : AllByRecursion (IsAsideOr sh line) u.changes
 
   -- all the words are, and the last is not flushed
@@ -123,7 +123,8 @@ module _ (v : View) (working : IsWorking v) (records : List Recorded) (r : Recor
       let long : length (take i words) ≡ i = length-take-le i words (omega (arith, eight, small)) in
       let low = working.lane in
       let t = slot_stored s.at (8 * line + i) (slice_index words i) (part_at i small)
-      (λ y far e. omega (arith, free, small, low, far, e)) (λ e. omega (arith, free, small, e))
+      (λ y out e. ⊎_elim (λ (a : y < 8 * line_of_slot sh v.fixed.lane 0). omega (arith, a, e))
+      (λ (a : 8 * line_of_slot sh v.fixed.lane 64 ≤ y). omega (arith, free, small, a, e)) out)
       rs' slot' grows in (
         may_store_slot s.at working (8 * line + i) (slice_index words i) (part_at i small)
             (omega (arith, free, small, low)) (small_spelled sh (class v.claims) v.log.generation r
@@ -159,12 +160,12 @@ module _ (v : View) (working : IsWorking v) (records : List Recorded) (r : Recor
 
   -- THE RECORD STANDS, and its line is flushed
   pub record Written (u : View) : Type 0 where
-    pub at : Logging v (IsBeyond v.fixed.shape) (records ++ r ∷ []) [] u
+    pub at : Logging v (IsNoSlot v.fixed.shape v.fixed.lane) (records ++ r ∷ []) [] u
     pub aside : AllByRecursion (IsAside sh) u.changes
     pub drops : DropsSome u.changes
 
   abbrev pub Ready_ : View → Type 0
-  Ready_ u = Logging v (IsBeyond v.fixed.shape) records [] u × AllByRecursion (IsAside sh) u.changes
+  Ready_ u = Logging v (IsNoSlot v.fixed.shape v.fixed.lane) records [] u × AllByRecursion (IsAside sh) u.changes
 
   pub record_written : Goes Ready_ (writes_record sh v.fixed.lane v.log.generation (length records)
       (kept_of sh r)) Written
@@ -183,7 +184,7 @@ module _ (v : View) (working : IsWorking v) (records : List Recorded) (r : Recor
               calls = u.calls + 1;
             }) p.0.at.same;
             known_ = p.0.at.known_;
-            ends = p.0.at.ends;
+            pictured_ = p.0.at.pictured_;
           };
           aside = flushed_aside sh line u.changes p.0.aside;
           drops = flush_drops line u.changes p.1;

@@ -3,7 +3,6 @@ use Rattle.std.proofs.Common.{◌≡◌, ◌≢◌, ℕ, zero, suc, ◌+◌, ◌
 use Rattle.std.specs.Prelude.{slice_index}
 use Rattle.std.proofs.lemmas.Bool.{and_from, both_ways, cases_eq, cond-true, le-leb, lt-ltb}
 use Rattle.std.proofs.lemmas.List.{take_more}
-use Rattle.std.proofs.lemmas.Option.{same_Some}
 use Rattle.std.proofs.Math.Nat.{eq-or-lt_of_le}
 use Rattle.pm_layout.specs.declared.shape.Shape.{Shape}
 use Rattle.pm_view.specs.Claims.{pictured}
@@ -75,10 +74,9 @@ module _ (v : View) (working : IsWorking v) where
   abbrev nth : ℕ → Recorded
   nth k = get_or records k no_recorded
 
-  -- a word of data that has no record
+  -- no record is of the word
   abbrev pub IsUnrecorded : ℕ → Type 0
-  IsUnrecorded w = (p : Place) × (is_data p ≡ true) × (place_in v w ≡ Some p)
-      × (is_recorded records p ≡ false)
+  IsUnrecorded w = (p : Place) → is_recorded records p ≡ true → w ≢ word_of sh p
 
   -- the place is of the first k records, or of the first j words of the next
   abbrev IsDone : ℕ → ℕ → Place → Type 0
@@ -167,10 +165,7 @@ module _ (v : View) (working : IsWorking v) where
     put_on = subst (Putting k (j + 1))
         (sym (write_is working p.at p.far q is_known (ap given old) x)) (record {
           at = write_more working p.at p.far q is_known (ap given old) x
-              (λ y is e. both_ways (is_recorded records is.0) is.3
-              (ap (λ z. is_recorded records z)
-              (same_Some is.0 q (sym is.2 ∙ (ap (place_in v) (sym e) ∙ stands.use_ j small)))
-              ∙ ap given old));
+              (λ y out e. out q (ap given old) (sym e));
           far = (write_beyond working p.at p.far q is_known (ap given old) x, p.far);
           done = λ q' y d at is. ⊎_elim
               (λ (here : word_of sh q ≡ word_of sh q'). cond-true (word_of sh q == word_of sh q')

@@ -14,7 +14,7 @@ use Rattle.pm_view.specs.Counts.{HasRoom}
 use Rattle.pm_view.specs.Log.{Open, Recorded, log_stored, old_in, old_of, place_at}
 use Rattle.pm_view.specs.Places.{Place, is_data, is_place, word_of, distance}
 use Rattle.pm_view.specs.Steps.Step.{Store}
-use Rattle.pm_view.specs.View.{View, runs_one}
+use Rattle.pm_view.specs.View.{View}
 use Rattle.pm_view.specs.Views.{after, changed_from, marked_by, was_of}
 use Rattle.pm_world.specs.States.{given}
 use Rattle.pm_world.specs.Lawful.{MayStore, StoreFits, place_in}
@@ -24,8 +24,7 @@ use Rattle.pm_world.proofs.Recording.{old_in_at, place_is}
 use Rattle.pm_plan.specs.Notes.{IsBeyond, Valued}
 use Rattle.pm_undo.specs.Working.{IsStanding, IsWorking}
 use Rattle.pm_plan.proofs.AreaParts.{OfChunk, data_beyond, data_part, in_pool}
-use Rattle.pm_undo.proofs.Logging.{AreBeyond, Logging, class_so, log_with, noted_more, view_with}
-use Rattle.pm_plan.proofs.Notes.{known_noted}
+use Rattle.pm_undo.proofs.Logging.{AreBeyond, Logging, class_so, log_with, noted_others, view_with}
 
 -- no change is of a slot's line, so each recorded word may be written
 not_in_slots : (sh : Shape) (lane j : ℕ) (changes : List Undrained) → lane < sh.lanes → j < 64
@@ -124,7 +123,5 @@ module _ {v : View} {stay : ℕ → Type 0} {u : View} (working : IsWorking v)
 
   pub write_more : ((y : ℕ) → stay y → word_of v.fixed.shape q ≢ y) → Logging v stay v.log.records
       [] write_view
-  write_more other = noted_more at (Valued w x) tt (λ e. let a = working.lane in let f =
-      write_beyond in omega (arith, e, f, a))
-      (λ y s. known_noted sh u.claims (runs_one v) (Valued w x) tt y (other y s))
+  write_more other = noted_others at (Valued w x) tt other
       (write_change ∷ u.changes) (u.calls + 1) v.log.records []

@@ -3,8 +3,9 @@ use Rattle.std.proofs.Common.{◌≡◌, ℕ, ◌+◌, ◌-◌, ◌<◌, inl, tr
 use Rattle.std.specs.Prelude.{slice_index}
 use Rattle.std.specs.Int.{bit_at}
 use Rattle.std.specs.Option.{option_map}
-use Rattle.std.proofs.lemmas.Bool.{cond-true}
+use Rattle.std.proofs.lemmas.Bool.{both_ways, cond-true}
 use Rattle.std.proofs.lemmas.List.{get_or-map, length-map, take-append-le, take_all}
+use Rattle.std.proofs.lemmas.Option.{same_Some}
 use Rattle.pm_layout.specs.declared.shape.Shape.{Shape}
 use Rattle.pm_view.specs.Claims.{pictured}
 use Rattle.pm_view.specs.Log.{Recorded}
@@ -12,6 +13,7 @@ use Rattle.pm_view.specs.Places.{place_after, word_of}
 use Rattle.pm_view.specs.View.{View}
 use Rattle.pm_view.specs.Views.{after_all}
 use Rattle.pm_world.specs.LaneFields.{kept_of}
+use Rattle.pm_world.specs.Lawful.{place_in}
 use Rattle.pm_world.specs.Logs.{AreRestored}
 use Rattle.pm_world.specs.States.{given}
 use Rattle.pm_world.specs.Sights.{is_pictured, is_recorded, picture}
@@ -24,8 +26,9 @@ use Rattle.pm_plan.specs.Plans.{stores_from}
 use Rattle.pm_undo.specs.Plans.{puts_back, restores, restores_record}
 use Rattle.pm_undo.specs.Records.{no_record, record_at}
 use Rattle.pm_undo.specs.Working.{CanEndAt, CanRetire, IsRestored, IsStanding, IsWorking}
+use Rattle.pm_plan.proofs.AreaParts.{data_beyond}
 use Rattle.pm_undo.proofs.Apart.{no_recorded}
-use Rattle.pm_undo.proofs.Logging.{knows_so, log_again, log_with, still_working}
+use Rattle.pm_undo.proofs.Logging.{knows_so, log_again, log_with, pictures_so, still_working}
 use Rattle.pm_undo.proofs.Putting.{Putting, may_put, next_record, put_on, putting_starts, still_putting}
 use Rattle.pm_undo.proofs.RecordedWords.{known_place}
 use Rattle.pm_undo.proofs.Snapshotted.{at_index}
@@ -99,8 +102,15 @@ module _ (v : View) (working : IsWorking v) where
     noted = record { notes = p.at.notes; are = p.at.are; each = p.at.each };
     restored = subst (λ (y : View). AreRestored (picture y.fixed.shape y.claims) y.log.records)
         (sym p.at.same) is_restored;
-    known = λ q plain at new. knows_so p.at (word_of sh q) (q, plain, at, new);
-    working = still_working p.at working p.far refl working.few working.standing working.once;
+    known = λ q plain at new. knows_so p.at (word_of sh q) (λ o has_ e. both_ways
+        (is_recorded records q) new
+        (subst (λ z. is_recorded records z ≡ true) (same_Some o q
+        (sym (known_place v records o working.standing has_).use_ ∙ (ap (place_in v) (sym e) ∙ at)))
+        has_));
+    others = λ y out. pictures_so p.at y out;
+    working = still_working p.at working (λ o has_ e. let f = data_beyond sh o
+        (known_place v records o working.standing has_).plain in let low = working.lane in
+        omega (arith, e, f, low)) p.far refl working.few working.standing working.once;
   }
     where
       is_restored : AreRestored (picture sh u.claims) records

@@ -19,7 +19,7 @@ use Rattle.pm_undo.specs.Plans.{ends_word, retires}
 use Rattle.pm_plan.specs.Notes.{DrainedTo, Valued}
 use Rattle.pm_undo.specs.Working.{CanEndAt, CanRetire, IsRetired, phase_ended}
 use Rattle.pm_plan.proofs.AreaParts.{part_generation}
-use Rattle.pm_plan.proofs.Notes.{known_noted}
+use Rattle.pm_plan.proofs.Notes.{known_noted, pictured_noted}
 
 -- how far the call is once the next generation is stored
 abbrev phase_stored : Phase → Phase
@@ -140,6 +140,8 @@ module _ (v : View) (can : CanRetire v) where
           noted = record { notes = DrainedTo [] ∷ Valued w x ∷ []; are = claims; each = (can.unmaking, (tt, tt)) };
           known = λ y far. ap (λ (z : View). known z.fixed.shape (runs_one z) z.claims y) t.1
               ∙ (known_noted sh (Knows w x ∷ v.claims) (runs_one v) (DrainedTo []) can.unmaking y tt ∙ known_noted sh v.claims (runs_one v) (Valued w x) tt y (λ e. let low = can.lane in omega (arith, e, low, far)));
+          others = λ y far. ap (λ (z : View). value_in z y) t.1
+              ∙ pictured_noted sh v.claims (Valued w x) tt y (λ e. far (sym e));
           next = ap (λ (z : View). value_in z w) t.1 ∙ cond-true (w == w) (Some x) (pictured sh v.claims w) (eq-eqb w w refl);
         },
       )

@@ -1,10 +1,9 @@
 -- A snapshot is lawful: its words are looked at, and get records, which are drained.
-use Rattle.std.proofs.Common.{◌≡◌, ◌≢◌, ℕ, zero, suc, ◌+◌, ◌<◌, ◌≤◌, false, List, [], ◌∷◌, ◌++◌, length, map, take, get_or, refl, sym, ap, ◌∙◌, subst, arith, Some, length-append}
+use Rattle.std.proofs.Common.{◌≡◌, ℕ, zero, suc, ◌+◌, ◌<◌, ◌≤◌, false, List, [], ◌∷◌, ◌++◌, length, map, take, get_or, refl, sym, ap, ◌∙◌, subst, arith, Some, length-append}
 use Rattle.std.specs.Prelude.{unwrap_or}
 use Rattle.std.specs.List.{AllByRecursion}
 use Rattle.std.proofs.lemmas.List.{append_assoc, append-nil, get_or-map, length-map, take_more, take_all, length-take-le}
 use Rattle.pm_layout.specs.declared.shape.Shape.{Shape}
-use Rattle.pm_layout.specs.Areas.{word_of_generation}
 use Rattle.pm_layout.specs.Chunks.{words_of}
 use Rattle.pm_view.specs.Changes.{Undrained, drained}
 use Rattle.pm_view.specs.Claims.{Knows, SawBitmap, Drained, class, known}
@@ -26,12 +25,12 @@ use Rattle.pm_undo.specs.Plans.{looks_at, looks_first, looks_from, writes_all, w
 use Rattle.pm_undo.specs.Records.{no_record, record_at, recorded_in}
 use Rattle.pm_undo.specs.Spans.{ArePast, no_span, span_at}
 use Rattle.pm_plan.specs.Notes.{IsBeyond, Valued, Looked}
-use Rattle.pm_undo.specs.Working.{IsWorking}
+use Rattle.pm_undo.specs.Working.{IsNoSlot, IsWorking}
 use Rattle.pm_undo.specs.declared.spans.Span.{Span}
 use Rattle.pm_plan.proofs.AreaParts.{data_beyond, data_part}
 use Rattle.pm_undo.proofs.Apart.{early_none, no_recorded, not_in_both}
-use Rattle.pm_undo.proofs.Logging.{AreBeyond, Logging, class_so, drained_more, fixed_so, knows_so, noted_more, starts, view_with}
-use Rattle.pm_plan.proofs.Notes.{known_again, known_noted}
+use Rattle.pm_undo.proofs.Logging.{AreBeyond, Logging, beyond_slots, class_so, drained_more, fixed_so, knows_so, noted_more, noted_others, starts, view_with}
+use Rattle.pm_plan.proofs.Notes.{known_again, known_noted, pictured_again}
 use Rattle.pm_undo.proofs.OneRecord.{IsAside, Ready_, Written, record_written}
 use Rattle.pm_undo.proofs.Snapshotted.{all_past, all_rows, aside_beyond, at_index, drained_open, left_beyond, looks_so}
 
@@ -44,34 +43,38 @@ module _ (v : View) (working : IsWorking v) where
 
   -- the lane has these records, with nothing undrained in the areas
   abbrev pub HasClean : List Recorded → View → Type 0
-  HasClean records u = Logging v (IsBeyond sh) records [] u × AreBeyond sh u.changes
+  HasClean records u = Logging v (IsNoSlot sh v.fixed.lane) records [] u × AreBeyond sh u.changes
 
   pub clean_start : HasClean before v
-  clean_start = (starts v working (IsBeyond sh), working.clean)
+  clean_start = (starts v working (IsNoSlot sh v.fixed.lane), working.clean)
 
   -- ---- looking at a word
-  module _ (u : View) (at : Logging v (IsBeyond sh) before [] u) (w x : ℕ) (e : knows u w ≡ Some x)
-      (apart : w ≢ word_of_generation sh v.fixed.lane) where
+  module _ (u : View) (at : Logging v (IsNoSlot sh v.fixed.lane) before [] u) (w x : ℕ) (e : knows u w ≡ Some x)
+      where
     known_now : known sh (runs_one v) u.claims w ≡ Some x
     known_now = sym (ap (λ (y : View). knows y w) at.same) ∙ e
 
-    looked : (c i : ℕ) → (i ≡ 0 → class v.claims c ≡ 0) → Logging v (IsBeyond sh) before []
+    looked : (c i : ℕ) → (i ≡ 0 → class v.claims c ≡ 0) → Logging v (IsNoSlot sh v.fixed.lane) before []
         (view_with v (Knows w x ∷ seen_by (ChunkPart c i) x u.claims) u.changes u.calls before [])
     looked c zero huge =
         let none : class u.claims c ≡ 0 = ap (λ cl. cl c) (class_so at) ∙ huge refl in
-        let one = noted_more at (Looked c x) none tt (λ y far. known_noted sh u.claims (runs_one v)
-        (Looked c x) none y tt) u.changes u.calls before [] in
-        noted_more one (Valued w x) tt apart (λ y far. known_again sh (SawBitmap c x ∷ u.claims)
-        (runs_one v) w x (known_noted sh u.claims (runs_one v) (Looked c x) none w tt
-        ∙ known_now) y) u.changes u.calls before []
-    looked c (suc i) huge = noted_more at (Valued w x) tt apart
-        (λ y far. known_again sh u.claims (runs_one v) w x known_now y) u.changes u.calls before []
+        let one = noted_others at (Looked c x) none (λ y out. tt) u.changes u.calls before [] in
+        let seen : known sh (runs_one v) (SawBitmap c x ∷ u.claims) w ≡ Some x =
+        known_noted sh u.claims (runs_one v) (Looked c x) none w tt ∙ known_now in
+        noted_more one (Valued w x) tt
+        (λ y out. known_again sh (SawBitmap c x ∷ u.claims) (runs_one v) w x seen y)
+        (λ y out. pictured_again sh (SawBitmap c x ∷ u.claims) (runs_one v) w x seen y)
+        u.changes u.calls before []
+    looked c (suc i) huge = noted_more at (Valued w x) tt
+        (λ y out. known_again sh u.claims (runs_one v) w x known_now y)
+        (λ y out. pictured_again sh u.claims (runs_one v) w x known_now y)
+        u.changes u.calls before []
 
   look_word : (s : Span) → CanRecord v (recorded_in v s) → (i : ℕ) → i < s.count
       → Goes (HasClean before) (looks (s.word + i)) (HasClean before)
   look_word s is i low = goes_look (HasClean before) (HasClean before) w (λ u p.
       let x : ℕ = known_word u w in
-      let same : knows u w ≡ knows v w = knows_so p.0 w far in
+      let same : knows u w ≡ knows v w = knows_so p.0 w (beyond_slots v working w far) in
       let known_now_ : knows u w ≡ Some x = same
       ∙ (l.known_ ∙ ap (λ o. Some (unwrap_or o 0)) (sym same)) in
       let step : after u (Load w x) ≡ view_with v (Knows w x ∷ seen_by (ChunkPart d.chunk d.at) x
@@ -82,8 +85,7 @@ module _ (v : View) (working : IsWorking v) where
         subst (λ (g : Constants). w < words_of g.shape) (sym (fixed_so p.0)) l.inside,
         known_now_,
         subst (HasClean before) (sym step) (
-          looked u p.0 w x known_now_ (λ e. let a = working.lane in omega (arith, e, far, a))
-              d.chunk d.at d.huge,
+          looked u p.0 w x known_now_ d.chunk d.at d.huge,
           p.1,
         ),
       ))
@@ -138,7 +140,7 @@ module _ (v : View) (working : IsWorking v) where
 
       -- so many of the records stand
       pub record Stand (k : ℕ) (u : View) : Type 0 where
-        pub at : Logging v (IsBeyond sh) (before ++ take k records) [] u
+        pub at : Logging v (IsNoSlot sh v.fixed.lane) (before ++ take k records) [] u
         pub aside : AllByRecursion (IsAside sh) u.changes
         pub drops : 1 ≤ k → DropsSome u.changes
 
@@ -159,7 +161,7 @@ module _ (v : View) (working : IsWorking v) where
           (writes_record sh v.fixed.lane v.log.generation (length (before ++ take k records))
           (kept_of sh (nth k))) (λ u p. (p.at, p.aside))
           (λ u p. record {
-            at = subst (λ rs. Logging v (IsBeyond sh) rs [] u)
+            at = subst (λ rs. Logging v (IsNoSlot sh v.fixed.lane) rs [] u)
                 (append_assoc before (take k records) (nth k ∷ [])
                 ∙ ap (λ l. before ++ l) (sym (take_more records k no_recorded low))) p.at;
             aside = p.aside;
@@ -208,7 +210,7 @@ module _ (v : View) (working : IsWorking v) where
                 ∙ drained_open
                 (view_with v u.claims u.changes u.calls (before ++ take (length records) records)
                 []) left refl)) (
-                  subst (λ rs. Logging v (IsBeyond sh) (before ++ rs) []
+                  subst (λ rs. Logging v (IsNoSlot sh v.fixed.lane) (before ++ rs) []
                       (view_with v (Drained left ∷ u.claims) left (u.calls + 1)
                       (before ++ take (length records) records) []))
                       (take_all (length records) records (omega arith))
@@ -227,7 +229,7 @@ module _ (v : View) (working : IsWorking v) where
           (in_turn (writes_records sh v.fixed.lane v.log.generation (length before)
           (map (kept_of sh) records)) (one Drain))
           (λ u p. record {
-            at = subst (λ rs. Logging v (IsBeyond sh) rs [] u)
+            at = subst (λ rs. Logging v (IsNoSlot sh v.fixed.lane) rs [] u)
                 (sym (append-nil before)) p.0;
             aside = aside_beyond sh u.changes p.1;
             drops = λ one_. absurd (omega (arith, one_));

@@ -1,5 +1,5 @@
 -- What a snapshot leaves: a lane at work, whose records may be put back.
-use Rattle.std.proofs.Common.{◌≡◌, ℕ, ◌+◌, ◌<◌, ◌≤◌, false, List, [], ◌∷◌, ◌++◌, length, map, refl, sym, ap, ◌∙◌, subst, arith, length-append}
+use Rattle.std.proofs.Common.{◌≡◌, ℕ, ◌+◌, ◌<◌, ◌≤◌, inl, false, List, [], ◌∷◌, ◌++◌, length, map, refl, sym, ap, ◌∙◌, subst, arith, length-append}
 use Rattle.std.specs.List.{AllByRecursion}
 use Rattle.std.proofs.lemmas.List.{append-nil, length-map}
 use Rattle.pm_layout.specs.declared.shape.Shape.{Shape}
@@ -17,7 +17,7 @@ use Rattle.pm_undo.specs.Spans.{ArePast, plan_of}
 use Rattle.pm_undo.specs.Working.{CanSnapshot, HasSlots, IsSnapshot, IsStanding, IsWorking}
 use Rattle.pm_undo.specs.declared.spans.Span.{Span}
 use Rattle.pm_undo.proofs.Apart.{apart_from, once_both, past_once}
-use Rattle.pm_undo.proofs.Logging.{fixed_so, knows_so, log_again, still_working}
+use Rattle.pm_undo.proofs.Logging.{beyond_slots, fixed_so, knows_so, log_again, pictures_so, still_working}
 use Rattle.pm_undo.proofs.Rising.{plan_past}
 use Rattle.pm_undo.proofs.Snapshotted.{all_kept, all_past, all_rows}
 use Rattle.pm_undo.proofs.Snapshotting.{HasClean, clean_start, logs_some, looks_all}
@@ -114,8 +114,9 @@ module _ (v : View) where
             }) (sym (log_again v working all));
             noted = record { notes = p.0.notes; are = p.0.are; each = p.0.each };
             changes = p.1;
-            known = knows_so p.0;
-            working = still_working p.0 working p.1 refl (let a = length-append v.log.records new in
+            known = λ y far. knows_so p.0 y (beyond_slots v working y far);
+            others = λ y out. pictures_so p.0 y out;
+            working = still_working p.0 working (inl (omega arith)) p.1 refl (let a = length-append v.log.records new in
                 let b = length-map spans (recorded_in v) in omega (arith, a, b, room))
                 (both_all (IsStanding v) v.log.records new working.standing
                 (all_stand spans can.each))

@@ -2,7 +2,7 @@
 use Rattle.std.proofs.Common.{◌≢◌, ◌≡◌, ℕ, zero, suc, ◌+◌, ◌-◌, ◌*◌, ◌/◌, ◌<◌, ◌≤◌, inl, inr, ⊎_elim, Bool, true, false, cond, not, eqb, ltb, ◌||◌, ◌&&◌, List, [], ◌∷◌, ◌++◌, length, map, refl, sym, ap, ◌∙◌, subst, arith, Option, None, Some, Result}
 use Rattle.std.specs.Prelude.{slice_index, IsSome}
 use Rattle.std.specs.List.{AllByRecursion, filter, flat_map, range_with_len}
-use Rattle.std.proofs.lemmas.Bool.{both_ways, eqb-true}
+use Rattle.std.proofs.lemmas.Bool.{both_ways, cases_lt, eqb-true}
 use Rattle.std.proofs.lemmas.Grind.{flat_map-append}
 use Rattle.std.proofs.lemmas.List.{append_assoc, map-append}
 use Rattle.std.proofs.lemmas.List.Folds.{list_any-append}
@@ -38,7 +38,7 @@ use Rattle.pm_plan.specs.Notes.{IsBeyond, Valued}
 use Rattle.pm_undo.specs.Working.{CanWrite, IsOutside, IsStanding, IsWritten}
 use Rattle.pm_undo.specs.declared.spans.Span.{Span}
 use Rattle.pm_plan.proofs.AreaParts.{data_beyond}
-use Rattle.pm_undo.proofs.Logging.{AreBeyond, Logging, known_still, knows_so, log_again, logging_weaker, starts, still_logging, still_working}
+use Rattle.pm_undo.proofs.Logging.{AreBeyond, Logging, generation_word, known_still, knows_so, log_again, logging_weaker, starts, still_logging, still_working}
 use Rattle.pm_plan.proofs.Notes.{known_here, known_noted}
 use Rattle.pm_undo.proofs.Planning.{in_range}
 use Rattle.pm_undo.proofs.Putting.{old_at}
@@ -192,6 +192,22 @@ module _ (v : View) (word : ℕ) (values : List ℕ) (can : CanWrite v word valu
       fewer y (inl less) = inl less
       fewer y (inr more) = inr (omega (arith, more))
 
+  -- the generation's word is none of them, as the first of them is data
+  generation_outside : IsOutside word (length values) (generation_word v)
+  generation_outside = go (length values) refl
+    where
+      go : (n : ℕ) → length values ≡ n → IsOutside word n (generation_word v)
+      go zero none = ⊎_elim (λ (less : generation_word v < word). inl less)
+          (λ (more : word ≤ generation_word v). inr (omega (arith, more)))
+          (cases_lt (generation_word v) word)
+      go (suc n) some =
+          let kept = kept_place v v.log.records (word + 0) can.working.standing
+          (can.recorded 0 (omega (arith, some))) in
+          let far = data_beyond sh kept.place kept.is_known.plain in
+          let at = kept.word in
+          let low = can.working.lane in
+          inl (omega (arith, far, at, low))
+
   -- WORDS THAT HAVE RECORDS MAY BE WRITTEN
   pub write_lawful : Ready v (stores_from word values v)
       × IsWritten v word values (after_all v (stores_from word values v))
@@ -224,7 +240,7 @@ module _ (v : View) (word : ℕ) (values : List ℕ) (can : CanWrite v word valu
           noted = record { notes = p.at.notes; are = p.at.are; each = p.at.each };
           written = λ i low. ap (λ (y : View). knows y (word + i)) p.at.same ∙ p.done i low;
           known = λ u out. knows_so p.at u out;
-          working = still_working p.at can.working p.far refl can.working.few can.working.standing
+          working = still_working p.at can.working generation_outside p.far refl can.working.few can.working.standing
               can.working.once;
         },
       )

@@ -1,5 +1,5 @@
 -- THE PLANS OF UNDO LOGGING: docs/FORMAT.md, "Sequences".
-use Rattle.std.specs.Prelude.{ℕ, zero, suc, ◌++◌, ◌+◌, ◌*◌, ◌/◌, List, [], ◌∷◌, length, map, slice_index, take}
+use Rattle.std.specs.Prelude.{ℕ, zero, suc, ◌++◌, ◌+◌, ◌*◌, ◌/◌, List, [], ◌∷◌, length, map, take}
 use Rattle.pm_layout.specs.declared.shape.Shape.{Shape}
 use Rattle.pm_layout.specs.Areas.{word_of_generation, line_of_slot}
 use Rattle.pm_view.specs.Steps.Step.{Flush, Drain}

@@ -1,12 +1,11 @@
 -- A lane whose log may grow, be put back and be retired, on its view alone; and what each of
 -- these leaves of the view.
-use Rattle.std.specs.Prelude.{◌≡◌, ◌⊎◌, ℕ, ◌+◌, ◌*◌, ◌^◌, ◌<◌, ◌≤◌, true, false, List, [], ◌∷◌, ◌++◌, length, map, slice_index, Some, IsSome}
+use Rattle.std.specs.Prelude.{◌≡◌, ◌≢◌, ◌⊎◌, ℕ, ◌+◌, ◌*◌, ◌^◌, ◌<◌, ◌≤◌, true, false, List, [], ◌∷◌, ◌++◌, length, map, slice_index, Some, IsSome}
 use Rattle.std.specs.List.{AllByRecursion}
 use Rattle.pm_layout.specs.declared.shape.Shape.{Shape}
-use Rattle.pm_layout.specs.Areas.{greatest_generation, undo_slots, old_words, word_of_generation}
-use Rattle.pm_layout.specs.Chunks.{page_of_zone}
+use Rattle.pm_layout.specs.Areas.{greatest_generation, line_of_slot, undo_slots, old_words, word_of_generation}
 use Rattle.pm_view.specs.Changes.{Undrained}
-use Rattle.pm_view.specs.Claims.{Claim, Knows, Drained, SawBitmap, class, making}
+use Rattle.pm_view.specs.Claims.{making}
 use Rattle.pm_view.specs.Founds.{knows}
 use Rattle.pm_view.specs.Log.{Phase, Idle, Open, Drawn, Recorded, next_log, old_in}
 use Rattle.pm_view.specs.Places.{Place, word_of, place_after, is_data}
@@ -65,6 +64,11 @@ pub record CanSnapshot (v : View) (spans : List Span) : Type 0 where
 abbrev pub HasSlots : View → List Span → Type 0
 HasSlots v spans = length v.log.records + length spans ≤ undo_slots v.fixed.shape
 
+-- the word is of none of the lane's slots
+abbrev pub IsNoSlot : Shape → ℕ → ℕ → Type 0
+IsNoSlot sh lane w = (w < 8 * line_of_slot sh lane 0)
+    ⊎ (8 * line_of_slot sh lane (undo_slots sh) ≤ w)
+
 -- THEIR RECORDS STAND after those that there were, drained as they are, with the words as they
 -- were known; these are known so still
 pub record IsSnapshot (v : View) (spans : List Span) (w : View) : Type 0 where
@@ -77,6 +81,7 @@ pub record IsSnapshot (v : View) (spans : List Span) (w : View) : Type 0 where
   pub noted : HasNoted v w
   pub changes : AllByRecursion (λ (u : Undrained). IsBeyond v.fixed.shape u.word) w.changes
   pub known : (u : ℕ) → IsBeyond v.fixed.shape u → knows w u ≡ knows v u
+  pub others : (u : ℕ) → IsNoSlot v.fixed.shape v.fixed.lane u → value_in w u ≡ value_in v u
   pub working : IsWorking w
 
 -- ---- writing
@@ -103,7 +108,7 @@ pub record IsWritten (v : View) (word : ℕ) (values : List ℕ) (w : View) : Ty
 -- ---- putting back
 
 -- EVERY RECORDED WORD IS AS IT WAS RECORDED, and that is persistent; other data are known as they
--- were
+-- were, and no other word is pictured otherwise
 pub record IsRestored (v w : View) : Type 0 where
   pub same : w ≡ record v { claims = w.claims; changes = []; calls = w.calls }
   pub noted : HasNoted v w
@@ -111,6 +116,8 @@ pub record IsRestored (v w : View) : Type 0 where
   pub known : (p : Place) → is_data p ≡ true → place_in v (word_of v.fixed.shape p) ≡ Some p
       → is_recorded v.log.records p ≡ false
       → knows w (word_of v.fixed.shape p) ≡ knows v (word_of v.fixed.shape p)
+  pub others : (u : ℕ) → ((p : Place) → is_recorded v.log.records p ≡ true
+      → u ≢ word_of v.fixed.shape p) → value_in w u ≡ value_in v u
   pub working : IsWorking w
 
 -- ---- ending the generation
@@ -147,5 +154,7 @@ pub record IsRetired (v w : View) : Type 0 where
   }
   pub noted : HasNoted v w
   pub known : (u : ℕ) → IsBeyond v.fixed.shape u → knows w u ≡ knows v u
+  pub others : (u : ℕ) → u ≢ word_of_generation v.fixed.shape v.fixed.lane
+      → value_in w u ≡ value_in v u
   pub next : value_in w (word_of_generation v.fixed.shape v.fixed.lane)
       ≡ Some (v.log.generation + 1)
