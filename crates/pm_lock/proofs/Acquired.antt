@@ -83,22 +83,22 @@ module _ (v : View) (sh : Shape) (pool : ℕ) (locks : List HeldLock) (new : Lis
     rises = wanted_rises sh pool (is_listed locks new) wants [] tt;
     each = wanted_all sh pool (is_listed locks new) (λ (l : HeldLock). MayTake v l.line)
         (λ id line w is free. record {
-      inside = subst (λ s. line < words_of s / 8) (sym can.shape) (line_inside sh line (has_header sh pool line id is).chunk);
-      free = false_from_ne_true (holds v.claims line) (λ h. both_ways (is_listed locks new line) free (can.listed line h));
-      early = can.early;
-    }) wants [] tt;
+          inside = subst (λ s. line < words_of s / 8) (sym can.shape) (line_inside sh line (has_header sh pool line id is).chunk);
+          free = false_from_ne_true (holds v.claims line) (λ h. both_ways (is_listed locks new line) free (can.listed line h));
+          early = can.early;
+        }) wants [] tt;
   }
 
   looks_wanted : (u : View) → IsTaken v plan u → CanLookAll u sh plan
   looks_wanted u taken = all_both (λ (l : HeldLock). is_chunk_line sh l.line ≡ true) (IsHeldAs u.claims) (λ (l : HeldLock). CanLook u sh l.line) plan
       (λ l chunk held. subst (λ y. CanLook y sh l.line) (sym taken) (record {
-    shape = can.shape;
-    lane = can.area;
-    chunk = chunk;
-    held = ap (λ (y : View). holds y.claims l.line) (sym taken) ∙ held_as u.claims l held;
-    early = can.early;
-    unmaking = λ c. took_making sh plan v.claims c ∙ can.unmaking c;
-  }))
+        shape = can.shape;
+        lane = can.area;
+        chunk = chunk;
+        held = ap (λ (y : View). holds y.claims l.line) (sym taken) ∙ held_as u.claims l held;
+        early = can.early;
+        unmaking = λ c. took_making sh plan v.claims c ∙ can.unmaking c;
+      }))
       (wanted_all sh pool (is_listed locks new) (λ (l : HeldLock). is_chunk_line sh l.line ≡ true) (λ id line w is free. (has_header sh pool line id is).chunk) wants [] tt)
       (taken_holds v u plan taken)
 
