@@ -14,3 +14,4 @@ pub mod Wanting
 pub mod Acquired
 pub mod RaisedLocks
 pub mod RootWords
+pub mod ModelPlans

@@ -7,3 +7,4 @@ pub mod Wants
 pub mod Acquiring
 pub mod Raising
 pub mod RootLock
+pub mod ModelLocks

@@ -1,5 +1,5 @@
 -- THE ROOT WORD under its lock, that of line 0.
-use Rattle.std.specs.Prelude.{◌≡◌, ℕ, ◌<◌, Bool, [], ◌∷◌, Option, Some, Result, Ok, Err}
+use Rattle.std.specs.Prelude.{◌≡◌, ℕ, ◌<◌, Bool, [], ◌∷◌, Some, Result, Ok, Err}
 use Rattle.pm_layout.specs.Chunks.{word_of_root}
 use Rattle.pm_memory.specs.declared.lane_mem.Stopped.{Stopped}
 use Rattle.pm_view.specs.Claims.{Knows, Took}

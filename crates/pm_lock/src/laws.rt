@@ -8,6 +8,7 @@ ghost use Rattle.pm_lock.specs.Holding.{IsGiven, IsHeldAs, IsTaken, Rises};
 ghost use Rattle.pm_layout.specs.declared.shape.Shape.{Shape};
 ghost use Rattle.pm_objects.specs.declared.ids.Oid.{Oid};
 ghost use Rattle.pm_lock.specs.Acquiring.{WantedMayBeLocked};
+ghost use Rattle.pm_lock.specs.ModelLocks.{PlansAreTheModels};
 ghost use Rattle.pm_lock.specs.Objects.{IsHeader, LooksTell, SeenFits, line_of};
 ghost use Rattle.pm_lock.specs.Plans.{planned};
 ghost use Rattle.pm_lock.specs.Steps.{AreWaits, gives, tries};
@@ -53,4 +54,10 @@ pub fn looks_tell()
 /// and look under each once they are taken. No code runs.
 pub fn wanted_locks_may_be_taken()
     ensures { WantedMayBeLocked }
+{}
+
+/// A law: the locks that are wanted are the plain model's, so they are too many, or of an id without a
+/// place, exactly where it refuses them. No code runs.
+pub fn plans_are_the_models()
+    ensures { PlansAreTheModels }
 {}
