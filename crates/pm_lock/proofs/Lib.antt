@@ -15,3 +15,4 @@ pub mod Acquired
 pub mod RaisedLocks
 pub mod RootWords
 pub mod ModelPlans
+pub mod RaisedClaims

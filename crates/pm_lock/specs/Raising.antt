@@ -8,7 +8,8 @@ use Rattle.pm_view.specs.Views.{after_all}
 use Rattle.pm_world.specs.Lawful.{MayRaise}
 use Rattle.pm_world.specs.declared.lane.HeldLock.{HeldLock}
 use Rattle.pm_world.specs.declared.lane.Lane.{Lane}
-use Rattle.pm_lock.specs.Holding.{AreOnce}
+use Rattle.pm_view.specs.Claims.{Claim, Raised}
+use Rattle.pm_lock.specs.Holding.{AreOnce, IsHeldAs}
 use Rattle.pm_lock.specs.Locking.{RaisedAs, lock_at, lock_of}
 
 -- a lock that is held for reading, of a line that is to be written
@@ -48,3 +49,14 @@ RaisedAllAs at writes v old new false = (k : ℕ) × (k < length old.locks.items
 
 unfoldable pub RaisedAll : {M : Type 0} → (M → View → Type 0) → (ℕ → Bool) → Lane M → Lane M → Bool → Type 0
 RaisedAll at writes old new won = (v : View) → at old.memory v → MayRaiseAll v old.locks.items → RaisedAllAs at writes v old new won
+
+-- the claims once locks are raised
+abbrev pub rose : List HeldLock → List Claim → List Claim
+rose [] t = t
+rose (l ∷ locks) t = rose locks (Raised l.line ∷ t)
+
+-- THEY ARE RAISED: the view is as it was, but for these claims and what the tries told; and locks that
+-- were held are held so
+pub record AreRaised (v : View) (writes : ℕ → Bool) (locks : List HeldLock) (w : View) : Type 0 where
+  pub same : w ≡ record v { claims = rose (filter (is_raised writes) locks) v.claims; seen = w.seen }
+  pub held : AllByRecursion (IsHeldAs v.claims) locks → AllByRecursion (IsHeldAs w.claims) (raised writes locks)

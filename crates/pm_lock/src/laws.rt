@@ -11,6 +11,7 @@ ghost use Rattle.pm_lock.specs.Acquiring.{WantedMayBeLocked};
 ghost use Rattle.pm_lock.specs.ModelLocks.{PlansAreTheModels};
 ghost use Rattle.pm_lock.specs.Objects.{IsHeader, LooksTell, SeenFits, line_of};
 ghost use Rattle.pm_lock.specs.Plans.{planned};
+ghost use Rattle.pm_lock.specs.Raising.{AreRaised, raises};
 ghost use Rattle.pm_lock.specs.Steps.{AreWaits, gives, tries};
 
 /// A law: where a lane may take some locks in rising place, and waited for each of them, or got each
@@ -60,4 +61,10 @@ pub fn wanted_locks_may_be_taken()
 /// place, exactly where it refuses them. No code runs.
 pub fn plans_are_the_models()
     ensures { PlansAreTheModels }
+{}
+
+/// A law: where locks held for reading were raised, each at one try, the lane holds what it held, those
+/// of lines that are to be written for writing, and its view is else as it was. No code runs.
+pub fn raised_locks_are_held()
+    ensures { (v : View) (writes : ℕ → Bool) (locks : List HeldLock) → AreRaised v writes locks (after_all v (raises writes locks)) }
 {}

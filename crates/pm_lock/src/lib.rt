@@ -27,7 +27,7 @@ pub use finding::{find_all, find_object};
 pub use giving::give_back;
 pub use laws::{
     locks_are_held_once_taken, locks_may_be_given_back, looks_tell, objects_have_headers,
-    plans_are_the_models, plans_rise, sights_fit, wanted_locks_may_be_taken,
+    plans_are_the_models, plans_rise, raised_locks_are_held, sights_fit, wanted_locks_may_be_taken,
 };
 pub use places::line_of;
 pub use planning::plan_lock;
