@@ -16,3 +16,4 @@ pub mod RaisedLocks
 pub mod RootWords
 pub mod ModelPlans
 pub mod RaisedClaims
+pub mod SizeWords

@@ -8,3 +8,4 @@ pub mod Acquiring
 pub mod Raising
 pub mod RootLock
 pub mod ModelLocks
+pub mod Sizes

@@ -1,4 +1,5 @@
--- THE LOCKS THAT ARE WANTED ARE THE PLAIN MODEL'S: as many as its transaction is to take, and of the same ids there is no place.
+-- THE LOCKS THAT ARE WANTED ARE THE PLAIN MODEL'S: as many as its transaction is to take, and of
+-- the same ids there is no place.
 use Rattle.std.specs.Prelude.{◌≡◌, ℕ, ◌+◌, nat_lt, not, true, false, List, length, Some}
 use Rattle.std.specs.List.{list_any}
 use Rattle.pm_layout.specs.declared.shape.Shape.{Shape}
@@ -11,8 +12,10 @@ use Rattle.pm_world.specs.declared.lane.HeldLock.{HeldLock}
 use Rattle.pm_lock.specs.Objects.{line_of}
 use Rattle.pm_lock.specs.Wants.{has_unplaced, is_listed, wanted}
 
--- these are the locks of a transaction of a pool of this id and shape, and the lines of its new objects
-pub record HasLocksOf (tx : Transaction) (sh : Shape) (pool : ℕ) (locks : List HeldLock) (new : List ℕ) : Type 0 where
+-- these are the locks of a transaction of a pool of this id and shape, and the lines of its new
+-- objects
+pub record HasLocksOf (tx : Transaction) (sh : Shape) (pool : ℕ) (locks : List HeldLock)
+    (new : List ℕ) : Type 0 where
   pub id : tx.before.id ≡ pool
   pub lanes : tx.before.lanes ≡ sh.lanes
   pub zones : tx.before.zones ≡ sh.zones
@@ -23,10 +26,14 @@ pub record HasLocksOf (tx : Transaction) (sh : Shape) (pool : ℕ) (locks : List
       → is_listed locks new line ≡ true
 
 -- SO TOO MANY LOCKS are too many for the model, and an id without a place is one for the model
-pub record PlansAs (tx : Transaction) (sh : Shape) (pool : ℕ) (locks : List HeldLock) (new : List ℕ) (wants : List Want) : Type 0 where
-  pub full : passes_locks tx wants ≡ nat_lt 64 (length locks + length (wanted sh pool locks new wants))
-  pub unplaced : list_any (λ (want : Want). not (has_place tx.before want.id)) wants ≡ has_unplaced sh pool wants
+pub record PlansAs (tx : Transaction) (sh : Shape) (pool : ℕ) (locks : List HeldLock)
+    (new : List ℕ) (wants : List Want) : Type 0 where
+  pub full : passes_locks tx wants
+      ≡ nat_lt 64 (length locks + length (wanted sh pool locks new wants))
+  pub unplaced : list_any (λ (want : Want). not (has_place tx.before want.id)) wants
+      ≡ has_unplaced sh pool wants
 
 abbrev pub PlansAreTheModels : Type 0
-PlansAreTheModels = (tx : Transaction) (sh : Shape) (pool : ℕ) (locks : List HeldLock) (new : List ℕ) (wants : List Want)
+PlansAreTheModels = (tx : Transaction) (sh : Shape) (pool : ℕ) (locks : List HeldLock)
+    (new : List ℕ) (wants : List Want)
     → HasLocksOf tx sh pool locks new → PlansAs tx sh pool locks new wants

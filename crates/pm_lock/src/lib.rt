@@ -19,6 +19,7 @@ mod places;
 mod planning;
 mod raising;
 mod root_lock;
+mod size;
 mod taking;
 mod wants;
 
@@ -33,6 +34,7 @@ pub use places::line_of;
 pub use planning::plan_lock;
 pub use raising::raise_wanted;
 pub use root_lock::lock_root;
+pub use size::size_of;
 pub use taking::{lock, lock_all, raise, try_all, try_lock};
 pub use wants::plan_wants;
 
