@@ -56,7 +56,7 @@ module _ (sh : Shape) (pool : ℕ) (listed : ℕ → Bool) where
   wanted_rises [] plan r = r
   wanted_rises (want ∷ wants) plan r = wanted_rises wants (planned_for listed (line_of sh pool want.id) want.write plan) (for_rises (line_of sh pool want.id) want.write plan r)
 
-line_inside : (sh : Shape) (line : ℕ) → is_chunk_line sh line ≡ true → line < words_of sh / 8
+pub line_inside : (sh : Shape) (line : ℕ) → is_chunk_line sh line ≡ true → line < words_of sh / 8
 line_inside sh line e = let p = chunk_line sh line e in by (Rattle.pm_lock.specs.Objects.chunk_of_line sh line) p.0 p.1
   where
     by : (c : ℕ) → c < Rattle.pm_layout.specs.Chunks.chunks_of sh → Rattle.pm_layout.specs.Chunks.page_of_chunk sh c ≡ line / 64 → line < words_of sh / 8

@@ -17,3 +17,4 @@ pub mod RootWords
 pub mod ModelPlans
 pub mod RaisedClaims
 pub mod SizeWords
+pub mod HeldLocks

@@ -9,3 +9,4 @@ pub mod Raising
 pub mod RootLock
 pub mod ModelLocks
 pub mod Sizes
+pub mod Held

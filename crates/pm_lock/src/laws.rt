@@ -4,6 +4,7 @@ ghost use Rattle.pm_view.specs.Steps.{Step};
 ghost use Rattle.pm_view.specs.View.{View};
 ghost use Rattle.pm_view.specs.Views.{after_all};
 ghost use Rattle.pm_world.specs.declared.lane.HeldLock.{HeldLock};
+ghost use Rattle.pm_lock.specs.Held.{HeldAreRaised, HeldGrow, HeldMayBeRaised, HeldStay};
 ghost use Rattle.pm_lock.specs.Holding.{IsGiven, IsHeldAs, IsTaken, Rises};
 ghost use Rattle.pm_layout.specs.declared.shape.Shape.{Shape};
 ghost use Rattle.pm_objects.specs.declared.ids.Oid.{Oid};
@@ -67,4 +68,13 @@ pub fn plans_are_the_models()
 /// of lines that are to be written for writing, and its view is else as it was. No code runs.
 pub fn raised_locks_are_held()
     ensures { (v : View) (writes : ℕ → Bool) (locks : List HeldLock) → AreRaised v writes locks (after_all v (raises writes locks)) }
+{}
+
+/// A law: the locks of a lane's list are of lines of the pool, no two of one line, and held, with those
+/// that are wanted and taken, after looks, and once they are raised, as they may be. No code runs.
+pub fn held_locks_stand()
+    ensures grow { HeldGrow }
+    ensures stay { HeldStay }
+    ensures may_be_raised { HeldMayBeRaised }
+    ensures are_raised { HeldAreRaised }
 {}
