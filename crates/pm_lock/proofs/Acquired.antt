@@ -70,7 +70,7 @@ took_making : (sh : Shape) (locks : List HeldLock) (t : List Claim) (c : ℕ) �
 took_making sh [] t c = refl
 took_making sh (l ∷ locks) t c = took_making sh locks (Took l.line l.write ∷ t) c
 
-held_as : (t : List Claim) (l : HeldLock) → IsHeldAs t l → holds t l.line ≡ true
+pub held_as : (t : List Claim) (l : HeldLock) → IsHeldAs t l → holds t l.line ≡ true
 held_as t l is = ⊎_elim (λ (w : l.write ≡ true). or_left (locked t l.line) (reads t l.line) (is.0 w)) (λ (r : l.write ≡ false). or_right (locked t l.line) (reads t l.line) (is.1 r)) (cases_Bool l.write)
 
 -- FROM THE VIEW ALONE

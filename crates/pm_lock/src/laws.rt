@@ -4,7 +4,7 @@ ghost use Rattle.pm_view.specs.Steps.{Step};
 ghost use Rattle.pm_view.specs.View.{View};
 ghost use Rattle.pm_view.specs.Views.{after_all};
 ghost use Rattle.pm_world.specs.declared.lane.HeldLock.{HeldLock};
-ghost use Rattle.pm_lock.specs.Held.{HeldAreRaised, HeldGrow, HeldMayBeRaised, HeldStay};
+ghost use Rattle.pm_lock.specs.Held.{HeldAreRaised, HeldBefore, HeldGrow, HeldMayBeGiven, HeldMayBeRaised, HeldStay};
 ghost use Rattle.pm_lock.specs.Holding.{IsGiven, IsHeldAs, IsTaken, Rises};
 ghost use Rattle.pm_layout.specs.declared.shape.Shape.{Shape};
 ghost use Rattle.pm_objects.specs.declared.ids.Oid.{Oid};
@@ -71,10 +71,13 @@ pub fn raised_locks_are_held()
 {}
 
 /// A law: the locks of a lane's list are of lines of the pool, no two of one line, and held, with those
-/// that are wanted and taken, after looks, and once they are raised, as they may be. No code runs.
+/// that are wanted and taken, all or those before a refused one, after looks, and once they are raised,
+/// as they may be; and once the call is over they may be given back. No code runs.
 pub fn held_locks_stand()
     ensures grow { HeldGrow }
+    ensures before { HeldBefore }
     ensures stay { HeldStay }
     ensures may_be_raised { HeldMayBeRaised }
     ensures are_raised { HeldAreRaised }
+    ensures may_be_given { HeldMayBeGiven }
 {}

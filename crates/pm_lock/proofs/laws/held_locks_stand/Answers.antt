@@ -1,4 +1,4 @@
-use Rattle.pm_lock.proofs.HeldLocks.{held_are_raised, held_grow, held_may_be_raised, held_stay}
+use Rattle.pm_lock.proofs.HeldLocks.{held_are_raised, held_before, held_grow, held_may_be_given, held_may_be_raised, held_stay}
 use Rattle.pm_lock.proofs.laws.held_locks_stand.Goals as goal
 
 pub returns-clause-grow : goal.returns-clause-grow
@@ -12,3 +12,9 @@ returns-clause-may_be_raised c v locks early h = held_may_be_raised v locks earl
 
 pub returns-clause-are_raised : goal.returns-clause-are_raised
 returns-clause-are_raised c v writes locks h = held_are_raised v writes locks h
+
+pub returns-clause-before : goal.returns-clause-before
+returns-clause-before c v sh pool locks new wants k line write may h = held_before v sh pool locks new wants k line write may h
+
+pub returns-clause-may_be_given : goal.returns-clause-may_be_given
+returns-clause-may_be_given c v locks idle h = held_may_be_given v locks idle h
