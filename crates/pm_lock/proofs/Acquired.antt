@@ -56,7 +56,7 @@ module _ (sh : Shape) (pool : ℕ) (listed : ℕ → Bool) where
   wanted_rises [] plan r = r
   wanted_rises (want ∷ wants) plan r = wanted_rises wants (planned_for listed (line_of sh pool want.id) want.write plan) (for_rises (line_of sh pool want.id) want.write plan r)
 
-line_inside : (sh : Shape) (line : ℕ) → is_chunk_line sh line ≡ true → line < words_of sh / 8
+pub line_inside : (sh : Shape) (line : ℕ) → is_chunk_line sh line ≡ true → line < words_of sh / 8
 line_inside sh line e = let p = chunk_line sh line e in by (Rattle.pm_lock.specs.Objects.chunk_of_line sh line) p.0 p.1
   where
     by : (c : ℕ) → c < Rattle.pm_layout.specs.Chunks.chunks_of sh → Rattle.pm_layout.specs.Chunks.page_of_chunk sh c ≡ line / 64 → line < words_of sh / 8
@@ -70,7 +70,7 @@ took_making : (sh : Shape) (locks : List HeldLock) (t : List Claim) (c : ℕ) �
 took_making sh [] t c = refl
 took_making sh (l ∷ locks) t c = took_making sh locks (Took l.line l.write ∷ t) c
 
-held_as : (t : List Claim) (l : HeldLock) → IsHeldAs t l → holds t l.line ≡ true
+pub held_as : (t : List Claim) (l : HeldLock) → IsHeldAs t l → holds t l.line ≡ true
 held_as t l is = ⊎_elim (λ (w : l.write ≡ true). or_left (locked t l.line) (reads t l.line) (is.0 w)) (λ (r : l.write ≡ false). or_right (locked t l.line) (reads t l.line) (is.1 r)) (cases_Bool l.write)
 
 -- FROM THE VIEW ALONE
@@ -83,22 +83,22 @@ module _ (v : View) (sh : Shape) (pool : ℕ) (locks : List HeldLock) (new : Lis
     rises = wanted_rises sh pool (is_listed locks new) wants [] tt;
     each = wanted_all sh pool (is_listed locks new) (λ (l : HeldLock). MayTake v l.line)
         (λ id line w is free. record {
-      inside = subst (λ s. line < words_of s / 8) (sym can.shape) (line_inside sh line (has_header sh pool line id is).chunk);
-      free = false_from_ne_true (holds v.claims line) (λ h. both_ways (is_listed locks new line) free (can.listed line h));
-      early = can.early;
-    }) wants [] tt;
+          inside = subst (λ s. line < words_of s / 8) (sym can.shape) (line_inside sh line (has_header sh pool line id is).chunk);
+          free = false_from_ne_true (holds v.claims line) (λ h. both_ways (is_listed locks new line) free (can.listed line h));
+          early = can.early;
+        }) wants [] tt;
   }
 
   looks_wanted : (u : View) → IsTaken v plan u → CanLookAll u sh plan
   looks_wanted u taken = all_both (λ (l : HeldLock). is_chunk_line sh l.line ≡ true) (IsHeldAs u.claims) (λ (l : HeldLock). CanLook u sh l.line) plan
       (λ l chunk held. subst (λ y. CanLook y sh l.line) (sym taken) (record {
-    shape = can.shape;
-    lane = can.area;
-    chunk = chunk;
-    held = ap (λ (y : View). holds y.claims l.line) (sym taken) ∙ held_as u.claims l held;
-    early = can.early;
-    unmaking = λ c. took_making sh plan v.claims c ∙ can.unmaking c;
-  }))
+        shape = can.shape;
+        lane = can.area;
+        chunk = chunk;
+        held = ap (λ (y : View). holds y.claims l.line) (sym taken) ∙ held_as u.claims l held;
+        early = can.early;
+        unmaking = λ c. took_making sh plan v.claims c ∙ can.unmaking c;
+      }))
       (wanted_all sh pool (is_listed locks new) (λ (l : HeldLock). is_chunk_line sh l.line ≡ true) (λ id line w is free. (has_header sh pool line id is).chunk) wants [] tt)
       (taken_holds v u plan taken)
 

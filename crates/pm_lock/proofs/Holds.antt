@@ -35,11 +35,11 @@ tries_taken v [] = refl
 tries_taken v (l ∷ locks) = taken_on v (after v (takes l.line l.write true)) (after_all v (tries (l ∷ locks))) l locks
     (taken_so v l.line l.write ∙ ap (λ seen. record v { claims = Took l.line l.write ∷ v.claims; seen = seen }) (sym (ap (λ (y : View). y.seen) (taken_so v l.line l.write)))) (tries_taken (after v (takes l.line l.write true)) locks)
 
-still_locked : (locks : List HeldLock) (t : List Claim) (line : ℕ) → locked t line ≡ true → locked (took locks t) line ≡ true
+pub still_locked : (locks : List HeldLock) (t : List Claim) (line : ℕ) → locked t line ≡ true → locked (took locks t) line ≡ true
 still_locked [] t line e = e
 still_locked (l ∷ locks) t line e = still_locked locks (Took l.line l.write ∷ t) line (or_right (l.write && (l.line == line)) (locked t line) e)
 
-still_reads : (locks : List HeldLock) (t : List Claim) (line : ℕ) → reads t line ≡ true → reads (took locks t) line ≡ true
+pub still_reads : (locks : List HeldLock) (t : List Claim) (line : ℕ) → reads t line ≡ true → reads (took locks t) line ≡ true
 still_reads [] t line e = e
 still_reads (l ∷ locks) t line e = still_reads locks (Took l.line l.write ∷ t) line (or_right (not l.write && (l.line == line)) (reads t line) e)
 

@@ -14,3 +14,7 @@ pub mod Wanting
 pub mod Acquired
 pub mod RaisedLocks
 pub mod RootWords
+pub mod ModelPlans
+pub mod RaisedClaims
+pub mod SizeWords
+pub mod HeldLocks

@@ -30,7 +30,7 @@ chunk_line sh line e = at (line / 64) e where
       by : (n page : ℕ) → n ≡ page - page_of_zone sh 0 → page_of_zone sh 0 ≤ page → page < page_of_zone sh sh.zones → 1 ≤ n % 65 → (64 * (n / 65) + (n % 65 - 1) < chunks_of sh) × (page_of_chunk sh (64 * (n / 65) + (n % 65 - 1)) ≡ page)
       by n page is low high some = (omega arith, omega arith)
 
-beyond_part : (sh : Shape) (k w : ℕ) → k < sh.lanes → 512 * page_of_zone sh 0 ≤ w → part_of sh k w ≡ pool_part sh w
+pub beyond_part : (sh : Shape) (k w : ℕ) → k < sh.lanes → 512 * page_of_zone sh 0 ≤ w → part_of sh k w ≡ pool_part sh w
 beyond_part sh k w ink far =
     cond-false (w == word_of_generation sh k) _ _ (ne_eqb w (word_of_generation sh k) (λ q. omega arith)) ∙ (cond-false (w == word_of_seal sh k) _ _ (ne_eqb w (word_of_seal sh k) (λ q. omega arith))
     ∙ (cond-false (is_entry_word sh k w) _ _ (false_from_ne_true (is_entry_word sh k w) (λ t. let z = ltb-true w (word_of_entry sh k (redo_entries sh)) (and_parts (leb (word_of_entry sh k 0) w) (ltb w (word_of_entry sh k (redo_entries sh))) t).1 in omega arith))

@@ -1,5 +1,5 @@
 -- THE ROOT WORD is looked at under its lock.
-use Rattle.std.proofs.Common.{◌≡◌, ◌≢◌, ℕ, ◌+◌, ◌*◌, ◌<◌, ◌≤◌, Bool, true, false, cond, ◌==◌, ◌&&◌, ◌||◌, List, [], ◌∷◌, Option, None, Some, Result, Ok, Err, leb, ltb, refl, sym, ap, ◌∙◌, subst, arith, ne_eqb}
+use Rattle.std.proofs.Common.{◌≡◌, ℕ, ◌*◌, ◌<◌, Bool, true, false, cond, ◌==◌, ◌||◌, List, [], ◌∷◌, None, Some, Ok, Err, leb, ltb, refl, sym, ap, ◌∙◌, subst, arith, ne_eqb}
 use Rattle.std.proofs.lemmas.Bool.{and_parts, both_ways, cond-false, cond-true, false_from_ne_true, leb-true, or_right}
 use Rattle.pm_layout.specs.declared.shape.Shape.{Shape}
 use Rattle.pm_layout.specs.Areas.{line_of_slot, redo_entries, undo_slots, word_of_entry, word_of_generation, word_of_seal}
@@ -10,9 +10,9 @@ use Rattle.pm_view.specs.Log.{Phase, Idle, Open, Drawn, Sealing, Applying, Clear
 use Rattle.pm_view.specs.Parts.{Part, RootPart, is_entry_word, is_slot_word, part_of}
 use Rattle.pm_view.specs.Steps.Step.{Load}
 use Rattle.pm_view.specs.View.{View, runs_one}
-use Rattle.pm_view.specs.Views.{after, after_all, learned, part_in}
+use Rattle.pm_view.specs.Views.{after, after_all, learned}
 use Rattle.pm_world.specs.declared.lane.Lane.{Lane}
-use Rattle.pm_lock.specs.Locking.{HasGrown, Locked, LockedAs, Stands, lock_of}
+use Rattle.pm_lock.specs.Locking.{HasGrown, Locked, Stands, lock_of}
 use Rattle.pm_lock.specs.RootLock.{KnowsRootWord, MayLockRoot, RootLocked, root_seen}
 use Rattle.pm_lock.specs.Steps.{waits}
 use Rattle.pm_lock.proofs.Waiting.{waited_so}

@@ -33,7 +33,7 @@ fit_in (e ∷ t) f lines i = cond_both (e.0 == lines) (Some e) (find (λ e. e.0 
 all_fit : AllFit blocks_by_class
 all_fit = (λ i q. omega arith, (λ i q. omega arith, (λ i q. omega arith, (λ i q. omega arith, (λ i q. omega arith, (λ i q. omega arith, (λ i q. omega arith, (λ i q. omega arith, 0))))))))
 
-run_fits : (lines i : ℕ) → i < blocks_of lines → 1 + (lines * i + lines) ≤ 64
+pub run_fits : (lines i : ℕ) → i < blocks_of lines → 1 + (lines * i + lines) ≤ 64
 run_fits lines i q = fit_in blocks_by_class all_fit lines i q
 
 module _ (v : View) (line d b : ℕ) (can : CanLook v v.fixed.shape line) where

@@ -1,4 +1,5 @@
--- WHAT LOCKING OBJECTS DOES to a lane: by cases of what it answers, for each view that the lane's memory may be seen as.
+-- WHAT LOCKING OBJECTS DOES to a lane: by cases of what it answers, for each view that the lane's
+-- memory may be seen as.
 use Rattle.std.specs.Prelude.{◌≡◌, ◌⊎◌, ℕ, ◌+◌, ◌<◌, Bool, true, false, List, [], ◌∷◌, ◌++◌, length, take, Result, Ok, Err}
 use Rattle.std.specs.List.{AllByRecursion}
 use Rattle.pm_layout.specs.declared.shape.Shape.{Shape}
@@ -24,14 +25,16 @@ use Rattle.pm_lock.specs.Wants.{has_unplaced, is_listed, wanted}
 -- the looks under them, whatever each finds
 unfoldable pub AreFinds : Shape → List HeldLock → List Step → Type 0
 AreFinds sh [] steps = steps ≡ []
-AreFinds sh (l ∷ locks) steps = (d : ℕ) × (b : ℕ) × (rest : List Step) × (steps ≡ finds sh l.line d b ++ rest) × AreFinds sh locks rest
+AreFinds sh (l ∷ locks) steps = (d : ℕ) × (b : ℕ) × (rest : List Step)
+    × (steps ≡ finds sh l.line d b ++ rest) × AreFinds sh locks rest
 
 -- the lane may look under each
 abbrev pub CanLookAll : View → Shape → List HeldLock → Type 0
 CanLookAll v sh locks = AllByRecursion (λ (l : HeldLock). CanLook v sh l.line) locks
 
 -- EACH HAS ITS OBJECT
-pub record FindsAll (at : View → Type 0) (v : View) (sh : Shape) (locks : List HeldLock) : Type 0 where
+pub record FindsAll (at : View → Type 0) (v : View) (sh : Shape)
+    (locks : List HeldLock) : Type 0 where
   pub steps : List Step
   pub looks : AreFinds sh locks steps
   pub memory : at (after_all v steps)
@@ -39,25 +42,30 @@ pub record FindsAll (at : View → Type 0) (v : View) (sh : Shape) (locks : List
   pub objects : AllByRecursion (λ (l : HeldLock). StandsAt (after_all v steps) l.line) locks
 
 -- THE FIRST SO MANY HAVE, and the next has none
-pub record FindsNone (at : View → Type 0) (v : View) (sh : Shape) (locks : List HeldLock) : Type 0 where
+pub record FindsNone (at : View → Type 0) (v : View) (sh : Shape)
+    (locks : List HeldLock) : Type 0 where
   pub before : ℕ
   pub low : before < length locks
   pub steps : List Step
   pub looks : AreFinds sh (take (before + 1) locks) steps
   pub memory : at (after_all v steps)
   pub stays : HasLooked v (after_all v steps)
-  pub misses : MissesAt v (lock_at locks before).line (after_all v steps) ⊎ ToldNoRun (after_all v steps) (lock_at locks before).line
+  pub misses : MissesAt v (lock_at locks before).line (after_all v steps)
+      ⊎ ToldNoRun (after_all v steps) (lock_at locks before).line
 
 abbrev pub FoundAs : (View → Type 0) → View → Shape → List HeldLock → Bool → Type 0
 FoundAs at v sh locks true = FindsAll at v sh locks
 FoundAs at v sh locks false = FindsNone at v sh locks
 
-unfoldable pub FoundAll : {M : Type 0} → (M → View → Type 0) → Shape → List HeldLock → M → M → Bool → Type 0
-FoundAll at sh locks old new all = (v : View) → at old v → CanLookAll v sh locks → FoundAs (at new) v sh locks all
+unfoldable pub FoundAll : {M : Type 0} → (M → View → Type 0) → Shape → List HeldLock → M → M
+    → Bool → Type 0
+FoundAll at sh locks old new all = (v : View) → at old v → CanLookAll v sh locks
+    → FoundAs (at new) v sh locks all
 
 -- ---- THE OBJECTS THAT A CALL WANTS
 
--- a lane of this view may lock: its call has no number yet, it makes no run, and each line that it holds is that of one of these locks or of a new object
+-- a lane of this view may lock: its call has no number yet, it makes no run, and each line that it
+-- holds is that of one of these locks or of a new object
 pub record MayWant (v : View) (sh : Shape) (locks : List HeldLock) (new : List ℕ) : Type 0 where
   pub shape : v.fixed.shape ≡ sh
   pub area : v.fixed.lane < sh.lanes
@@ -71,11 +79,13 @@ pub record MayLockWanted (v : View) (sh : Shape) (plan : List HeldLock) : Type 0
   pub looks : (w : View) → IsTaken v plan w → CanLookAll w sh plan
 
 abbrev pub WantedMayBeLocked : Type 0
-WantedMayBeLocked = (v : View) (sh : Shape) (pool : ℕ) (locks : List HeldLock) (new : List ℕ) (wants : List Want)
+WantedMayBeLocked = (v : View) (sh : Shape) (pool : ℕ) (locks : List HeldLock) (new : List ℕ)
+    (wants : List Want)
     → MayWant v sh locks new → MayLockWanted v sh (wanted sh pool locks new wants)
 
 -- the lane's memory may be seen so
-pub record CanAcquire {M : Type 0} (at : M → View → Type 0) (lane : Lane M) (new : List ℕ) (v : View) : Type 0 where
+pub record CanAcquire {M : Type 0} (at : M → View → Type 0) (lane : Lane M) (new : List ℕ)
+    (v : View) : Type 0 where
   pub memory : at lane.memory v
   pub may : MayWant v lane.shape lane.locks.items new
 
@@ -86,7 +96,8 @@ to_take lane new wants = wanted lane.shape lane.pool lane.locks.items new wants
 abbrev pub lacks_place : {M : Type 0} → Lane M → List Want → Bool
 lacks_place lane wants = has_unplaced lane.shape lane.pool wants
 
--- REFUSED before any lock is tried: there would be more than 64; or some id has not the form of an object's
+-- REFUSED before any lock is tried: there would be more than 64; or some id has not the form of an
+-- object's
 abbrev pub RefusedFull : {M : Type 0} → List HeldLock → Lane M → Lane M → Type 0
 RefusedFull plan old new = (64 < length old.locks.items + length plan) × (new ≡ old)
 
@@ -94,28 +105,39 @@ abbrev pub RefusedUnplaced : {M : Type 0} → List Want → Lane M → Lane M �
 RefusedUnplaced wants old new = (lacks_place old wants ≡ true) × (new ≡ old)
 
 -- EACH IS WAITED FOR, and then looked under
-abbrev pub AcquiredAs : {M : Type 0} → (M → View → Type 0) → List HeldLock → List Want → View → Lane M → Lane M → Result (Unit {0}) Refusal → Type 0
+abbrev pub AcquiredAs : {M : Type 0} → (M → View → Type 0) → List HeldLock → List Want → View
+    → Lane M → Lane M → Result (Unit {0}) Refusal → Type 0
 AcquiredAs at plan wants v old new (Ok done) = (lacks_place old wants ≡ false)
-    × ((steps : List Step) × AreWaits plan steps × FindsAll (at new.memory) (after_all v steps) old.shape plan) × HasGrown plan old new
+    × ((steps : List Step) × AreWaits plan steps × FindsAll (at new.memory)
+    (after_all v steps) old.shape plan) × HasGrown plan old new
 AcquiredAs at plan wants v old new (Err refusal.LocksFull) = RefusedFull plan old new
 AcquiredAs at plan wants v old new (Err refusal.NoObject) = RefusedUnplaced wants old new
     ⊎ ((lacks_place old wants ≡ false)
-    × ((steps : List Step) × AreWaits plan steps × FindsNone (at new.memory) (after_all v steps) old.shape plan) × HasGrown plan old new)
-AcquiredAs at plan wants v old new (Err refusal.Stopped) = (lacks_place old wants ≡ false) × ((stopped : Stopped) × AllLockedAs at plan v old new (Err stopped))
+    × ((steps : List Step) × AreWaits plan steps × FindsNone (at new.memory)
+    (after_all v steps) old.shape plan) × HasGrown plan old new)
+AcquiredAs at plan wants v old new (Err refusal.Stopped) = (lacks_place old wants ≡ false)
+    × ((stopped : Stopped) × AllLockedAs at plan v old new (Err stopped))
 AcquiredAs at plan wants v old new (Err r) = ⊥
 
-unfoldable pub Acquired : {M : Type 0} → (M → View → Type 0) → List ℕ → List Want → Lane M → Lane M → Result (Unit {0}) Refusal → Type 0
-Acquired at new wants old lane result = (v : View) → CanAcquire at old new v → AcquiredAs at (to_take old new wants) wants v old lane result
+unfoldable pub Acquired : {M : Type 0} → (M → View → Type 0) → List ℕ → List Want → Lane M
+    → Lane M → Result (Unit {0}) Refusal → Type 0
+Acquired at new wants old lane result = (v : View) → CanAcquire at old new v
+    → AcquiredAs at (to_take old new wants) wants v old lane result
 
 -- INSIDE A TRANSACTION each is tried once, and then looked under
-abbrev pub TriedObjectsAs : {M : Type 0} → (M → View → Type 0) → List HeldLock → List Want → View → Lane M → Lane M → Result (Unit {0}) Refusal → Type 0
+abbrev pub TriedObjectsAs : {M : Type 0} → (M → View → Type 0) → List HeldLock → List Want → View
+    → Lane M → Lane M → Result (Unit {0}) Refusal → Type 0
 TriedObjectsAs at plan wants v old new (Ok done) = (lacks_place old wants ≡ false)
     × FindsAll (at new.memory) (after_all v (tries plan)) old.shape plan × HasGrown plan old new
 TriedObjectsAs at plan wants v old new (Err refusal.LocksFull) = RefusedFull plan old new
 TriedObjectsAs at plan wants v old new (Err refusal.NoObject) = RefusedUnplaced wants old new
-    ⊎ ((lacks_place old wants ≡ false) × FindsNone (at new.memory) (after_all v (tries plan)) old.shape plan × HasGrown plan old new)
-TriedObjectsAs at plan wants v old new (Err refusal.Busy) = (lacks_place old wants ≡ false) × AllTriedAs at plan v old new false
+    ⊎ ((lacks_place old wants ≡ false) × FindsNone (at new.memory)
+    (after_all v (tries plan)) old.shape plan × HasGrown plan old new)
+TriedObjectsAs at plan wants v old new (Err refusal.Busy) = (lacks_place old wants ≡ false)
+    × AllTriedAs at plan v old new false
 TriedObjectsAs at plan wants v old new (Err r) = ⊥
 
-unfoldable pub TriedObjects : {M : Type 0} → (M → View → Type 0) → List ℕ → List Want → Lane M → Lane M → Result (Unit {0}) Refusal → Type 0
-TriedObjects at new wants old lane result = (v : View) → CanAcquire at old new v → TriedObjectsAs at (to_take old new wants) wants v old lane result
+unfoldable pub TriedObjects : {M : Type 0} → (M → View → Type 0) → List ℕ → List Want → Lane M
+    → Lane M → Result (Unit {0}) Refusal → Type 0
+TriedObjects at new wants old lane result = (v : View) → CanAcquire at old new v
+    → TriedObjectsAs at (to_take old new wants) wants v old lane result

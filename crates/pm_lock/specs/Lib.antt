@@ -7,3 +7,6 @@ pub mod Wants
 pub mod Acquiring
 pub mod Raising
 pub mod RootLock
+pub mod ModelLocks
+pub mod Sizes
+pub mod Held

@@ -1,4 +1,5 @@
--- WHERE AN OBJECT'S LOCK IS, and what a look under it tells: by the descriptor of its chunk and, where that is a run's, by the bitmap.
+-- WHERE AN OBJECT'S LOCK IS, and what a look under it tells: by the descriptor of its chunk and,
+-- where that is a run's, by the bitmap.
 use Rattle.std.specs.Prelude.{◌≡◌, ◌≢◌, ◌⊎◌, ℕ, ◌+◌, ◌-◌, ◌*◌, ◌/◌, ◌%◌, ◌<◌, ◌≤◌, nat_le, Bool, true, false, Contains, if◌then◌else◌, ◌==◌, ◌&&◌, ◌||◌, List, [], ◌∷◌, Option, None, Some}
 use Rattle.std.specs.Int.{bit_at}
 use Rattle.pm_layout.specs.declared.shape.Shape.{Shape}
@@ -58,7 +59,8 @@ finds sh line descriptor bitmap =
     Load (word_of_descriptor sh (chunk_of_line sh line)) descriptor
     ∷ looks_at_bitmap sh (chunk_of_line sh line) bitmap (has_lines descriptor)
 
--- an allocated block begins at the line of a chunk with these: a huge block does at line 0, and one of a run after the bitmap's line
+-- an allocated block begins at the line of a chunk with these: a huge block does at line 0, and
+-- one of a run after the bitmap's line
 abbrev pub shows_small : ℕ → ℕ → ℕ → Bool
 shows_small lines bitmap at =
     (nat_le 1 lines && nat_le 1 at) && ((at - 1) % lines == 0 && bit_at bitmap ((at - 1) / lines) == 1)
@@ -68,7 +70,8 @@ shows descriptor bitmap at =
     if is_run descriptor then shows_small (descriptor / 256) bitmap at
     else is_huge descriptor && at == 0
 
--- A LANE MAY LOOK under the lock of a line of a chunk: it holds the lock, its call has no number yet, and it makes no run
+-- A LANE MAY LOOK under the lock of a line of a chunk: it holds the lock, its call has no number
+-- yet, and it makes no run
 pub record CanLook (v : View) (sh : Shape) (line : ℕ) : Type 0 where
   pub shape : v.fixed.shape ≡ sh
   pub lane : v.fixed.lane < sh.lanes
@@ -83,16 +86,20 @@ pub record CanLook (v : View) (sh : Shape) (line : ℕ) : Type 0 where
 abbrev pub has : View → Block → Bool
 has v B = mine v.fixed.shape v.claims B || found v.fixed.shape v.claims B
 
--- the blocks that a lane has are as it knows them: none that it found is its own; the chunks of a huge one are known as its and, unless the lane makes one a run, as
+-- the blocks that a lane has are as it knows them: none that it found is its own; the chunks of a
+-- huge one are known as its and, unless the lane makes one a run, as
 -- no runs; and those of runs are known as such
 pub record HasSound (v : View) : Type 0 where
-  pub apart : (B : Block) → mine v.fixed.shape v.claims B ≡ true → found v.fixed.shape v.claims B ≡ false
+  pub apart : (B : Block) → mine v.fixed.shape v.claims B ≡ true → found v.fixed.shape v.claims B
+      ≡ false
   pub some : (f : ℕ) → has v (Big f) ≡ true → 1 ≤ span v.fixed.shape v.claims f
   pub huge : (f c : ℕ) → has v (Big f) ≡ true → in_span f (span v.fixed.shape v.claims f) c ≡ true
-      → making v.fixed.shape v.claims c ≡ false → (first v.fixed.shape v.claims c ≡ f) × (class v.claims c ≡ 0)
+      → making v.fixed.shape v.claims c ≡ false → (first v.fixed.shape v.claims c ≡ f)
+      × (class v.claims c ≡ 0)
   pub small : (c i : ℕ) → has v (Small c i) ≡ true → class v.claims c ≢ 0
 
--- what the lane knows of runs agrees with the word, and the blocks that the lane has are as it knows them, before the look and after it
+-- what the lane knows of runs agrees with the word, and the blocks that the lane has are as it
+-- knows them, before the look and after it
 pub record FitsLook (v : View) (w x : ℕ) : Type 0 where
   pub agrees : AgreesAt v (part_in v w) x
   pub sound : IsSound (after v (Load w x))
@@ -103,20 +110,25 @@ pub record FitsLook (v : View) (w x : ℕ) : Type 0 where
 abbrev pub SeenFits : Type 0
 SeenFits = (v : View) (w x : ℕ) → InWorld v w x → FitsLook v w x
 
--- ---- WHAT STAYS: all but the claims; and of these the locks, the blocks that the lane has with what it knows of their words, the root word, and the classes of runs
+-- ---- WHAT STAYS: all but the claims; and of these the locks, the blocks that the lane has with
+-- what it knows of their words, the root word, and the classes of runs
 pub record HasLooked (v w : View) : Type 0 where
   pub same : w ≡ record v { claims = w.claims }
   pub locked : (l : ℕ) → locked w.claims l ≡ locked v.claims l
   pub reads : (l : ℕ) → reads w.claims l ≡ reads v.claims l
   pub making : (c : ℕ) → making v.fixed.shape w.claims c ≡ making v.fixed.shape v.claims c
   pub mine : (B : Block) → mine v.fixed.shape w.claims B ≡ mine v.fixed.shape v.claims B
-  pub found : (B : Block) → found v.fixed.shape v.claims B ≡ true → found v.fixed.shape w.claims B ≡ true
-  pub span : (f : ℕ) → has v (Big f) ≡ true → span v.fixed.shape w.claims f ≡ span v.fixed.shape v.claims f
+  pub found : (B : Block) → found v.fixed.shape v.claims B ≡ true → found v.fixed.shape w.claims B
+      ≡ true
+  pub span : (f : ℕ) → has v (Big f) ≡ true → span v.fixed.shape w.claims f
+      ≡ span v.fixed.shape v.claims f
   pub class : (c : ℕ) → class v.claims c ≢ 0 → class w.claims c ≡ class v.claims c
   pub data_ : (u : ℕ) → is_held_at v.fixed.shape v.claims (place_in v u) ≡ true
-      → (place_in w u ≡ place_in v u) × (is_held_at v.fixed.shape w.claims (place_in w u) ≡ true) × (value_in w u ≡ value_in v u)
+      → (place_in w u ≡ place_in v u) × (is_held_at v.fixed.shape w.claims (place_in w u) ≡ true)
+      × (value_in w u ≡ value_in v u)
   pub root : value_in w (word_of_root v.fixed.shape) ≡ value_in v (word_of_root v.fixed.shape)
-  pub missed : (B : Block) → times_missed v.fixed.shape B v.claims ≤ times_missed v.fixed.shape B w.claims
+  pub missed : (B : Block)
+      → times_missed v.fixed.shape B v.claims ≤ times_missed v.fixed.shape B w.claims
   pub sound : IsSound v → IsSound w
 
 -- ---- WHAT IT TELLS
@@ -140,9 +152,11 @@ HasBlock sh classes (Small c i) = (c < chunks_of sh) × (i < blocks_of (classes 
 HasBlock sh classes (Big f) = f < chunks_of sh
 HasBlock sh classes Root = ⊥
 
--- NONE DOES: whatever the classes of the runs are that the lane does not know, each block that would begin there was missed since
+-- NONE DOES: whatever the classes of the runs are that the lane does not know, each block that
+-- would begin there was missed since
 abbrev pub MissesAt : View → ℕ → View → Type 0
-MissesAt v line w = (classes : ℕ → ℕ) → ((c : ℕ) → class w.claims c ≢ 0 → classes c ≡ class w.claims c)
+MissesAt v line w = (classes : ℕ → ℕ)
+    → ((c : ℕ) → class w.claims c ≢ 0 → classes c ≡ class w.claims c)
     → (B : Block) → HasBlock v.fixed.shape classes B
     → header v.fixed.shape (record { first = λ c. c; class = classes }) B ≡ line
     → times_missed v.fixed.shape B v.claims < times_missed v.fixed.shape B w.claims
@@ -163,12 +177,15 @@ abbrev pub LooksTell : Type 0
 LooksTell = (v : View) (sh : Shape) (line d b : ℕ) → CanLook v sh line
     → FitsLook v (word_of_descriptor sh (chunk_of_line sh line)) d
     → (has_lines d ≡ true
-    → FitsLook (after v (Load (word_of_descriptor sh (chunk_of_line sh line)) d)) (word_of_chunk sh (chunk_of_line sh line)) b)
-    → HasLooked v (after_all v (finds sh line d b)) × LookTells v line (shows d b (line % 64)) (after_all v (finds sh line d b))
+    → FitsLook (after v (Load (word_of_descriptor sh (chunk_of_line sh line)) d))
+    (word_of_chunk sh (chunk_of_line sh line)) b)
+    → HasLooked v (after_all v (finds sh line d b)) × LookTells v line (shows d b (line % 64))
+    (after_all v (finds sh line d b))
 
 -- ---- WHAT THE CALL DID: it looked, and answers what that tells
 
-pub record LookedAs (at : View → Type 0) (v : View) (sh : Shape) (line : ℕ) (there : Bool) : Type 0 where
+pub record LookedAs (at : View → Type 0) (v : View) (sh : Shape) (line : ℕ)
+    (there : Bool) : Type 0 where
   pub descriptor : ℕ
   pub bitmap : ℕ
   pub memory : at (after_all v (finds sh line descriptor bitmap))
@@ -177,4 +194,5 @@ pub record LookedAs (at : View → Type 0) (v : View) (sh : Shape) (line : ℕ) 
   pub tells : LookTells v line there (after_all v (finds sh line descriptor bitmap))
 
 unfoldable pub Looked : {M : Type 0} → (M → View → Type 0) → Shape → ℕ → M → M → Bool → Type 0
-Looked at sh line old new there = (v : View) → at old v → CanLook v sh line → LookedAs (at new) v sh line there
+Looked at sh line old new there = (v : View) → at old v → CanLook v sh line
+    → LookedAs (at new) v sh line there

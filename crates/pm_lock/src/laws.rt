@@ -4,12 +4,15 @@ ghost use Rattle.pm_view.specs.Steps.{Step};
 ghost use Rattle.pm_view.specs.View.{View};
 ghost use Rattle.pm_view.specs.Views.{after_all};
 ghost use Rattle.pm_world.specs.declared.lane.HeldLock.{HeldLock};
+ghost use Rattle.pm_lock.specs.Held.{HeldAreRaised, HeldBefore, HeldGrow, HeldMayBeGiven, HeldMayBeRaised, HeldStay};
 ghost use Rattle.pm_lock.specs.Holding.{IsGiven, IsHeldAs, IsTaken, Rises};
 ghost use Rattle.pm_layout.specs.declared.shape.Shape.{Shape};
 ghost use Rattle.pm_objects.specs.declared.ids.Oid.{Oid};
 ghost use Rattle.pm_lock.specs.Acquiring.{WantedMayBeLocked};
+ghost use Rattle.pm_lock.specs.ModelLocks.{PlansAreTheModels};
 ghost use Rattle.pm_lock.specs.Objects.{IsHeader, LooksTell, SeenFits, line_of};
 ghost use Rattle.pm_lock.specs.Plans.{planned};
+ghost use Rattle.pm_lock.specs.Raising.{AreRaised, raises};
 ghost use Rattle.pm_lock.specs.Steps.{AreWaits, gives, tries};
 
 /// A law: where a lane may take some locks in rising place, and waited for each of them, or got each
@@ -53,4 +56,28 @@ pub fn looks_tell()
 /// and look under each once they are taken. No code runs.
 pub fn wanted_locks_may_be_taken()
     ensures { WantedMayBeLocked }
+{}
+
+/// A law: the locks that are wanted are the plain model's, so they are too many, or of an id without a
+/// place, exactly where it refuses them. No code runs.
+pub fn plans_are_the_models()
+    ensures { PlansAreTheModels }
+{}
+
+/// A law: where locks held for reading were raised, each at one try, the lane holds what it held, those
+/// of lines that are to be written for writing, and its view is else as it was. No code runs.
+pub fn raised_locks_are_held()
+    ensures { (v : View) (writes : ℕ → Bool) (locks : List HeldLock) → AreRaised v writes locks (after_all v (raises writes locks)) }
+{}
+
+/// A law: the locks of a lane's list are of lines of the pool, no two of one line, and held, with those
+/// that are wanted and taken, all or those before a refused one, after looks, and once they are raised,
+/// as they may be; and once the call is over they may be given back. No code runs.
+pub fn held_locks_stand()
+    ensures grow { HeldGrow }
+    ensures before { HeldBefore }
+    ensures stay { HeldStay }
+    ensures may_be_raised { HeldMayBeRaised }
+    ensures are_raised { HeldAreRaised }
+    ensures may_be_given { HeldMayBeGiven }
 {}

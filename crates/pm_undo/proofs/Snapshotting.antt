@@ -50,25 +50,25 @@ module _ (v : View) (working : IsWorking v) where
 
   -- ---- looking at a word
   module _ (u : View) (at : Logging v (IsNoSlot sh v.fixed.lane) before [] u) (w x : ℕ) (e : knows u w ≡ Some x)
-      where
-    known_now : known sh (runs_one v) u.claims w ≡ Some x
-    known_now = sym (ap (λ (y : View). knows y w) at.same) ∙ e
+    where
+      known_now : known sh (runs_one v) u.claims w ≡ Some x
+      known_now = sym (ap (λ (y : View). knows y w) at.same) ∙ e
 
-    looked : (c i : ℕ) → (i ≡ 0 → class v.claims c ≡ 0) → Logging v (IsNoSlot sh v.fixed.lane) before []
-        (view_with v (Knows w x ∷ seen_by (ChunkPart c i) x u.claims) u.changes u.calls before [])
-    looked c zero huge =
-        let none : class u.claims c ≡ 0 = ap (λ cl. cl c) (class_so at) ∙ huge refl in
-        let one = noted_others at (Looked c x) none (λ y out. tt) u.changes u.calls before [] in
-        let seen : known sh (runs_one v) (SawBitmap c x ∷ u.claims) w ≡ Some x =
-        known_noted sh u.claims (runs_one v) (Looked c x) none w tt ∙ known_now in
-        noted_more one (Valued w x) tt
-        (λ y out. known_again sh (SawBitmap c x ∷ u.claims) (runs_one v) w x seen y)
-        (λ y out. pictured_again sh (SawBitmap c x ∷ u.claims) (runs_one v) w x seen y)
-        u.changes u.calls before []
-    looked c (suc i) huge = noted_more at (Valued w x) tt
-        (λ y out. known_again sh u.claims (runs_one v) w x known_now y)
-        (λ y out. pictured_again sh u.claims (runs_one v) w x known_now y)
-        u.changes u.calls before []
+      looked : (c i : ℕ) → (i ≡ 0 → class v.claims c ≡ 0) → Logging v (IsNoSlot sh v.fixed.lane) before []
+          (view_with v (Knows w x ∷ seen_by (ChunkPart c i) x u.claims) u.changes u.calls before [])
+      looked c zero huge =
+          let none : class u.claims c ≡ 0 = ap (λ cl. cl c) (class_so at) ∙ huge refl in
+          let one = noted_others at (Looked c x) none (λ y out. tt) u.changes u.calls before [] in
+          let seen : known sh (runs_one v) (SawBitmap c x ∷ u.claims) w ≡ Some x =
+          known_noted sh u.claims (runs_one v) (Looked c x) none w tt ∙ known_now in
+          noted_more one (Valued w x) tt
+          (λ y out. known_again sh (SawBitmap c x ∷ u.claims) (runs_one v) w x seen y)
+          (λ y out. pictured_again sh (SawBitmap c x ∷ u.claims) (runs_one v) w x seen y)
+          u.changes u.calls before []
+      looked c (suc i) huge = noted_more at (Valued w x) tt
+          (λ y out. known_again sh u.claims (runs_one v) w x known_now y)
+          (λ y out. pictured_again sh u.claims (runs_one v) w x known_now y)
+          u.changes u.calls before []
 
   look_word : (s : Span) → CanRecord v (recorded_in v s) → (i : ℕ) → i < s.count
       → Goes (HasClean before) (looks (s.word + i)) (HasClean before)

@@ -1,4 +1,4 @@
-use Rattle.std.proofs.Common.{◌≡◌, ◌<◌, ◌≤◌, true, length, ap, sym, subst, arith, rules}
+use Rattle.std.proofs.Common.{◌≡◌, true, ap, sym, subst, arith, rules}
 use Rattle.pm_world.specs.declared.lane.Lane.{Lane}
 use Rattle.pm_world.specs.Lawful.{MayRaise}
 use Rattle.pm_lock.specs.Locking.{Stands, lock_at}
