@@ -6,3 +6,5 @@ pub mod Looking
 pub mod RangeRefusals
 pub mod RangeWords
 pub mod RangeReads
+pub mod RecordedWords
+pub mod RecordsHave

@@ -115,6 +115,17 @@ module _ (v : View) (ns : List Note) (changes : List Undrained) (calls : ℕ) (l
     known = known;
   }
 
+-- what such a step owes, but for the bits as the call has made them
+pub record KeepsHeld (s : Standing) (ns : List Note) (changes : List Undrained) (calls : ℕ) (log : Log) : Type 0 where
+  pub each : AreNotes s.view.fixed.shape s.view.claims ns
+  pub working : IsWorking (noting s.view ns changes calls log)
+  pub unbumped : log.bumped ≡ false
+  pub fit : SizesFit (noting s.view ns changes calls log)
+  pub seal : value_in (noting s.view ns changes calls log) (word_of_seal s.view.fixed.shape s.view.fixed.lane) ≡ Some 0
+  pub recorded : (p : Place) → is_recorded log.records p ≡ true → IsDataOf (noting s.view ns changes calls log) p
+  pub more : (p : Place) → is_recorded s.view.log.records p ≡ true → is_recorded log.records p ≡ true
+  pub knows : (p : Place) (b : ℕ) (y : Bool) → sees_at s.view p b ≡ true → bit_before s.view p b ≡ Some y → bit_before (noting s.view ns changes calls log) p b ≡ Some y
+
 -- what such a step owes
 pub record Keeps (s : Standing) (ns : List Note) (changes : List Undrained) (calls : ℕ) (log : Log) : Type 0 where
   pub each : AreNotes s.view.fixed.shape s.view.claims ns
@@ -200,13 +211,46 @@ module _ (v : View) (call actions published : List Told) where
     known = d.known;
   }
 
+-- AT WORK AGAIN after such a step that may change the bits, and one more operation told
+module _ (s : Standing) (level : ℕ) (at : IsAt s level) (ns : List Note) (changes : List Undrained) (calls : ℕ) (log : Log) (k : KeepsHeld s ns changes calls log) where
+  abbrev next_view : View
+  next_view = noting s.view ns changes calls log
+
+  pub held_grows : (kept : Bool) → Rattle.pm_crash.specs.Sim.Grows s.view kept next_view kept
+  held_grows kept = noting_grows s.view ns changes calls log k.each at.working.unmaking kept k.more k.knows
+
+  pub held_told_at : (call actions published : List Told) (level' : ℕ) → 1 ≤ level' → level' ≤ 64 → is_begun call ≡ true
+      → AreLists (moved s (told next_view call actions published)) level' (lists_of (told next_view call actions published))
+      → Sim (told next_view call actions published) (entries_so_far s)
+      → IsAt (moved s (told next_view call actions published)) level'
+  held_told_at call actions published level' some most begun lists sim = record {
+    working = working_told next_view call actions published k.working;
+    unbumped = k.unbumped;
+    begun = begun;
+    some = some;
+    most = most;
+    sound = sound_told next_view call actions published (sound_so s.view ns changes calls log k.each at.working.unmaking at.sound);
+    sizes = sizes_told next_view call actions published k.fit;
+    sealed = k.seal;
+    number = record { seen = at.number.seen; told = at.number.told; below = at.number.below; none = at.number.none };
+    held = held_told next_view call actions published s.locks (held_so s.view ns changes calls log k.each at.working.unmaking s.locks at.held);
+    few = at.few;
+    recorded = λ p e. data_told next_view call actions published (sound_so s.view ns changes calls log k.each at.working.unmaking at.sound) p (k.recorded p e);
+    lists = lists;
+    sim = sim;
+    facts = at.facts;
+  }
+
 -- AT WORK AGAIN after such a step, and one more operation told or none
 module _ (s : Standing) (level : ℕ) (at : IsAt s level) (ns : List Note) (changes : List Undrained) (calls : ℕ) (log : Log) (k : Keeps s ns changes calls log) where
   abbrev noted_view : View
   noted_view = noting s.view ns changes calls log
 
+  held_of : KeepsHeld s ns changes calls log
+  held_of = record { each = k.each; working = k.working; unbumped = k.unbumped; fit = k.fit; seal = k.seal; recorded = k.recorded; more = k.more; knows = k.knows }
+
   pub grows : (kept : Bool) → Rattle.pm_crash.specs.Sim.Grows s.view kept noted_view kept
-  grows kept = noting_grows s.view ns changes calls log k.each at.working.unmaking kept k.more k.knows
+  grows kept = held_grows s level at ns changes calls log held_of kept
 
   -- the call goes on as it was
   pub noted_sim : Sim noted_view (entries_so_far s)
@@ -216,23 +260,7 @@ module _ (s : Standing) (level : ℕ) (at : IsAt s level) (ns : List Note) (chan
       → AreLists (moved s (told noted_view call actions published)) level' (lists_of (told noted_view call actions published))
       → Sim (told noted_view call actions published) (entries_so_far s)
       → IsAt (moved s (told noted_view call actions published)) level'
-  told_at call actions published level' some most begun lists sim = record {
-    working = working_told noted_view call actions published k.working;
-    unbumped = k.unbumped;
-    begun = begun;
-    some = some;
-    most = most;
-    sound = sound_told noted_view call actions published (sound_so s.view ns changes calls log k.each at.working.unmaking at.sound);
-    sizes = sizes_told noted_view call actions published k.fit;
-    sealed = k.seal;
-    number = record { seen = at.number.seen; told = at.number.told; below = at.number.below; none = at.number.none };
-    held = held_told noted_view call actions published s.locks (held_so s.view ns changes calls log k.each at.working.unmaking s.locks at.held);
-    few = at.few;
-    recorded = λ p e. data_told noted_view call actions published (sound_so s.view ns changes calls log k.each at.working.unmaking at.sound) p (k.recorded p e);
-    lists = lists;
-    sim = sim;
-    facts = at.facts;
-  }
+  told_at call actions published level' some most begun lists sim = held_told_at s level at ns changes calls log held_of call actions published level' some most begun lists sim
 
   -- AND WITH NOTHING TOLD, where no record is new
   pub noted_at : log.records ≡ s.view.log.records → IsAt (moved s noted_view) level

@@ -6,3 +6,4 @@ pub mod Did
 pub mod GivenUp
 pub mod Reading
 pub mod RangeLaws
+pub mod Writing
