@@ -8,3 +8,6 @@ pub mod RangeWords
 pub mod RangeReads
 pub mod RecordedWords
 pub mod RecordsHave
+pub mod SmallWords
+pub mod Storing
+pub mod RangeWrites

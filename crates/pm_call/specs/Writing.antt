@@ -7,7 +7,7 @@ use Rattle.pm_model.specs.Items.{is_among}
 use Rattle.pm_model.specs.Transaction.{covered_words}
 use Rattle.pm_view.specs.View.{View}
 use Rattle.pm_words.specs.Words.{AreBytes}
-use Rattle.pm_world.specs.LaneFields.{Standing}
+use Rattle.pm_world.specs.LaneFields.{Standing, at_work}
 use Rattle.pm_plan.specs.Plans.{Ready}
 use Rattle.pm_undo.specs.Records.{kept_by}
 use Rattle.pm_undo.specs.Spans as spans
@@ -31,6 +31,8 @@ pub record LeadsWrite (s : Standing) (id : Oid) (off : ℕ) (bytes : List ℕ) :
   pub unrefused : IsUnrefused s (Write id off bytes)
   pub ready : Ready s.view (puts id off bytes s.view)
   pub stands : At (next s (puts id off bytes))
+  -- the lane's fields say the same
+  pub fields : at_work (next s (puts id off bytes)) ≡ at_work s
 
 abbrev pub RangesMayBeWritten : Type 0
 RangesMayBeWritten = (s : Standing) (id : Oid) (off : ℕ) (bytes : List ℕ) → At s → MayPut s id off bytes → LeadsWrite s id off bytes
