@@ -11,3 +11,4 @@ pub mod RecordsHave
 pub mod SmallWords
 pub mod Storing
 pub mod RangeWrites
+pub mod WriteLanes

@@ -75,7 +75,7 @@ words_many place len = ⊎_elim
     (λ (some : 0 < len). inr (some, ap length (covers_some place len some) ∙ length-range_with_len (place / 8) (count_of place len)))
     (λ (no : len ≤ 0). let z : len ≡ 0 = omega (arith, no) in inl (z, ap length (ap (covered_words place) z ∙ covers_none place))) (cases_lt 0 len)
 
-one_covered : (place len k : ℕ) → k < length (covered_words place len) → Contains (covered_words place len) (place / 8 + k)
+pub one_covered : (place len k : ℕ) → k < length (covered_words place len) → Contains (covered_words place len) (place / 8 + k)
 one_covered place len k low = ⊎_elim
     (λ (z : (len ≡ 0) × (length (covered_words place len) ≡ 0)). absurd (let e = z.1 in omega (arith, e, low)))
     (λ (m : (0 < len) × (length (covered_words place len) ≡ count_of place len)). let some = m.0 in let e = m.1 in byte_is_covered place len (place / 8 + k) some (omega (arith, e, low, some)) (omega arith))

@@ -1,0 +1,161 @@
+-- A WRITE, on a lane: what its function asks of the lane, and what it leaves.
+use Rattle.std.proofs.Common.{◌≡◌, ℕ, suc, ◌+◌, ◌-◌, ◌*◌, ◌/◌, ◌%◌, ◌^◌, ◌<◌, ◌≤◌, ⊎_elim, inl, inr, Bool, true, false, nat_le, ◌==◌, ◌&&◌, List, [], ◌∷◌, length, refl, sym, ap, ◌∙◌, subst, arith, rules, None, Some, Result, Ok, Err}
+use Rattle.std.proofs.lemmas.Bool.{and_parts, cases_lt, eqb-true, leb-true}
+use Rattle.pm_memory.specs.Runs.{Made}
+use Rattle.pm_memory.specs.declared.lane_mem.Stopped.{Stopped}
+use Rattle.pm_model.specs.declared.stage.Stage.TheVariants as stage
+use Rattle.pm_model.specs.Transaction.{covered_words}
+use Rattle.pm_objects.specs.declared.calls.Operation.TheVariants.{Write}
+use Rattle.pm_objects.specs.declared.ids.Oid.{Oid}
+use Rattle.pm_objects.specs.declared.refusal.Refusal.TheVariants as refusal
+use Rattle.pm_layout.specs.Chunks.{words_of}
+use Rattle.pm_view.specs.Claims.{header_in}
+use Rattle.pm_view.specs.Places.{word_of}
+use Rattle.pm_view.specs.Steps.{Step}
+use Rattle.pm_view.specs.Steps.Step.{Tell}
+use Rattle.pm_view.specs.View.{View}
+use Rattle.pm_view.specs.Views.{after, after_all}
+use Rattle.pm_world.specs.LaneFields.{Fields, Standing, fields_at, fields_of}
+use Rattle.pm_world.specs.Lawful.{Allowed}
+use Rattle.pm_world.specs.declared.lane.Lane.{Lane}
+use Rattle.pm_crash.specs.Looked.{word_place, words_in}
+use Rattle.pm_crash.specs.Writes.{written_word}
+use Rattle.pm_crash.proofs.Covered.{covered_has_byte}
+use Rattle.pm_plan.specs.Plans.{IsMade, IsReady, Ready, Runs, in_turn, known_word, looks, one, stores}
+use Rattle.pm_plan.proofs.Plans.{after_all-append, ready_left, ready_right, runs_err, runs_then}
+use Rattle.pm_undo.proofs.AreaParts.{in_pool}
+use Rattle.pm_call.specs.At.{At}
+use Rattle.pm_call.specs.Did.{Acted, IsAtSo}
+use Rattle.pm_call.specs.Held.{HasObject, IsObjectWord, Looks, has_line, line_of}
+use Rattle.pm_call.specs.Plans.{puts, tells, writes_word, writes_words}
+use Rattle.pm_call.specs.Ranges.{HasRange}
+use Rattle.pm_call.specs.Writing.{LeadsWrite, MayPut}
+use Rattle.pm_call.proofs.KnownObjects.{held_object, size_word, word_number}
+use Rattle.pm_call.proofs.ObjectWords.{object_place}
+use Rattle.pm_call.proofs.RangeWords.{has_line_, has_room, object}
+use Rattle.pm_call.proofs.RangeWrites.{leads_write, one_covered}
+
+-- ---- one word
+
+pub word_look : (old : View → Type 0) (place : ℕ) (bytes : List ℕ) (w : ℕ) → IsReady old (writes_word place bytes w) → IsReady old (looks w)
+unfolding IsReady writes_word in_turn
+word_look old place bytes w r = (r.0, (r.1.0, ready_left r.0 (looks w r.0) (stores w (written_word place bytes w (known_word r.0 w)) (after_all r.0 (looks w r.0))) r.1.1))
+
+module _ (old mid : View → Type 0) (place : ℕ) (bytes : List ℕ) (w x y : ℕ) (same : y ≡ written_word place bytes w x) (made : IsMade old mid (looks w)) (found : (v : View) → old v → Ready v (looks w v) → x ≡ known_word v w) where
+  pub word_store : IsReady old (writes_word place bytes w) → IsReady mid (stores w y)
+  unfolding IsReady Runs writes_word in_turn
+  word_store r =
+      let v : View = r.0 in
+      let u : View = after_all v (looks w v) in
+      let first = ready_left v (looks w v) (stores w (written_word place bytes w (known_word v w)) u) r.1.1 in
+      (u, (made v r.1.0 first, subst (λ z. Ready u (stores w z u)) (sym (same ∙ ap (written_word place bytes w) (found v r.1.0 first))) (ready_right v (looks w v) (stores w (written_word place bytes w (known_word v w)) u) r.1.1)))
+
+  pub word_runs : (new : View → Type 0) (result : Result (Unit {0}) Stopped) → Runs mid new (stores w y) result → Runs old new (writes_word place bytes w) result
+  unfolding Runs writes_word in_turn
+  word_runs new result runs v seen r =
+      let first = ready_left v (looks w v) (stores w (written_word place bytes w (known_word v w)) (after_all v (looks w v))) r in
+      runs_then {T = Unit {0}} old mid new (looks w) (stores w (written_word place bytes w (known_word v w))) tt result made
+      (subst (λ z. Runs mid new (stores w z) result) (same ∙ ap (written_word place bytes w) (found v seen first)) runs) v seen r
+
+-- ---- which words there are
+pub covered_bounds : (place len k : ℕ) → k < length (covered_words place len) → (place < 8 * (place / 8 + k) + 8) × (8 * (place / 8 + k) < place + len)
+covered_bounds place len k low = let b = covered_has_byte place len (place / 8 + k) (one_covered place len k low) in (b.2, b.1)
+
+-- ---- a range of an object ends in the pool
+module _ (s : Standing) (at : At s) (id : Oid) (off len : ℕ) (write : Bool) (r : HasRange s id off len write) where
+  abbrev v : View
+  v = s.view
+
+  abbrev o : HasObject s.view (line_of id.off)
+  o = object s at id off len write r
+
+  tests : (id.off % 64 ≡ 0) × (128 ≤ id.off)
+  tests = let t = and_parts (id.off % 64 == 0) (nat_le 128 id.off) (has_line_ s at id off len write r) in (eqb-true (id.off % 64) 0 t.0, leb-true 128 id.off t.1)
+
+  -- a word of the object is in the pool
+  word_low : (k : ℕ) → IsObjectWord s.view o.block k → 8 * header_in v.fixed.shape v.claims o.block + k < words_of v.fixed.shape
+  word_low k is = let p = object_place v at.sound o.block k is in
+      subst (λ n. n < words_of v.fixed.shape) (word_number v at.sound o.block k is) (in_pool v.fixed.shape (word_place v o.block k) p.data_ p.there)
+
+  pub range_low : id.off + off + len < 2 ^ 60
+  range_low =
+      let line = o.at in let even = tests.0 in let high = tests.1 in let room = has_room s at id off len write r in let inside = r.inside in
+      let lanes = at.working.lanes in let zones = at.working.zones in
+      ⊎_elim
+      (λ (more : 8 < words_in v o.block).
+      let low = word_low (words_in v o.block - 1) (record { found = o.found; inside = o.inside; within = omega (arith, more); kind = inr (omega (arith, more)) }) in
+      omega (arith, low, line, even, high, room, inside, lanes, zones, more))
+      (λ (few : words_in v o.block ≤ 8).
+      let low = word_low 1 (size_word v at.sound (line_of id.off) o) in
+      omega (arith, low, line, even, high, room, inside, lanes, zones, few))
+      (cases_lt 8 (words_in v o.block))
+
+-- ---- the lane
+module _ {M : Type 0} (at : M → View → Type 0) (old : Lane M) (id : Oid) (off : ℕ) (bytes : List ℕ) where
+  abbrev pub Here : Type 0
+  Here = IsAtSo at old (λ s. MayPut s id off bytes)
+
+  abbrev words : View → List Step
+  words = writes_words (id.off + off) bytes
+
+  abbrev Acts : Lane M → Result (Unit {0}) Rattle.pm_objects.specs.declared.refusal.Refusal.Refusal → Type 0
+  Acts new result = Acted at old new (λ s. MayPut s id off bytes) (Write id off bytes) (λ v. puts id off bytes) (λ v x. Unit {0}) result
+
+  pub low : Here → id.off + off + length bytes < 2 ^ 60
+  low h = range_low h.standing h.stands id off (length bytes) true h.holds.range
+
+  leads : (s : Standing) → At s → MayPut s id off bytes → LeadsWrite s id off bytes
+  leads s is can = leads_write s is id off bytes can
+
+  pub words_ready : Here → IsReady (at old.memory) (writes_words (id.off + off) bytes)
+  unfolding IsReady in_turn
+  words_ready h = let v : View = h.standing.view in (v, (h.works.memory, ready_left v (words v) (tells (Write id off bytes) None (after_all v (words v))) (leads h.standing h.stands h.holds).ready))
+
+  pub tell_may : (mid : M) → Here → Runs {T = Unit {0}} (at old.memory) (at mid) (writes_words (id.off + off) bytes) (Ok tt) → (v : View) × at mid v × Allowed v (Tell (Write id off bytes) None)
+  unfolding Runs in_turn one Ready
+  tell_may mid h runs =
+      let v : View = h.standing.view in
+      let r = (leads h.standing h.stands h.holds).ready in
+      let t = tells (Write id off bytes) None (after_all v (words v)) in
+      (after_all v (words v), runs v h.works.memory (ready_left v (words v) t r), (ready_right v (words v) t r).0)
+
+  module _ (may : View → Step → Type 0) (grants : (v : View) (s : Step) → Allowed v s → may v s) where
+    pub wrote_ok : (mid new : M) → Runs {T = Unit {0}} (at old.memory) (at mid) (writes_words (id.off + off) bytes) (Ok tt) → Made may (at mid) (at new) (Tell (Write id off bytes) None)
+        → Acts (record old { memory = new }) (Ok tt)
+    unfolding Acted Looks Runs in_turn one Ready after_all
+    wrote_ok mid new runs told s works is can =
+        let v : View = s.view in
+        let l = leads s is can in
+        let t = tells (Write id off bytes) None (after_all v (words v)) in
+        let first = ready_left v (words v) t l.ready in
+        let last = (ready_right v (words v) t l.ready).0 in
+        record {
+          looks = 0;
+          view = s.view;
+          looked = refl;
+          holds = (record {
+            unrefused = l.unrefused;
+            ready = l.ready;
+            works = record {
+              memory = subst (at new) (sym (after_all-append v (words v) t)) (told (after_all v (words v)) (runs v works.memory first) (grants (after_all v (words v)) (Tell (Write id off bytes) None) last)).0;
+              fields = works.fields ∙ sym l.fields;
+            };
+            stands = l.stands;
+          }, tt);
+        }
+
+  pub wrote_err : (mid : M) (stopped : Stopped) → Runs {T = Unit {0}} (at old.memory) (at mid) (writes_words (id.off + off) bytes) (Err stopped) → Acts (record old { memory = mid }) (Err refusal.Stopped)
+  unfolding Acted Looks Runs
+  wrote_err mid stopped runs s works is can =
+      let v : View = s.view in
+      let l = leads s is can in
+      record {
+        looks = 0;
+        view = s.view;
+        looked = refl;
+        holds = (l.unrefused, record {
+          ready = l.ready;
+          stops = runs_err {U = Unit {0}} (Unit {0}) (at old.memory) (at mid) (writes_words (id.off + off) bytes) (tells (Write id off bytes) None) stopped (Err stopped) (search rules) runs v works.memory l.ready;
+          fields = works.fields ∙ sym (ap (λ (f : Fields). record (fields_at stage.Work s) { generation = f.generation; records = f.records; stopped = false }) works.fields);
+        });
+      }
