@@ -212,13 +212,17 @@ module _ (s : Standing) (at : At s) (id : Oid) (off : ℕ) (bytes : List ℕ) (c
       }
 
       look_on : (n < words_of u.fixed.shape) × (knows u n ≡ Some (known_word u n)) × Storing n (after u (Load n (known_word u n)))
-      look_on = (low, known_here ∙ ap (λ y. Some y) (sym known_so), record {
-        notes = looked_on chunk.chunk chunk.at n (known_word u n) ns;
-        changes = changes;
-        calls = calls;
-        is = looked_is (known_word u n);
-        stored = looked_stored (known_word u n) known_so;
-      })
+      look_on = (
+        low,
+        known_here ∙ ap (λ y. Some y) (sym known_so),
+        record {
+          notes = looked_on chunk.chunk chunk.at n (known_word u n) ns;
+          changes = changes;
+          calls = calls;
+          is = looked_is (known_word u n);
+          stored = looked_stored (known_word u n) known_so;
+        },
+      )
 
       -- and stored
       may_store : HasRoom changes → MayStore u n (new_word n)

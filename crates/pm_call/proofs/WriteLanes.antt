@@ -1,5 +1,5 @@
 -- A WRITE, on a lane: what its function asks of the lane, and what it leaves.
-use Rattle.std.proofs.Common.{◌≡◌, ℕ, suc, ◌+◌, ◌-◌, ◌*◌, ◌/◌, ◌%◌, ◌^◌, ◌<◌, ◌≤◌, ⊎_elim, inl, inr, Bool, true, false, nat_le, ◌==◌, ◌&&◌, List, [], ◌∷◌, length, refl, sym, ap, ◌∙◌, subst, arith, rules, None, Some, Result, Ok, Err}
+use Rattle.std.proofs.Common.{◌≡◌, ℕ, ◌+◌, ◌-◌, ◌*◌, ◌/◌, ◌%◌, ◌^◌, ◌<◌, ◌≤◌, ⊎_elim, inr, Bool, true, false, nat_le, ◌==◌, List, length, refl, sym, ap, ◌∙◌, subst, arith, rules, None, Result, Ok, Err}
 use Rattle.std.proofs.lemmas.Bool.{and_parts, cases_lt, eqb-true, leb-true}
 use Rattle.pm_memory.specs.Runs.{Made}
 use Rattle.pm_memory.specs.declared.lane_mem.Stopped.{Stopped}
@@ -10,12 +10,11 @@ use Rattle.pm_objects.specs.declared.ids.Oid.{Oid}
 use Rattle.pm_objects.specs.declared.refusal.Refusal.TheVariants as refusal
 use Rattle.pm_layout.specs.Chunks.{words_of}
 use Rattle.pm_view.specs.Claims.{header_in}
-use Rattle.pm_view.specs.Places.{word_of}
 use Rattle.pm_view.specs.Steps.{Step}
 use Rattle.pm_view.specs.Steps.Step.{Tell}
 use Rattle.pm_view.specs.View.{View}
-use Rattle.pm_view.specs.Views.{after, after_all}
-use Rattle.pm_world.specs.LaneFields.{Fields, Standing, fields_at, fields_of}
+use Rattle.pm_view.specs.Views.{after_all}
+use Rattle.pm_world.specs.LaneFields.{Fields, Standing, fields_at}
 use Rattle.pm_world.specs.Lawful.{Allowed}
 use Rattle.pm_world.specs.declared.lane.Lane.{Lane}
 use Rattle.pm_crash.specs.Looked.{word_place, words_in}
@@ -26,11 +25,11 @@ use Rattle.pm_plan.proofs.Plans.{after_all-append, ready_left, ready_right, runs
 use Rattle.pm_undo.proofs.AreaParts.{in_pool}
 use Rattle.pm_call.specs.At.{At}
 use Rattle.pm_call.specs.Did.{Acted, IsAtSo}
-use Rattle.pm_call.specs.Held.{HasObject, IsObjectWord, Looks, has_line, line_of}
+use Rattle.pm_call.specs.Held.{HasObject, IsObjectWord, Looks, line_of}
 use Rattle.pm_call.specs.Plans.{puts, tells, writes_word, writes_words}
 use Rattle.pm_call.specs.Ranges.{HasRange}
 use Rattle.pm_call.specs.Writing.{LeadsWrite, MayPut}
-use Rattle.pm_call.proofs.KnownObjects.{held_object, size_word, word_number}
+use Rattle.pm_call.proofs.KnownObjects.{size_word, word_number}
 use Rattle.pm_call.proofs.ObjectWords.{object_place}
 use Rattle.pm_call.proofs.RangeWords.{has_line_, has_room, object}
 use Rattle.pm_call.proofs.RangeWrites.{leads_write, one_covered}
@@ -133,15 +132,18 @@ module _ {M : Type 0} (at : M → View → Type 0) (old : Lane M) (id : Oid) (of
           looks = 0;
           view = s.view;
           looked = refl;
-          holds = (record {
-            unrefused = l.unrefused;
-            ready = l.ready;
-            works = record {
-              memory = subst (at new) (sym (after_all-append v (words v) t)) (told (after_all v (words v)) (runs v works.memory first) (grants (after_all v (words v)) (Tell (Write id off bytes) None) last)).0;
-              fields = works.fields ∙ sym l.fields;
-            };
-            stands = l.stands;
-          }, tt);
+          holds = (
+            record {
+              unrefused = l.unrefused;
+              ready = l.ready;
+              works = record {
+                memory = subst (at new) (sym (after_all-append v (words v) t)) (told (after_all v (words v)) (runs v works.memory first) (grants (after_all v (words v)) (Tell (Write id off bytes) None) last)).0;
+                fields = works.fields ∙ sym l.fields;
+              };
+              stands = l.stands;
+            },
+            tt,
+          );
         }
 
   pub wrote_err : (mid : M) (stopped : Stopped) → Runs {T = Unit {0}} (at old.memory) (at mid) (writes_words (id.off + off) bytes) (Err stopped) → Acts (record old { memory = mid }) (Err refusal.Stopped)
@@ -153,9 +155,12 @@ module _ {M : Type 0} (at : M → View → Type 0) (old : Lane M) (id : Oid) (of
         looks = 0;
         view = s.view;
         looked = refl;
-        holds = (l.unrefused, record {
-          ready = l.ready;
-          stops = runs_err {U = Unit {0}} (Unit {0}) (at old.memory) (at mid) (writes_words (id.off + off) bytes) (tells (Write id off bytes) None) stopped (Err stopped) (search rules) runs v works.memory l.ready;
-          fields = works.fields ∙ sym (ap (λ (f : Fields). record (fields_at stage.Work s) { generation = f.generation; records = f.records; stopped = false }) works.fields);
-        });
+        holds = (
+          l.unrefused,
+          record {
+            ready = l.ready;
+            stops = runs_err {U = Unit {0}} (Unit {0}) (at old.memory) (at mid) (writes_words (id.off + off) bytes) (tells (Write id off bytes) None) stopped (Err stopped) (search rules) runs v works.memory l.ready;
+            fields = works.fields ∙ sym (ap (λ (f : Fields). record (fields_at stage.Work s) { generation = f.generation; records = f.records; stopped = false }) works.fields);
+          },
+        );
       }

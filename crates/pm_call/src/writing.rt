@@ -40,12 +40,7 @@ fn patched_word(place: u64, bytes: &[u8], word: u64, x: u64) -> u64
 }
 
 /// Puts its bytes into one word of those that they cover.
-fn write_word<M: LawfulMem>(
-    mem: &mut M,
-    place: u64,
-    bytes: &[u8],
-    word: u64,
-) -> Result<(), Stopped>
+fn write_word<M: LawfulMem>(mem: &mut M, place: u64, bytes: &[u8], word: u64) -> Result<(), Stopped>
     requires range { place + length bytes.now < 2 ^ 60 }
     requires above { place < 8 * word + 8 }
     requires below { 8 * word < place + length bytes.now }

@@ -1,4 +1,4 @@
-use Rattle.std.proofs.Common.{length, arith, None}
+use Rattle.std.proofs.Common.{arith, None}
 use Rattle.pm_objects.specs.declared.calls.Operation.TheVariants.{Write}
 use Rattle.pm_view.specs.Steps.Step.{Tell}
 use Rattle.pm_call.proofs.WriteLanes.{low, tell_may, words_ready, wrote_err, wrote_ok}

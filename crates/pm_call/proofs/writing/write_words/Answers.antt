@@ -1,4 +1,4 @@
-use Rattle.std.proofs.Common.{◌≡◌, ◌+◌, ◌*◌, ◌/◌, ◌<◌, ◌^◌, length, rules, arith, subst, ◌∙◌, Ok}
+use Rattle.std.proofs.Common.{◌≡◌, ◌+◌, ◌/◌, ◌<◌, length, rules, arith, subst, ◌∙◌, Ok}
 use Rattle.pm_model.specs.Transaction.{covered_words}
 use Rattle.pm_plan.proofs.Plans.{repeated_none, repeated_next, repeated_more, repeated_err}
 use Rattle.pm_plan.specs.Plans.{Runs, repeated}
