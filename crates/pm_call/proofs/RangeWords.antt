@@ -62,17 +62,15 @@ module _ (s : Standing) (at : At s) (id : Oid) (off len : ℕ) (write : Bool) (r
   range_number i c = let b = covered_has_byte (id.off + off) len i c in let hi = b.2 in let e = even in let h = high in
       word_number v at.sound object.block (index i) (range_word i c) ∙ (ap (λ l. 8 * l + index i) object.at ∙ omega (arith, hi, e, h))
 
-  pub range_data : (i : ℕ) → Contains (covered_words (id.off + off) len) i → 8 ≤ index i
-  range_data i c = let b = covered_has_byte (id.off + off) len i c in let hi = b.2 in let e = even in let h = high in omega (arith, hi, e, h)
-
   -- what it knows of the words, as the laws of the model ask it
   abbrev pub sized : KnowsSize s.view [] id.off
   sized = size_known v at.sound id.off r.size has_line_ object r.sized r.small
 
-  pub word_knows : KnowsWords s.view (id.off + off) len → (i : ℕ) → Contains (covered_words (id.off + off) len) i → Rattle.pm_crash.specs.Looked.KnowsWord s.view [] object.block (index i) (known_word s.view i)
-  word_knows known i c = let k = known i c in let w = range_word i c in let n = range_number i c in
-      let value : known_word v i ≡ k.value = ap (λ o. unwrap_or o 0) (ap (knows v) (sym n) ∙ (object_known v at.sound object.block (index i) w ∙ (ap (value_in v) n ∙ k.known))) in
-      word_known v at.sound object.block (index i) (known_word v i) w (ap (value_in v) n ∙ (k.known ∙ ap (λ y. Some y) (sym value))) (subst (λ y. y < 2 ^ 64) (sym value) k.small)
-
   pub knows_range : KnowsWords s.view (id.off + off) len → KnowsRange s.view [] id.off off len (known_word s.view)
-  knows_range known = record { object = sized; inside = r.inside; knows = word_knows known }
+  knows_range known = record {
+    object = sized;
+    inside = r.inside;
+    knows = λ i c. let k = known i c in let w = range_word i c in let n = range_number i c in
+        let value : known_word v i ≡ k.value = ap (λ o. unwrap_or o 0) (ap (knows v) (sym n) ∙ (object_known v at.sound object.block (index i) w ∙ (ap (value_in v) n ∙ k.known))) in
+        word_known v at.sound object.block (index i) (known_word v i) w (ap (value_in v) n ∙ (k.known ∙ ap (λ y. Some y) (sym value))) (subst (λ y. y < 2 ^ 64) (sym value) k.small);
+  }

@@ -54,7 +54,7 @@ use Rattle.pm_call.proofs.Noting.{KeepsHeld, all_map, bytes_so, data_so, found_s
 use Rattle.pm_call.proofs.ObjectWords.{object_place}
 use Rattle.pm_call.proofs.RangeReads.{begun_more, range_passes}
 use Rattle.pm_call.proofs.RangeRefusals.{range_refusals, ranges_are_looked_at}
-use Rattle.pm_call.proofs.RangeWords.{range_data, sized, word_knows}
+use Rattle.pm_call.proofs.RangeWords.{sized}
 use Rattle.pm_call.proofs.RecordedWords.{header_apart, one_use}
 use Rattle.pm_call.proofs.Storing as storing
 use Rattle.pm_call.proofs.Storing.{IsCovered, Stored, Storing, block, goes_word, index, new_small, new_word, range_place, storing_starts}
@@ -140,7 +140,7 @@ module _ (s : Standing) (at : At s) (id : Oid) (off : ℕ) (bytes : List ℕ) (c
       let own : IsObjectWord v C 1 = size_word v at.sound (header_in v.fixed.shape v.claims C) (record { block = C; found = f; at = refl; inside = o }) in
       let i : ℕ = 8 * header_in v.fixed.shape v.claims C + 1 in
       let w = storing.word_is s at id off bytes can i c in
-      header_apart v at.sound at.sound.some C B 1 (index s at id off bytes can i) f w.found (omega arith) (range_data s at id off (length bytes) true can.range i c) w.within
+      header_apart v at.sound at.sound.some C B 1 (index s at id off bytes can i) f w.found (omega arith) (storing.index_high s at id off bytes can i c) w.within
       (same_Some (word_place v C 1) (q i) (sym (use_at C 1 i own (word_number v at.sound C 1 own)) ∙ storing.use_is s at id off bytes can i c))
 
   -- the size of an object at an offset
@@ -278,7 +278,7 @@ module _ (s : Standing) (at : At s) (id : Oid) (off : ℕ) (bytes : List ℕ) (c
       inside = can.range.inside;
       are_bytes = can.are_bytes;
       words = known_word v;
-      knows = word_knows s at id off (length bytes) true can.range can.known;
+      knows = storing.word_knows s at id off bytes can;
       small = new_small s at id off bytes can;
       puts = λ i b c low. put_bit i b c;
       others = other_bit;

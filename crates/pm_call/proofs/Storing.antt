@@ -1,9 +1,9 @@
 -- BYTES ARE PUT INTO RECORDED WORDS, one word after another: those stored have their new values, all others what they had.
 use Rattle.std.specs.Prelude.{unwrap_or, bit_and}
-use Rattle.std.proofs.Common.{◌≡◌, ◌≢◌, ℕ, zero, suc, ◌+◌, ◌-◌, ◌*◌, ◌/◌, ◌%◌, ◌^◌, ◌<◌, ◌≤◌, ◌⊎◌, inl, inr, ⊎_elim, Bool, true, false, cond, Contains, List, [], ◌∷◌, length, get_or, refl, sym, ap, ◌∙◌, subst, arith, eq-eqb, ◌==◌, Option, None, Some, IsTrue}
+use Rattle.std.proofs.Common.{◌≡◌, ◌≢◌, ℕ, zero, suc, ◌+◌, ◌-◌, ◌*◌, ◌/◌, ◌%◌, ◌^◌, ◌<◌, ◌≤◌, ◌⊎◌, inl, inr, ⊎_elim, Bool, true, false, cond, Contains, List, [], ◌∷◌, length, get_or, refl, sym, ap, ◌∙◌, subst, arith, eq-eqb, ◌==◌, ◌&&◌, nat_le, Option, None, Some, IsTrue}
 use Rattle.std.specs.List.{AllByRecursion}
 use Rattle.std.specs.Option.{option_map}
-use Rattle.std.proofs.lemmas.Bool.{both_ways, cases_eq, cond-true}
+use Rattle.std.proofs.lemmas.Bool.{and_parts, both_ways, cases_eq, cond-true, eqb-true, leb-true}
 use Rattle.pm_layout.specs.declared.shape.Shape.{Shape}
 use Rattle.pm_layout.specs.Chunks.{words_of}
 use Rattle.pm_objects.specs.declared.ids.Oid.{Oid}
@@ -22,7 +22,7 @@ use Rattle.pm_view.specs.Views.{after, changed_from, decided_by, learned, marked
 use Rattle.pm_world.specs.LaneFields.{Standing}
 use Rattle.pm_world.specs.Lawful.{MayStore, StoreFits, place_in}
 use Rattle.pm_world.specs.Sights.{is_logged_from}
-use Rattle.pm_crash.specs.Looked.{word_place}
+use Rattle.pm_crash.specs.Looked.{KnowsWord, word_place}
 use Rattle.pm_crash.specs.Writes.{written_word}
 use Rattle.pm_crash.proofs.Covered.{covered_has_byte}
 use Rattle.pm_crash.proofs.OpeningBits.{all_member}
@@ -40,9 +40,10 @@ use Rattle.pm_call.specs.Held.{IsObjectWord}
 use Rattle.pm_call.specs.Plans.{writes_word}
 use Rattle.pm_call.specs.Writing.{MayPut}
 use Rattle.pm_call.proofs.Frames.{noting}
+use Rattle.pm_call.proofs.KnownObjects.{word_known}
 use Rattle.pm_call.proofs.Noting.{object_word_so, place_so, sound_so}
 use Rattle.pm_call.proofs.ObjectWords.{IsDataPlace, object_known, object_place}
-use Rattle.pm_call.proofs.RangeWords.{object, range_number, range_word}
+use Rattle.pm_call.proofs.RangeWords.{has_line_, object, range_number, range_word}
 use Rattle.pm_call.proofs.RecordsHave.{HasRecord, word_has_record}
 use Rattle.pm_call.proofs.SmallWords.{written_small}
 
@@ -130,6 +131,16 @@ module _ (s : Standing) (at : At s) (id : Oid) (off : ℕ) (bytes : List ℕ) (c
 
   pub known_small : (i : ℕ) → IsCovered i → known_word s.view i < 2 ^ 64
   known_small i c = let k = can.known i c in let e = Rattle.std.proofs.lemmas.Option.same_Some k.value (known_word v i) (sym k.known ∙ known_is i c) in subst (λ n. n < 2 ^ 64) e k.small
+
+  pub word_knows : (i : ℕ) → IsCovered i → KnowsWord s.view [] block (index i) (known_word s.view i)
+  word_knows i c = word_known v at.sound block (index i) (known_word v i) (word_is i c) (ap (value_in v) (number_is i c) ∙ known_is i c) (known_small i c)
+
+  -- and it is of the object's data
+  pub index_high : (i : ℕ) → IsCovered i → 8 ≤ index i
+  index_high i c =
+      let hi = (covered_has_byte (id.off + off) (length bytes) i c).2 in
+      let t = and_parts (id.off % 64 == 0) (nat_le 128 id.off) (has_line_ s at id off (length bytes) true can.range) in
+      let even = eqb-true (id.off % 64) 0 t.0 in let high = leb-true 128 id.off t.1 in omega (arith, hi, even, high)
 
   pub new_small : (i : ℕ) → IsCovered i → new_word i < 2 ^ 64
   new_small i c = written_small (id.off + off) bytes i (known_word v i) can.are_bytes
