@@ -5,3 +5,6 @@
 mod writing;
 
 pub use writing::{count_words, do_write, ranges_may_be_written};
+
+#[cfg(test)]
+mod tests;

@@ -26,7 +26,7 @@ pub fn count_words(place: u64, len: u64) -> u64
 }
 
 /// The word with those of its bytes replaced that are among the bytes written from a place on.
-fn patched_word(place: u64, bytes: &[u8], word: u64, x: u64) -> u64
+pub fn patched_word(place: u64, bytes: &[u8], word: u64, x: u64) -> u64
     requires range { place + length bytes.now < 2 ^ 60 }
     requires above { place < 8 * word + 8 }
     requires below { 8 * word < place + length bytes.now }
