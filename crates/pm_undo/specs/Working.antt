@@ -2,7 +2,7 @@
 use Rattle.std.specs.Prelude.{◌≡◌, ◌≢◌, ℕ, ◌+◌, ◌*◌, ◌^◌, ◌<◌, ◌≤◌, true, false, List, [], ◌∷◌, ◌++◌, length, map, slice_index, Some}
 use Rattle.std.specs.List.{AllByRecursion}
 use Rattle.pm_layout.specs.declared.shape.Shape.{Shape}
-use Rattle.pm_layout.specs.Areas.{greatest_generation, undo_slots, old_words, word_of_generation}
+use Rattle.pm_layout.specs.Areas.{greatest_generation, undo_slots, old_words, word_of_generation, word_of_seal}
 use Rattle.pm_layout.specs.Chunks.{page_of_zone}
 use Rattle.pm_view.specs.Changes.{Undrained}
 use Rattle.pm_view.specs.Claims.{Claim, Knows, Drained, SawBitmap, class, making}
@@ -35,6 +35,10 @@ AreOnce (r ∷ records) = ((p : Place) → given (old_in r p) ≡ true → is_re
 -- a word that is of no lane's area, nor before them
 abbrev pub IsBeyond : Shape → ℕ → Type 0
 IsBeyond sh w = 512 * page_of_zone sh 0 ≤ w
+
+-- the words of a lane's area before its entries and slots: its generation and its seal
+abbrev pub IsHead : Shape → ℕ → ℕ → Type 0
+IsHead sh lane w = (word_of_generation sh lane ≤ w) × (w ≤ word_of_seal sh lane)
 
 -- A LANE AT WORK: its call is open, no record and no entry is in the making or stored, its records are drained, and it makes no run
 pub record IsWorking (v : View) : Type 0 where
@@ -104,6 +108,7 @@ pub record IsSnapshot (v : View) (spans : List Span) (w : View) : Type 0 where
   pub noted : HasNoted v w
   pub changes : AllByRecursion (λ (u : Undrained). IsBeyond v.fixed.shape u.word) w.changes
   pub known : (u : ℕ) → IsBeyond v.fixed.shape u → knows w u ≡ knows v u
+  pub head : (u : ℕ) → IsHead v.fixed.shape v.fixed.lane u → value_in w u ≡ value_in v u
   pub working : IsWorking w
 
 -- ---- putting back
