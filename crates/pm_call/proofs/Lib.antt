@@ -4,3 +4,5 @@ pub mod KnownObjects
 pub mod Noting
 pub mod Looking
 pub mod RangeRefusals
+pub mod RangeWords
+pub mod NewRecords

@@ -5,3 +5,4 @@ pub mod Plans
 pub mod Did
 pub mod GivenUp
 pub mod RangeLaws
+pub mod Adding
