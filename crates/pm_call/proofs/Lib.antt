@@ -6,3 +6,4 @@ pub mod Looking
 pub mod RangeRefusals
 pub mod RangeWords
 pub mod NewRecords
+pub mod Adding

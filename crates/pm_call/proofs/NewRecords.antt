@@ -1,11 +1,10 @@
 -- WHAT NEW RECORDS ARE OF: each recorded place is a word of the range, with the value that the lane knows.
 use Rattle.std.specs.Prelude.{slice_index}
-use Rattle.std.proofs.Common.{◌≡◌, ◌≢◌, ℕ, zero, suc, ◌+◌, ◌-◌, ◌*◌, ◌/◌, ◌<◌, ◌≤◌, ◌⊎◌, inl, inr, ⊎_elim, nat_lt, Bool, true, false, cond, eqb, ltb, ◌==◌, ◌&&◌, ◌||◌, not, Contains, List, [], ◌∷◌, ◌++◌, length, length-append, map, refl, sym, ap, ◌∙◌, subst, arith, Option, None, Some}
+use Rattle.std.proofs.Common.{◌≡◌, ℕ, zero, suc, ◌+◌, nat_lt, Bool, true, false, cond, eqb, ltb, ◌&&◌, List, [], ◌∷◌, ◌++◌, length, length-append, map, refl, sym, ap, ◌∙◌, subst, arith, Option, None, Some}
 use Rattle.std.specs.List.{AllByRecursion, flat_map, range_with_len}
 use Rattle.std.proofs.lemmas.Bool.{and_from, both_ways, cond-true, eqb-true, lt-ltb}
 use Rattle.std.proofs.lemmas.Grind.{flat_map-append}
 use Rattle.std.proofs.lemmas.List.{append_assoc, length-map, map-append}
-use Rattle.pm_model.specs.Items.{is_among}
 use Rattle.pm_model.specs.Transaction.{covered_words, new_words, records_from, records_of}
 use Rattle.pm_view.specs.Entries.{first_of_two}
 use Rattle.pm_view.specs.Log.{Recorded, old_in, old_of}

@@ -186,7 +186,7 @@ module _ (v : View) (call actions published : List Told) where
   words_told (Big f) = refl
   words_told Rattle.pm_view.specs.Places.Root = refl
 
-  data_told : IsSound v → (p : Place) → IsDataOf v p → IsDataOf told p
+  pub data_told : IsSound v → (p : Place) → IsDataOf v p → IsDataOf told p
   data_told s p d = record {
     off = d.off;
     object = size_told s d.off d.object d.found;

@@ -1,27 +1,24 @@
 -- THE WORDS OF A RANGE of an object that a lane holds: which of the object's they are, and that the lane knows them.
-use Rattle.std.proofs.Common.{◌≡◌, ◌≢◌, ℕ, zero, suc, ◌+◌, ◌-◌, ◌*◌, ◌/◌, ◌%◌, ◌^◌, ◌<◌, ◌≤◌, ◌⊎◌, inl, inr, ⊎_elim, nat_le, nat_lt, Bool, true, false, cond, ◌==◌, ◌&&◌, ◌||◌, not, Contains, List, [], ◌∷◌, length, map, refl, sym, ap, ◌∙◌, subst, arith, Option, None, Some}
-use Rattle.std.specs.List.{AllByRecursion, list_any}
-use Rattle.std.proofs.lemmas.Bool.{and_from, and_parts, both_ways, cases_eq, eqb-true, leb-true, or_cases}
-use Rattle.std.proofs.lemmas.Option.{same_Some}
-use Rattle.pm_model.specs.Items.{is_among}
+use Rattle.std.proofs.Common.{◌≡◌, ℕ, ◌+◌, ◌-◌, ◌*◌, ◌/◌, ◌%◌, ◌<◌, ◌≤◌, inr, ⊎_elim, nat_le, Bool, true, false, ◌==◌, ◌&&◌, ◌||◌, Contains, List, [], ◌∷◌, refl, sym, ap, ◌∙◌, subst, arith, Some}
+use Rattle.std.specs.List.{list_any}
+use Rattle.std.proofs.lemmas.Bool.{and_from, and_parts, both_ways, eqb-true, leb-true, or_cases}
 use Rattle.pm_model.specs.Transaction.{covered_words}
 use Rattle.pm_objects.specs.declared.ids.Oid.{Oid}
-use Rattle.pm_view.specs.Claims.{class, header_in, locked, span}
+use Rattle.pm_view.specs.Claims.{class, header_in, locked}
 use Rattle.pm_view.specs.Founds.{knows}
-use Rattle.pm_view.specs.Places.{Place, Block, Small, Big, Root, word_of}
+use Rattle.pm_view.specs.Places.{Block, Small, Big, Root, word_of}
 use Rattle.pm_view.specs.View.{View}
 use Rattle.pm_view.specs.Views.{value_in}
 use Rattle.pm_world.specs.LaneFields.{Standing}
 use Rattle.pm_world.specs.Lanes.{is_occupancy}
-use Rattle.pm_world.specs.Lawful.{is_here}
 use Rattle.pm_world.specs.declared.lane.HeldLock.{HeldLock}
 use Rattle.pm_crash.specs.Footprints.{has_found}
 use Rattle.pm_crash.specs.Looked.{KnowsSize, word_place, words_in}
 use Rattle.pm_crash.proofs.Covered.{byte_is_covered, covered_has_byte}
-use Rattle.pm_undo.specs.Ranges.{HoldsObject, IsInObject, KnowsNew, block_bytes, header_of}
-use Rattle.pm_call.specs.At.{At, IsAt}
-use Rattle.pm_call.specs.Held.{AreHeld, HasObject, IsHeld, IsObjectWord, has_line, is_in_locks, line_of}
-use Rattle.pm_call.specs.Ranges.{HasRange, KnowsWord, KnowsWords}
+use Rattle.pm_undo.specs.Ranges.{HoldsObject, IsInObject, KnowsNew, block_bytes}
+use Rattle.pm_call.specs.At.{At}
+use Rattle.pm_call.specs.Held.{AreHeld, HasObject, IsObjectWord, has_line, is_in_locks, line_of}
+use Rattle.pm_call.specs.Ranges.{HasRange, KnowsWords}
 use Rattle.pm_call.proofs.KnownObjects.{held_object, size_known, size_word, word_number}
 use Rattle.pm_call.proofs.ObjectWords.{object_known}
 
@@ -66,7 +63,7 @@ module _ (s : Standing) (at : At s) (id : Oid) (off len : ℕ) (write : Bool) (r
   pub header_at : 64 * header_in s.view.fixed.shape s.view.claims block + 64 ≡ id.off
   header_at = ap (λ l. 64 * l + 64) held.1.at ∙ (let e = even in let h = high in omega (arith, e, h))
 
-  pub object_sized : KnowsSize s.view [] id.off
+  abbrev pub object_sized : KnowsSize s.view [] id.off
   object_sized = size_known s.view at.sound id.off range.size held.0 held.1 range.sized range.small
 
   sized_at : value_in s.view (8 * header_in s.view.fixed.shape s.view.claims block + 1) ≡ Some range.size
