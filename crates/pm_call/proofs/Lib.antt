@@ -6,4 +6,5 @@ pub mod Looking
 pub mod RangeRefusals
 pub mod RangeWords
 pub mod NewRecords
-pub mod Adding
+pub mod AddedRanges
+pub mod AddedLanes

@@ -1,5 +1,5 @@
 -- THE WORDS OF A RANGE of an object that a lane holds: which of the object's they are, and that the lane knows them.
-use Rattle.std.proofs.Common.{◌≡◌, ℕ, ◌+◌, ◌-◌, ◌*◌, ◌/◌, ◌%◌, ◌<◌, ◌≤◌, inr, ⊎_elim, nat_le, Bool, true, false, ◌==◌, ◌&&◌, ◌||◌, Contains, List, [], ◌∷◌, refl, sym, ap, ◌∙◌, subst, arith, Some}
+use Rattle.std.proofs.Common.{◌≡◌, ◌^◌, ℕ, ◌+◌, ◌-◌, ◌*◌, ◌/◌, ◌%◌, ◌<◌, ◌≤◌, inr, ⊎_elim, nat_le, Bool, true, false, ◌==◌, ◌&&◌, ◌||◌, Contains, List, [], ◌∷◌, refl, sym, ap, ◌∙◌, subst, arith, Some}
 use Rattle.std.specs.List.{list_any}
 use Rattle.std.proofs.lemmas.Bool.{and_from, and_parts, both_ways, eqb-true, leb-true, or_cases}
 use Rattle.pm_model.specs.Transaction.{covered_words}
@@ -12,6 +12,8 @@ use Rattle.pm_view.specs.Views.{value_in}
 use Rattle.pm_world.specs.LaneFields.{Standing}
 use Rattle.pm_world.specs.Lanes.{is_occupancy}
 use Rattle.pm_world.specs.declared.lane.HeldLock.{HeldLock}
+use Rattle.pm_world.proofs.BlockLines.{run_fits}
+use Rattle.pm_undo.proofs.AreaParts.{in_pool}
 use Rattle.pm_crash.specs.Footprints.{has_found}
 use Rattle.pm_crash.specs.Looked.{KnowsSize, word_place, words_in}
 use Rattle.pm_crash.proofs.Covered.{byte_is_covered, covered_has_byte}
@@ -20,7 +22,7 @@ use Rattle.pm_call.specs.At.{At}
 use Rattle.pm_call.specs.Held.{AreHeld, HasObject, IsObjectWord, has_line, is_in_locks, line_of}
 use Rattle.pm_call.specs.Ranges.{HasRange, KnowsWords}
 use Rattle.pm_call.proofs.KnownObjects.{held_object, size_known, size_word, word_number}
-use Rattle.pm_call.proofs.ObjectWords.{object_known}
+use Rattle.pm_call.proofs.ObjectWords.{object_known, object_place}
 
 -- a lock for writing that is in the list is held
 pub lock_held : (v : View) (locks : List HeldLock) → AreHeld v locks → (off : ℕ) → is_in_locks locks off true ≡ true → locked v.claims (line_of off) ≡ true
@@ -109,6 +111,26 @@ module _ (s : Standing) (at : At s) (id : Oid) (off len : ℕ) (write : Bool) (r
   -- what was seen of it the lane knows
   pub known_word_of : (w : ℕ) → Contains (covered_words (id.off + off) len) w → knows s.view w ≡ value_in s.view w
   known_word_of w c = let r = in_range w c in sym (ap (knows s.view) r.is) ∙ (object_known s.view at.sound block (index_of w) r.word ∙ ap (value_in s.view) r.is)
+
+  -- ---- its bytes are those of a pool
+
+  block_small : (B : Block) → has_found s.view B ≡ true → words_in s.view B ≤ 32768
+  block_small (Small c i) f = let n = run_fits (class s.view.claims c) i (at.sound.small c i f).1 in omega (arith, n)
+  block_small (Big h) f = let n = at.sound.zone h f in omega (arith, n)
+  block_small Root f = omega arith
+
+  pub range_low : id.off + off + len < 2 ^ 60
+  range_low =
+      let o = (held_object s.view s.locks at.held id.off write range.locked).1 in
+      let is = size_word s.view at.sound (line_of id.off) o in
+      let place = object_place s.view at.sound o.block 1 is in
+      let low = in_pool s.view.fixed.shape (word_place s.view o.block 1) place.data_ place.there in
+      let number = word_number s.view at.sound o.block 1 is in
+      let few = block_small block found in
+      let n = bytes_words block in
+      let f = fits in let h = header_at in let i = range.inside in
+      let lanes = at.working.lanes in let zones = at.working.zones in
+      omega (arith, low, number, few, n, f, h, i, lanes, zones)
 
 -- ---- under its write lock
 module _ (s : Standing) (at : At s) (id : Oid) (off len : ℕ) (range : HasRange s id off len true) where

@@ -1,8 +1,9 @@
 -- A range of an object under its write lock may be added, and the lane is at work then.
-use Rattle.std.proofs.Common.{◌≡◌, ◌≢◌, ℕ, ◌+◌, ◌-◌, ◌*◌, ◌/◌, ◌%◌, ◌≤◌, ◌⊎◌, inl, inr, ⊎_elim, nat_le, nat_lt, Bool, true, false, cond, ◌==◌, ◌&&◌, not, Contains, List, [], ◌∷◌, ◌++◌, length, map, refl, sym, ap, ◌∙◌, subst, arith, eq-eqb, Option, None, Some}
+use Rattle.std.specs.Prelude.{if◌then◌else◌}
+use Rattle.std.proofs.Common.{◌≡◌, ◌≢◌, ℕ, ◌+◌, ◌-◌, ◌*◌, ◌/◌, ◌%◌, ◌<◌, ◌≤◌, ◌⊎◌, inl, inr, ⊎_elim, nat_le, nat_lt, Bool, true, false, cond, ◌==◌, ◌&&◌, not, Contains, List, [], ◌∷◌, ◌++◌, length, map, refl, sym, ap, ◌∙◌, subst, arith, eq-eqb, Option, None, Some}
 use Rattle.std.specs.List.{AllByRecursion}
 use Rattle.std.specs.Option.{option_map, option_map_or}
-use Rattle.std.proofs.lemmas.Bool.{and_from, and_parts, and_right, both_ways, cases_eq, cond-true, cond-false, eqb-true, false_from_ne_true, leb-true, ltb-true}
+use Rattle.std.proofs.lemmas.Bool.{and_from, and_parts, and_right, both_ways, cases_eq, cond-true, cond-false, eqb-true, false_from_ne_true, leb-true, lt-ltb, ltb-true}
 use Rattle.std.proofs.lemmas.List.{length-map}
 use Rattle.std.proofs.lemmas.List.Elements.{All-nil}
 use Rattle.std.proofs.lemmas.Option.{same_Some}
@@ -16,7 +17,7 @@ use Rattle.pm_objects.specs.declared.ids.Oid.{Oid}
 use Rattle.pm_objects.specs.declared.refusal.Refusal.TheVariants as refusal
 use Rattle.pm_view.specs.Claims.{geometry, header_in}
 use Rattle.pm_view.specs.Entries.{first_of_two}
-use Rattle.pm_view.specs.Log.{Log, Recorded, old_of}
+use Rattle.pm_view.specs.Log.{Log, Open, Recorded, old_of}
 use Rattle.pm_view.specs.Places.{Place, InRun, InHuge, Descr, RootWord, block_of, is_data, word_of}
 use Rattle.pm_view.specs.Steps.Step.{Tell}
 use Rattle.pm_view.specs.View.{View, Told}
@@ -30,10 +31,11 @@ use Rattle.pm_world.proofs.Basics.{given_cases}
 use Rattle.pm_world.proofs.RecordsAtPlaces.{data_pictured}
 use Rattle.pm_crash.specs.Calls.{pending_of}
 use Rattle.pm_crash.specs.Footprints.{bit_before, has_found}
-use Rattle.pm_crash.specs.Looked.{Enters, size_seen, word_place}
+use Rattle.pm_crash.specs.Looked.{Enters, refusal_by, size_seen, word_place}
 use Rattle.pm_crash.specs.OpenRuns.{no_pool}
 use Rattle.pm_crash.specs.Sim.{Grows, IsAsBefore, IsSamePlace, SameBits, Sim, change_so_far, lists_of, sees_at}
 use Rattle.pm_crash.specs.SimFacts.{is_begun}
+use Rattle.pm_crash.specs.SimOps.{LookedAt}
 use Rattle.pm_crash.proofs.OpenRuns.{told_once_more}
 use Rattle.pm_crash.proofs.SimFacts.{no_entries}
 use Rattle.pm_crash.proofs.SimOps.{sim_extends}
@@ -44,17 +46,18 @@ use Rattle.pm_undo.specs.Plans.{snapshots}
 use Rattle.pm_undo.specs.Records.{kept_by, recorded_in}
 use Rattle.pm_undo.specs.Spans as spans_of
 use Rattle.pm_undo.specs.Undoing.{needed}
-use Rattle.pm_undo.specs.Working.{CanSnapshot, IsNoSlot, IsSnapshot, IsWorking, Note}
+use Rattle.pm_undo.specs.Working.{CanSnapshot, HasSlots, IsNoSlot, IsSnapshot, IsWorking, Note}
 use Rattle.pm_undo.specs.declared.spans.Span.{Span}
 use Rattle.pm_undo.proofs.AreaParts.{data_beyond}
 use Rattle.pm_undo.proofs.Fitting.{AreAll, plan_all}
 use Rattle.pm_undo.proofs.Planning.{plans_nothing}
 use Rattle.pm_undo.proofs.Ranges.{ranges_may}
 use Rattle.pm_undo.proofs.Standing.{snapshot_lawful}
-use Rattle.pm_call.specs.Adding.{MayAdd, RangesMayBeAdded}
+use Rattle.pm_call.specs.Adding.{CanAdd, RangesMayBeAdded}
 use Rattle.pm_call.specs.At.{At, AreLists, IsAt, IsDataOf, MaySet, entries_so_far}
-use Rattle.pm_call.specs.Did.{IsUnrefused, unseen}
+use Rattle.pm_call.specs.Did.{IsRefused, IsUnrefused, unseen}
 use Rattle.pm_call.specs.Held.{HasObject, SizesFit, has_line, is_in_locks, line_of}
+use Rattle.pm_call.specs.Plans.{adds}
 use Rattle.pm_call.specs.Ranges.{is_held_so, size_or_none}
 use Rattle.pm_call.proofs.Frames.{header_so, noting, sees_same}
 use Rattle.pm_call.proofs.KnownObjects.{fresh_is, held_object, sees_data, size_word, word_number}
@@ -92,7 +95,7 @@ begun_more : (call more : List Told) → is_begun call ≡ true → is_begun (ca
 begun_more [] more e = absurd (both_ways false refl e)
 begun_more (t ∷ call) more e = e
 
-module _ (s : Standing) (at : At s) (id : Oid) (off len : ℕ) (may : MayAdd s id off len) where
+module _ (s : Standing) (at : At s) (id : Oid) (off len : ℕ) (may : CanAdd s id off len) where
   abbrev v : View
   v = s.view
 
@@ -110,16 +113,17 @@ module _ (s : Standing) (at : At s) (id : Oid) (off len : ℕ) (may : MayAdd s i
 
   -- ---- it is not refused
 
-  few : length s.view.log.records + length (records_of (new_words (spans_of.words_in (kept_by s.view)) (covered_words (id.off + off) len))) ≤ 64
+  pub many : length (needed s.view (id.off + off) len) ≡ length (records_of (new_words (spans_of.words_in (kept_by s.view)) (covered_words (id.off + off) len)))
   unfolding spans_of.plan_of spans_of.spans_for
-  few = let n = length-map (records_of (new_words (spans_of.words_in (kept_by s.view)) (covered_words (id.off + off) len))) spans_of.span_in in let t = may.slots in omega (arith, n, t)
+  many = length-map (records_of (new_words (spans_of.words_in (kept_by s.view)) (covered_words (id.off + off) len))) spans_of.span_in
 
-  pub unrefused : IsUnrefused s (AddRange id off len)
+  abbrev records_then : ℕ
+  records_then = length s.view.log.records + length (records_of (new_words (spans_of.words_in (kept_by s.view)) (covered_words (id.off + off) len)))
+
+  -- it is refused for want of slots alone
+  refusal_so : (full : Bool) → nat_lt 64 records_then ≡ full → refusal_by unseen s.view None (AddRange id off len) ≡ (if full then Some refusal.LogFull else None)
   unfolding first_of
-  unrefused = record {
-    looks = ranges_are_looked_at s (AddRange id off len) id off len true at (refl, refl, refl, refl) (inl (record { size = may.range.size; sized = may.range.sized; small = may.range.small }));
-    none = range_refusals s (AddRange id off len) id off len true at (refl, refl, refl, refl) ∙ λ i. first_of ((refusal.NotLocked, held i) ∷ (refusal.OutOfRange, inside i) ∷ (refusal.LogFull, fits i) ∷ []);
-  }
+  refusal_so full fits = range_refusals s (AddRange id off len) id off len true at (refl, refl, refl, refl) ∙ λ i. first_of ((refusal.NotLocked, held i) ∷ (refusal.OutOfRange, inside i) ∷ (refusal.LogFull, fits i) ∷ [])
     where
       held : not (is_held_so s id true) ≡ false
       held = ap not (and_from (id.pool == s.view.fixed.pool) (is_in_locks s.locks id.off true) (eq-eqb id.pool s.view.fixed.pool may.range.pool) may.range.locked)
@@ -127,12 +131,14 @@ module _ (s : Standing) (at : At s) (id : Oid) (off len : ℕ) (may : MayAdd s i
       inside : nat_lt (size_or_none s.view id.off) (off + len) ≡ false
       inside = false_from_ne_true (nat_lt (size_or_none s.view id.off) (off + len)) (λ t. let e : size_or_none s.view id.off ≡ may.range.size = ap (λ o. option_map_or (λ n. n) o 0) may.range.sized in let l = ltb-true (size_or_none s.view id.off) (off + len) t in let i = may.range.inside in omega (arith, e, l, i))
 
-      fits : nat_lt 64 (length s.view.log.records + length (records_of (new_words (spans_of.words_in (kept_by s.view)) (covered_words (id.off + off) len)))) ≡ false
-      fits = false_from_ne_true (nat_lt 64 (length s.view.log.records + length (records_of (new_words (spans_of.words_in (kept_by s.view)) (covered_words (id.off + off) len))))) (λ t. let l = ltb-true 64 (length s.view.log.records + length (records_of (new_words (spans_of.words_in (kept_by s.view)) (covered_words (id.off + off) len)))) t in let f = few in omega (arith, l, f))
+  looked : LookedAt s.view (entries_so_far s) None (AddRange id off len)
+  looked = ranges_are_looked_at s (AddRange id off len) id off len true at (refl, refl, refl, refl) (inl (record { size = may.range.size; sized = may.range.sized; small = may.range.small }))
 
-  -- ---- its words may be recorded
+  pub overfull : 64 < length s.view.log.records + length (needed s.view (id.off + off) len) → IsRefused s (AddRange id off len) refusal.LogFull
+  overfull full = record { looks = looked; first = refusal_so true (lt-ltb 64 records_then (let n = many in omega (arith, full, n))) }
 
-  can : CanSnapshot s.view (needed s.view (id.off + off) len)
+  -- its words may be recorded
+  pub can : CanSnapshot s.view (needed s.view (id.off + off) len)
   can = ⊎_elim
       (λ (none : len ≡ 0). record { working = at.working; each = subst (AllByRecursion (λ (p : Span). CanRecord s.view (recorded_in s.view p))) (sym (plans_nothing (kept_by s.view) (id.off + off) len none)) tt })
       (λ (some : len ≢ 0). ranges_may s.view (block s at id off len true may.range) may.range.size (id.off + off) len at.working at.sound (holds_object s at id off len may.range) (in_object s at id off len may.range) (knows_new s at id off len may.range may.words (omega (arith, some))))
@@ -146,9 +152,6 @@ module _ (s : Standing) (at : At s) (id : Oid) (off len : ℕ) (may : MayAdd s i
 
   abbrev news : List Recorded
   news = map (recorded_in s.view) (needed s.view (id.off + off) len)
-
-  pub snapped : Ready s.view (snapshots (id.off + off) len s.view) × IsSnapshot s.view (needed s.view (id.off + off) len) (after_all s.view (snapshots (id.off + off) len s.view))
-  snapped = snapshot_lawful s.view (id.off + off) len can may.slots
 
   -- ---- a newly recorded place
 
@@ -194,9 +197,15 @@ module _ (s : Standing) (at : At s) (id : Oid) (off len : ℕ) (may : MayAdd s i
         (ap (λ q. block_of (geometry s.view.fixed.shape s.view.claims) q 64) same_place ∙ (object_place s.view at.sound (block s at id off len true may.range) (index_of s at id off len true may.range (word_of s.view.fixed.shape p)) r.word).block)
         (found s at id off len true may.range)
 
-  -- ---- the view with these records
+  -- ---- there are slots for them, and the view has these records
 
-  module _ (w : View) (snap : IsSnapshot s.view (needed s.view (id.off + off) len) w) where
+  pub unrefused : HasSlots s.view (needed s.view (id.off + off) len) → IsUnrefused s (AddRange id off len)
+  unrefused slots = record { looks = looked; none = refusal_so false (false_from_ne_true (nat_lt 64 records_then) (λ t. let l = ltb-true 64 records_then t in let n = many in omega (arith, l, n, slots))) }
+
+  pub snapped : HasSlots s.view (needed s.view (id.off + off) len) → Ready s.view (snapshots (id.off + off) len s.view) × IsSnapshot s.view (needed s.view (id.off + off) len) (after_all s.view (snapshots (id.off + off) len s.view))
+  snapped slots = snapshot_lawful s.view (id.off + off) len can slots
+
+  module _ (slots : HasSlots s.view (needed s.view (id.off + off) len)) (w : View) (snap : IsSnapshot s.view (needed s.view (id.off + off) len) w) where
     abbrev ns : List Note
     ns = snap.noted.notes
 
@@ -361,8 +370,8 @@ module _ (s : Standing) (at : At s) (id : Oid) (off len : ℕ) (may : MayAdd s i
     sim : Sim told_view (entries_so_far s)
     sim = sim_extends s.view told_view (entries_so_far s) (entries_so_far s) None ran at.sim (record { keeps = record { fixed = refl; entries = refl }; call = refl }) (inr at.lists.works) grows_told (record {
       leaves = refl;
-      looks = unrefused.looks;
-      unrefused = unrefused.none;
+      looks = (unrefused slots).looks;
+      unrefused = (unrefused slots).none;
       replies = refl;
       enters = enters_told;
       there = All-nil _;
@@ -376,12 +385,21 @@ module _ (s : Standing) (at : At s) (id : Oid) (off len : ℕ) (may : MayAdd s i
     pub stands_after : IsAt (moved s (after w (Tell (AddRange id off len) None))) s.level
     stands_after = subst (λ (y : View). IsAt (moved s y) s.level) (sym (ap (λ (y : View). after y (Tell (AddRange id off len) None)) noted_so)) stands_told
 
+module _ (s : Standing) (id : Oid) (off len : ℕ) where
+  -- the view after the plan is that after the snapshot, with the operation told
+  pub ends_told : after_all s.view (adds id off len s.view) ≡ after (after_all s.view (snapshots (id.off + off) len s.view)) (Tell (AddRange id off len) None)
+  unfolding in_turn one after_all
+  ends_told = after_all-append s.view (snapshots (id.off + off) len s.view) (Tell (AddRange id off len) None ∷ [])
+
+  pub ready_told : Ready s.view (snapshots (id.off + off) len s.view) → (after_all s.view (snapshots (id.off + off) len s.view)).log.phase ≡ Open → Ready s.view (adds id off len s.view)
+  unfolding in_turn one Ready
+  ready_told ready phase = ready_both s.view (snapshots (id.off + off) len s.view) (Tell (AddRange id off len) None ∷ []) ready (phase, tt, tt)
+
 pub ranges_may_be_added : RangesMayBeAdded
-unfolding in_turn one Ready after_all
-ranges_may_be_added s id off len at may =
-    let snap = snapped s at id off len may in
+ranges_may_be_added s id off len at can_add slots =
+    let snap = snapped s at id off len can_add slots in
     let w : View = after_all s.view (snapshots (id.off + off) len s.view) in record {
-      unrefused = unrefused s at id off len may;
-      ready = ready_both s.view (snapshots (id.off + off) len s.view) (Tell (AddRange id off len) None ∷ []) snap.0 (snap.1.working.is_open, tt, tt);
-      stands = subst (λ (y : View). IsAt (moved s y) s.level) (sym (after_all-append s.view (snapshots (id.off + off) len s.view) (Tell (AddRange id off len) None ∷ []))) (stands_after s at id off len may w snap.1);
+      unrefused = unrefused s at id off len can_add slots;
+      ready = ready_told s id off len snap.0 snap.1.working.is_open;
+      stands = subst (λ (y : View). IsAt (moved s y) s.level) (sym (ends_told s id off len)) (stands_after s at id off len can_add slots w snap.1);
     }
