@@ -28,7 +28,7 @@ use Rattle.pm_call.specs.Did.{Acted, After, Came, IsAtSo, next}
 use Rattle.pm_call.specs.Held.{Looks}
 use Rattle.pm_call.specs.Plans.{adds, tells}
 use Rattle.pm_call.proofs.AddedRanges.{can, ends_told, overfull, ranges_may_be_added, snapped}
-use Rattle.pm_call.proofs.RangeWords.{range_low}
+use Rattle.pm_call.proofs.LockedRanges.{range_low}
 
 -- ---- how the lane stands before
 

@@ -1,8 +1,8 @@
 -- A range of an object under its write lock may be added, and the lane is at work then.
 use Rattle.std.specs.Prelude.{if◌then◌else◌}
-use Rattle.std.proofs.Common.{◌≡◌, ◌≢◌, ℕ, ◌+◌, ◌-◌, ◌*◌, ◌/◌, ◌%◌, ◌<◌, ◌≤◌, ◌⊎◌, inl, inr, ⊎_elim, nat_le, nat_lt, Bool, true, false, cond, ◌==◌, ◌&&◌, not, Contains, List, [], ◌∷◌, ◌++◌, length, map, refl, sym, ap, ◌∙◌, subst, arith, eq-eqb, Option, None, Some}
+use Rattle.std.proofs.Common.{◌≡◌, ◌≢◌, ℕ, ◌+◌, ◌-◌, ◌*◌, ◌/◌, ◌%◌, ◌<◌, ◌≤◌, ◌⊎◌, inl, inr, ⊎_elim, nat_le, nat_lt, Bool, true, false, cond, ◌==◌, ◌&&◌, Contains, List, [], ◌∷◌, ◌++◌, length, map, refl, sym, ap, ◌∙◌, subst, arith, Option, None, Some}
 use Rattle.std.specs.List.{AllByRecursion}
-use Rattle.std.specs.Option.{option_map, option_map_or}
+use Rattle.std.specs.Option.{option_map}
 use Rattle.std.proofs.lemmas.Bool.{and_from, and_parts, and_right, both_ways, cases_eq, cond-true, cond-false, eqb-true, false_from_ne_true, leb-true, lt-ltb, ltb-true}
 use Rattle.std.proofs.lemmas.List.{length-map}
 use Rattle.std.proofs.lemmas.List.Elements.{All-nil}
@@ -34,7 +34,6 @@ use Rattle.pm_crash.specs.Footprints.{bit_before, has_found}
 use Rattle.pm_crash.specs.Looked.{Enters, refusal_by, size_seen, word_place}
 use Rattle.pm_crash.specs.OpenRuns.{no_pool}
 use Rattle.pm_crash.specs.Sim.{Grows, IsAsBefore, IsSamePlace, SameBits, Sim, change_so_far, lists_of, sees_at}
-use Rattle.pm_crash.specs.SimFacts.{is_begun}
 use Rattle.pm_crash.specs.SimOps.{LookedAt}
 use Rattle.pm_crash.proofs.OpenRuns.{told_once_more}
 use Rattle.pm_crash.proofs.SimFacts.{no_entries}
@@ -56,16 +55,17 @@ use Rattle.pm_undo.proofs.Standing.{snapshot_lawful}
 use Rattle.pm_call.specs.Adding.{CanAdd, RangesMayBeAdded}
 use Rattle.pm_call.specs.At.{At, AreLists, IsAt, IsDataOf, MaySet, entries_so_far}
 use Rattle.pm_call.specs.Did.{IsRefused, IsUnrefused, unseen}
-use Rattle.pm_call.specs.Held.{HasObject, SizesFit, has_line, is_in_locks, line_of}
+use Rattle.pm_call.specs.Held.{HasObject, SizesFit, has_line, line_of}
 use Rattle.pm_call.specs.Plans.{adds}
-use Rattle.pm_call.specs.Ranges.{is_held_so, size_or_none}
 use Rattle.pm_call.proofs.Frames.{header_so, noting, sees_same}
 use Rattle.pm_call.proofs.KnownObjects.{fresh_is, held_object, sees_data, size_word, word_number}
 use Rattle.pm_call.proofs.NewRecords.{IsNewPlace, new_place, old_of_both, records_more, words_recorded}
 use Rattle.pm_call.proofs.Noting.{Keeps, all_map, bytes_so, data_so, data_told, found_so, grows, header_line, offset_line, sound_so, told_at}
 use Rattle.pm_call.proofs.ObjectWords.{object_place}
 use Rattle.pm_call.proofs.RangeRefusals.{none_new, range_refusals, ranges_are_looked_at}
-use Rattle.pm_call.proofs.RangeWords.{block, found, holds_object, in_object, in_range, index_of, InRange, known_word_of, knows_new, object_sized}
+use Rattle.pm_call.proofs.LockedRanges.{InRange, block, found, holds_object, in_object, in_range, known_word_of, knows_new}
+use Rattle.pm_call.proofs.RangeReads.{begun_more, range_passes}
+use Rattle.pm_call.proofs.RangeWords.{index, sized}
 
 -- ---- options
 
@@ -90,10 +90,6 @@ stays_before : (f : ℕ → Bool) (a c : Option ℕ) (q : Option Bool) (y : Bool
 stays_before f (Some z) c q y h e = e
 stays_before f None None q y h e = e
 stays_before f None (Some x) q y h e = sym (h x refl) ∙ e
-
-begun_more : (call more : List Told) → is_begun call ≡ true → is_begun (call ++ more) ≡ true
-begun_more [] more e = absurd (both_ways false refl e)
-begun_more (t ∷ call) more e = e
 
 module _ (s : Standing) (at : At s) (id : Oid) (off len : ℕ) (may : CanAdd s id off len) where
   abbrev v : View
@@ -123,13 +119,7 @@ module _ (s : Standing) (at : At s) (id : Oid) (off len : ℕ) (may : CanAdd s i
   -- it is refused for want of slots alone
   refusal_so : (full : Bool) → nat_lt 64 records_then ≡ full → refusal_by unseen s.view None (AddRange id off len) ≡ (if full then Some refusal.LogFull else None)
   unfolding first_of
-  refusal_so full fits = range_refusals s (AddRange id off len) id off len true at (refl, refl, refl, refl) ∙ λ i. first_of ((refusal.NotLocked, held i) ∷ (refusal.OutOfRange, inside i) ∷ (refusal.LogFull, fits i) ∷ [])
-    where
-      held : not (is_held_so s id true) ≡ false
-      held = ap not (and_from (id.pool == s.view.fixed.pool) (is_in_locks s.locks id.off true) (eq-eqb id.pool s.view.fixed.pool may.range.pool) may.range.locked)
-
-      inside : nat_lt (size_or_none s.view id.off) (off + len) ≡ false
-      inside = false_from_ne_true (nat_lt (size_or_none s.view id.off) (off + len)) (λ t. let e : size_or_none s.view id.off ≡ may.range.size = ap (λ o. option_map_or (λ n. n) o 0) may.range.sized in let l = ltb-true (size_or_none s.view id.off) (off + len) t in let i = may.range.inside in omega (arith, e, l, i))
+  refusal_so full fits = range_refusals s (AddRange id off len) id off len true at (refl, refl, refl, refl) ∙ λ i. first_of ((refusal.NotLocked, (range_passes s id off len true may.range).0 i) ∷ (refusal.OutOfRange, (range_passes s id off len true may.range).1 i) ∷ (refusal.LogFull, fits i) ∷ [])
 
   looked : LookedAt s.view (entries_so_far s) None (AddRange id off len)
   looked = ranges_are_looked_at s (AddRange id off len) id off len true at (refl, refl, refl, refl) (inl (record { size = may.range.size; sized = may.range.sized; small = may.range.small }))
@@ -168,9 +158,9 @@ module _ (s : Standing) (at : At s) (id : Oid) (off len : ℕ) (may : CanAdd s i
     r : InRange s at id off len true may.range (word_of s.view.fixed.shape p)
     r = in_range s at id off len true may.range (word_of s.view.fixed.shape p) n.asked
 
-    same_place : p ≡ word_place s.view (block s at id off len true may.range) (index_of s at id off len true may.range (word_of s.view.fixed.shape p))
-    same_place = same_Some p (word_place s.view (block s at id off len true may.range) (index_of s at id off len true may.range (word_of s.view.fixed.shape p)))
-        (sym n.can.word.use_ ∙ (ap (place_in s.view) (sym r.is) ∙ (object_place s.view at.sound (block s at id off len true may.range) (index_of s at id off len true may.range (word_of s.view.fixed.shape p)) r.word).use_))
+    same_place : p ≡ word_place s.view (block s at id off len true may.range) (index s at id off len true may.range (word_of s.view.fixed.shape p))
+    same_place = same_Some p (word_place s.view (block s at id off len true may.range) (index s at id off len true may.range (word_of s.view.fixed.shape p)))
+        (sym n.can.word.use_ ∙ (ap (place_in s.view) (sym r.is) ∙ (object_place s.view at.sound (block s at id off len true may.range) (index s at id off len true may.range (word_of s.view.fixed.shape p)) r.word).use_))
 
     value_known : value_in s.view (word_of s.view.fixed.shape p) ≡ Some n.old
     value_known = sym (known_word_of s at id off len true may.range (word_of s.view.fixed.shape p) n.asked) ∙ n.can.word.present
@@ -178,9 +168,9 @@ module _ (s : Standing) (at : At s) (id : Oid) (off len : ℕ) (may : CanAdd s i
     data_new : IsDataOf s.view p
     data_new = record {
       off = id.off;
-      object = object_sized s at id off len true may.range;
+      object = sized s at id off len true may.range;
       found = found s at id off len true may.range;
-      index = index_of s at id off len true may.range (word_of s.view.fixed.shape p);
+      index = index s at id off len true may.range (word_of s.view.fixed.shape p);
       at = same_place;
       data_ = r.data_;
       within = r.word.within;
@@ -194,7 +184,7 @@ module _ (s : Standing) (at : At s) (id : Oid) (off len : ℕ) (may : CanAdd s i
 
     seen : (b : ℕ) → sees_at s.view p b ≡ true
     seen b = sees_data s.view (block s at id off len true may.range) p b n.can.word.plain
-        (ap (λ q. block_of (geometry s.view.fixed.shape s.view.claims) q 64) same_place ∙ (object_place s.view at.sound (block s at id off len true may.range) (index_of s at id off len true may.range (word_of s.view.fixed.shape p)) r.word).block)
+        (ap (λ q. block_of (geometry s.view.fixed.shape s.view.claims) q 64) same_place ∙ (object_place s.view at.sound (block s at id off len true may.range) (index s at id off len true may.range (word_of s.view.fixed.shape p)) r.word).block)
         (found s at id off len true may.range)
 
   -- ---- there are slots for them, and the view has these records
@@ -380,7 +370,7 @@ module _ (s : Standing) (at : At s) (id : Oid) (off len : ℕ) (may : CanAdd s i
     })
 
     pub stands_told : IsAt (moved s told_view) s.level
-    stands_told = told_at s s.level at ns w.changes w.calls log keeps (s.view.call ++ t ∷ []) s.view.actions s.view.published s.level at.some at.most (begun_more s.view.call (t ∷ []) at.begun) lists sim
+    stands_told = told_at s s.level at ns w.changes w.calls log keeps (s.view.call ++ t ∷ []) s.view.actions s.view.published s.level at.some at.most (begun_more s.view.call t at.begun) lists sim
 
     pub stands_after : IsAt (moved s (after w (Tell (AddRange id off len) None))) s.level
     stands_after = subst (λ (y : View). IsAt (moved s y) s.level) (sym (ap (λ (y : View). after y (Tell (AddRange id off len) None)) noted_so)) stands_told

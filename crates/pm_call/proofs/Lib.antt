@@ -5,6 +5,8 @@ pub mod Noting
 pub mod Looking
 pub mod RangeRefusals
 pub mod RangeWords
+pub mod RangeReads
 pub mod NewRecords
+pub mod LockedRanges
 pub mod AddedRanges
 pub mod AddedLanes

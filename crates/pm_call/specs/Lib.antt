@@ -4,5 +4,6 @@ pub mod Ranges
 pub mod Plans
 pub mod Did
 pub mod GivenUp
+pub mod Reading
 pub mod RangeLaws
 pub mod Adding
