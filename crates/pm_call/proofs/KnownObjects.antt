@@ -31,7 +31,7 @@ none_made Root = refl
 pub fresh_is : (sh : Rattle.pm_layout.specs.declared.shape.Shape.Shape) (t : List Claim) (log : Log) (q : Place) (b : ℕ) → fresh sh t (record log { entries = [] }) q b ≡ cond (is_data q && is_recorded log.records q) (picture sh t q b) None
 fresh_is sh t log q b = ap (λ m. cond (is_data q && (m || is_recorded log.records q)) (picture sh t q b) None) (none_made (block_of (geometry sh t) q b))
 
-none_of_bool : {A : Type 0} (o : Option A) → given o ≡ false → o ≡ None
+pub none_of_bool : {A : Type 0} (o : Option A) → given o ≡ false → o ≡ None
 none_of_bool None e = refl
 none_of_bool (Some y) e = absurd (both_ways true e refl)
 
@@ -42,7 +42,7 @@ no_turn v (Big f) = fresh_is v.fixed.shape v.claims v.log (Descr f) 1
 no_turn v Root = refl
 
 -- the lane sees each bit of a word of data of a block that it found
-sees_data : (v : View) (B : Block) (p : Place) (b : ℕ) → is_data p ≡ true → block_of (geometry v.fixed.shape v.claims) p 64 ≡ B → has_found v B ≡ true → sees_at v p b ≡ true
+pub sees_data : (v : View) (B : Block) (p : Place) (b : ℕ) → is_data p ≡ true → block_of (geometry v.fixed.shape v.claims) p 64 ≡ B → has_found v B ≡ true → sees_at v p b ≡ true
 sees_data v B (InRun c w) b d e f = let l = leb-true 8 w d in let ne : (w == 0) ≡ false = ne_eqb w 0 (λ q. omega (arith, l, q)) in
     ap (has_found v) (ap (Small c) (cond-false (w == 0) b ((w / 8 - 1) / class v.claims c) ne ∙ sym (cond-false (w == 0) 64 ((w / 8 - 1) / class v.claims c) ne)) ∙ e) ∙ f
 sees_data v B (InHuge c w) b d e f = ap (has_found v) e ∙ f

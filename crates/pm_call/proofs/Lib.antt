@@ -12,3 +12,7 @@ pub mod SmallWords
 pub mod Storing
 pub mod RangeWrites
 pub mod WriteLanes
+pub mod NewRecords
+pub mod LockedRanges
+pub mod AddedRanges
+pub mod AddedLanes

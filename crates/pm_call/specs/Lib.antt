@@ -7,3 +7,4 @@ pub mod GivenUp
 pub mod Reading
 pub mod RangeLaws
 pub mod Writing
+pub mod Adding

@@ -1,6 +1,6 @@
 -- One step of a lane that logs: where its view has come since the log began to grow.
 use Rattle.std.proofs.Common.{◌≡◌, ◌≢◌, ℕ, ◌+◌, ◌*◌, ◌^◌, ◌<◌, ◌⊎◌, inl, inr, ⊎_elim, false, List, [], ◌∷◌, ◌++◌, length, take, refl, sym, ap, ◌∙◌, subst, None}
-use Rattle.pm_layout.specs.Areas.{line_of_slot, word_of_generation}
+use Rattle.pm_layout.specs.Areas.{line_of_slot}
 use Rattle.pm_layout.specs.Chunks.{words_of}
 use Rattle.pm_view.specs.Bits.{all_bits}
 use Rattle.pm_view.specs.Changes.{Undrained}
@@ -17,7 +17,7 @@ use Rattle.pm_world.specs.Lawful.{CanRecord, MayStore, StoreFits}
 use Rattle.pm_world.specs.Logs.{spelled}
 use Rattle.pm_world.specs.Sights.{is_recorded}
 use Rattle.pm_plan.specs.Plans.{IsPersisted, claims_persisted, log_persisted}
-use Rattle.pm_undo.specs.Working.{Note, Valued, DrainedTo, noted, AreNotes, IsBeyond}
+use Rattle.pm_undo.specs.Working.{IsNoSlot, Note, Valued, DrainedTo, noted, AreNotes, IsBeyond}
 use Rattle.pm_undo.proofs.Moved.{moved_record}
 use Rattle.pm_undo.proofs.Notes.{class_same, first_same, here_same, making_same, known_noted, known_again, pictured_noted}
 
@@ -28,7 +28,7 @@ pub record Logging (v : View) (records : List Recorded) (slot : List ℕ) (u : V
   pub each : AreNotes v.fixed.shape v.claims notes
   pub same : u ≡ record v { claims = u.claims; changes = u.changes; calls = u.calls; log = record v.log { records = records; slot = slot } }
   pub known_ : (w : ℕ) → IsBeyond v.fixed.shape w → knows u w ≡ knows v w
-  pub ends : pictured v.fixed.shape u.claims (word_of_generation v.fixed.shape v.fixed.lane) ≡ pictured v.fixed.shape v.claims (word_of_generation v.fixed.shape v.fixed.lane)
+  pub others : (y : ℕ) → IsNoSlot v.fixed.shape v.fixed.lane y → pictured v.fixed.shape u.claims y ≡ pictured v.fixed.shape v.claims y
 
 module _ (v : View) (unmaking : (c : ℕ) → making v.fixed.shape v.claims c ≡ false) (is_open : v.log.phase ≡ Open) (records : List Recorded) (slot : List ℕ) (u : View) (at : Logging v records slot u) where
   pub fixed_so : u.fixed ≡ v.fixed
@@ -72,7 +72,7 @@ module _ (v : View) (unmaking : (c : ℕ) → making v.fixed.shape v.claims c �
           each = at.each;
           same = all_same;
           known_ = λ x far. knows_so x ∙ (ap (λ t. known u.fixed.shape (runs_one u) t x) e ∙ at.known_ x far);
-          ends = ap (λ t. pictured v.fixed.shape t (word_of_generation v.fixed.shape v.fixed.lane)) (claims_so ∙ e) ∙ at.ends;
+          others = λ y h. ap (λ t. pictured v.fixed.shape t y) (claims_so ∙ e) ∙ at.others y h;
         })
         (λ (e : claims_persisted u.changes u.log u.claims ≡ Rattle.pm_view.specs.Claims.Drained [] ∷ u.claims). record {
           notes = DrainedTo [] ∷ at.notes;
@@ -81,7 +81,7 @@ module _ (v : View) (unmaking : (c : ℕ) → making v.fixed.shape v.claims c �
           same = all_same;
           known_ = λ x far. knows_so x ∙ (ap (λ t. known u.fixed.shape (runs_one u) t x) e
               ∙ (known_noted u.fixed.shape u.claims (runs_one u) (DrainedTo []) (subst (λ f. (c : ℕ) → making f u.claims c ≡ false) (ap (λ (y : Rattle.pm_view.specs.View.Constants). y.shape) (sym fixed_so)) no_making) x tt ∙ at.known_ x far));
-          ends = ap (λ t. pictured v.fixed.shape t (word_of_generation v.fixed.shape v.fixed.lane)) (claims_so ∙ e) ∙ at.ends;
+          others = λ y h. ap (λ t. pictured v.fixed.shape t y) (claims_so ∙ e) ∙ at.others y h;
         })
         (persisted_claims u.changes u.log u.claims phase_so),
     ap (λ (y : View). y.changes) is,
@@ -109,7 +109,7 @@ module _ (v : View) (unmaking : (c : ℕ) → making v.fixed.shape v.claims c �
 
     -- the log after it
     pub slot_logging : (records' : List Recorded) (slot' : List ℕ) → ((y : ℕ) → IsBeyond v.fixed.shape y → Rattle.pm_undo.proofs.Notes.IsOther (Valued w x) y)
-        → w ≢ word_of_generation v.fixed.shape v.fixed.lane
+        → ((y : ℕ) → IsNoSlot v.fixed.shape v.fixed.lane y → w ≢ y)
         → with_slot v.fixed.shape (class v.claims) (slot ++ x ∷ []) (record v.log { records = records; slot = slot }) ≡ record v.log { records = records'; slot = slot' } → Logging v records' slot' (after u (Store w x))
     slot_logging records' slot' other apart grows = subst (Logging v records' slot') (sym slot_stored) (record {
       notes = Valued w x ∷ at.notes;
@@ -118,7 +118,7 @@ module _ (v : View) (unmaking : (c : ℕ) → making v.fixed.shape v.claims c �
       same = ap (λ l. record u { claims = Knows w x ∷ u.claims; changes = changed_slot ∷ u.changes; calls = u.calls + 1; log = l }) log_grows
           ∙ ap (λ (y : View). record y { claims = Knows w x ∷ u.claims; changes = changed_slot ∷ u.changes; calls = u.calls + 1; log = record v.log { records = records'; slot = slot' } }) at.same;
       known_ = λ y far. known_noted u.fixed.shape u.claims (runs_one u) (Valued w x) tt y (other y far) ∙ at.known_ y far;
-      ends = pictured_noted v.fixed.shape u.claims (Valued w x) tt (word_of_generation v.fixed.shape v.fixed.lane) apart ∙ at.ends;
+      others = λ y h. pictured_noted v.fixed.shape u.claims (Valued w x) tt y (apart y h) ∙ at.others y h;
     })
       where
         log_grows : with_slot u.fixed.shape (class u.claims) (u.log.slot ++ x ∷ []) u.log ≡ record v.log { records = records'; slot = slot' }

@@ -2,6 +2,7 @@
 use Rattle.std.proofs.Common.{◌≡◌, ◌≢◌, ℕ, Bool, true, false, cond, not, ◌&&◌, ◌||◌, ◌==◌, nat_lt, List, [], ◌∷◌, refl, sym, ap, ◌∙◌, subst, eq-eqb, ne_eqb, Option, None, Some}
 use Rattle.std.specs.Int.{bit_at}
 use Rattle.std.proofs.lemmas.Bool.{and_left, and_right, cond-true, cond-false, eqb-true}
+use Rattle.std.proofs.lemmas.Option.{none-some}
 use Rattle.pm_layout.specs.declared.shape.Shape.{Shape}
 use Rattle.pm_layout.specs.Chunks.{word_of_descriptor, word_of_root}
 use Rattle.pm_layout.specs.Sizes.{blocks_of}
@@ -91,6 +92,18 @@ module _ (sh : Shape) (t : List Claim) where
       go false e = ap (λ y. cond (one || is_held sh t w) y None) (cond-false (v == w) (Some x) (pictured sh t w) e)
       go true e = ap (λ y. cond (one || is_held sh t w) y None) (cond-true (v == w) (Some x) (pictured sh t w) e)
           ∙ at (one || is_held sh t w) refl (subst (λ u. known sh one t u ≡ Some x) (eqb-true v w e) is)
+
+  -- nor any picture
+  pub pictured_again : (one : Bool) (v x : ℕ) → known sh one t v ≡ Some x → (w : ℕ) → pictured sh (Knows v x ∷ t) w ≡ pictured sh t w
+  pictured_again one v x is w = go (v == w) refl
+    where
+      at : (h : Bool) → cond h (pictured sh t w) None ≡ Some x → Some x ≡ pictured sh t w
+      at true k = sym k
+      at false k = absurd (none-some x k)
+
+      go : (b : Bool) → (v == w) ≡ b → cond (v == w) (Some x) (pictured sh t w) ≡ pictured sh t w
+      go false e = cond-false (v == w) (Some x) (pictured sh t w) e
+      go true e = cond-true (v == w) (Some x) (pictured sh t w) e ∙ at (one || is_held sh t w) (subst (λ u. known sh one t u ≡ Some x) (eqb-true v w e) is)
 
 -- ---- many notes
 class_one : (n : Note) (t : List Claim) → class (claim_of n ∷ t) ≡ class t

@@ -110,7 +110,7 @@ module _ (v : View) (unmaking : (c : ℕ) → making v.fixed.shape v.claims c �
       let part : part_in u (8 * line + i) ≡ SlotPart = subst (λ (g : Constants). Rattle.pm_view.specs.Parts.part_of g.shape g.lane (8 * line + i) ≡ SlotPart) (sym f) (part_slot sh v.fixed.lane (8 * line + i) (length records) i free (omega (arith, small)) refl) in
       let more : take i words ++ slice_index words i ∷ [] ≡ take (i + 1) words = sym (take_more words i 0 (omega (arith, eight, small))) in
       record {
-        at = slot_logging v unmaking is_open records (take i words) u s.at low (8 * line + i) (slice_index words i) part records (take (i + 1) words) (λ y far e. omega (arith, free, small, low, far, e)) (λ e. omega (arith, free, small, e))
+        at = slot_logging v unmaking is_open records (take i words) u s.at low (8 * line + i) (slice_index words i) part records (take (i + 1) words) (λ y far e. omega (arith, free, small, low, far, e)) (λ y h e. ⊎_elim (λ (a : y < 8 * line_of_slot sh v.fixed.lane 0). omega (arith, a, e)) (λ (a : 8 * line_of_slot sh v.fixed.lane 64 ≤ y). omega (arith, free, small, a, e)) h)
             (ap (λ ws. with_slot sh (class v.claims) ws (record v.log { records = records; slot = take i words })) more
             ∙ slot_short sh (class v.claims) (take (i + 1) words) (record v.log { records = records; slot = take i words }) (let n = length-take-le (i + 1) words (omega (arith, eight, small)) in omega (arith, n, small)));
         aside = subst (λ (w : View). AllByRecursion (IsAsideOr sh line) w.changes) (sym (slot_stored v unmaking is_open records (take i words) u s.at low (8 * line + i) (slice_index words i) part)) (inr (omega (arith, small)), s.aside);
@@ -123,7 +123,7 @@ module _ (v : View) (unmaking : (c : ℕ) → making v.fixed.shape v.claims c �
       let all : take 7 words ++ slice_index words 7 ∷ [] ≡ words = sym (take_more words 7 0 (omega (arith, eight))) ∙ take_all 8 words (omega (arith, eight)) in
       let is = slot_stored v unmaking is_open records (take 7 words) u s.at low (8 * line + 7) (slice_index words 7) part in
       record {
-        at = slot_logging v unmaking is_open records (take 7 words) u s.at low (8 * line + 7) (slice_index words 7) part (records ++ r ∷ []) [] (λ y far e. omega (arith, free, low, far, e)) (λ e. omega (arith, free, e))
+        at = slot_logging v unmaking is_open records (take 7 words) u s.at low (8 * line + 7) (slice_index words 7) part (records ++ r ∷ []) [] (λ y far e. omega (arith, free, low, far, e)) (λ y h e. ⊎_elim (λ (a : y < 8 * line_of_slot sh v.fixed.lane 0). omega (arith, a, e)) (λ (a : 8 * line_of_slot sh v.fixed.lane 64 ≤ y). omega (arith, free, a, e)) h)
             (ap (λ ws. with_slot sh (class v.claims) ws (record v.log { records = records; slot = take 7 words })) all
             ∙ slot_whole sh (class v.claims) words (record v.log { records = records; slot = take 7 words }) r eight (spelled_back sh (class v.claims) v.log.generation r can.some can.most can.use_));
         aside = subst (λ (w : View). AllByRecursion (IsAsideOr sh line) w.changes) (sym is) (inr (omega arith), s.aside);
@@ -144,7 +144,7 @@ module _ (v : View) (unmaking : (c : ℕ) → making v.fixed.shape v.claims c �
   pub record_written : Goes (λ u. Logging v records [] u × AllByRecursion (IsAside sh) u.changes) (writes_record sh v.fixed.lane v.log.generation (length records) (kept_of sh r)) Written
   unfolding writes_slot stores_from repeated
   record_written = goes_then (λ u. Logging v records [] u × AllByRecursion (IsAside sh) u.changes) Whole Written (repeated step (length words)) (one (Flush line)) all_stored
-      (goes_one Whole Written (Flush line) (λ u p. (p.last, tt, record { at = record { notes = p.at.notes; are = p.at.are; each = p.at.each; same = ap (λ (y : View). record y { changes = flushed line u.changes; calls = u.calls + 1 }) p.at.same; known_ = p.at.known_; ends = p.at.ends }; aside = flushed_aside sh line u.changes p.aside; drops = flush_drops line u.changes p.last })))
+      (goes_one Whole Written (Flush line) (λ u p. (p.last, tt, record { at = record { notes = p.at.notes; are = p.at.are; each = p.at.each; same = ap (λ (y : View). record y { changes = flushed line u.changes; calls = u.calls + 1 }) p.at.same; known_ = p.at.known_; others = p.at.others }; aside = flushed_aside sh line u.changes p.aside; drops = flush_drops line u.changes p.last })))
     where
       step : ℕ → Rattle.pm_plan.specs.Plans.Plan
       step i = stores (8 * line + i) (slice_index words i)

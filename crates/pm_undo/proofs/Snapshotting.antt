@@ -1,13 +1,12 @@
 -- A snapshot is lawful, and leaves its records.
-use Rattle.std.proofs.Common.{◌≡◌, ◌≢◌, ℕ, zero, suc, ◌+◌, ◌<◌, ◌≤◌, false, List, [], ◌∷◌, ◌++◌, length, map, take, get_or, refl, sym, ap, ◌∙◌, subst, arith, Some, length-append}
+use Rattle.std.proofs.Common.{◌≡◌, ℕ, zero, suc, ◌+◌, ◌<◌, ◌≤◌, false, List, [], ◌∷◌, ◌++◌, length, map, take, get_or, refl, sym, ap, ◌∙◌, subst, arith, Some, length-append}
 use Rattle.std.specs.Prelude.{unwrap_or}
 use Rattle.std.specs.List.{AllByRecursion}
 use Rattle.std.proofs.lemmas.List.{append_assoc, get_or-map, length-map, take_more, take_all, length-take-le}
 use Rattle.pm_layout.specs.declared.shape.Shape.{Shape}
-use Rattle.pm_layout.specs.Areas.{word_of_generation}
 use Rattle.pm_layout.specs.Chunks.{words_of}
 use Rattle.pm_view.specs.Changes.{Undrained, drained}
-use Rattle.pm_view.specs.Claims.{Knows, SawBitmap, Drained, class, making}
+use Rattle.pm_view.specs.Claims.{Knows, SawBitmap, Drained, class, making, pictured}
 use Rattle.pm_view.specs.Counts.{DropsSome}
 use Rattle.pm_view.specs.Founds.{knows}
 use Rattle.pm_view.specs.Log.{Recorded}
@@ -30,7 +29,7 @@ use Rattle.pm_undo.specs.Working.{IsBeyond, IsWorking, Valued, DrainedTo, Looked
 use Rattle.pm_undo.proofs.AreaParts.{data_beyond, data_part}
 use Rattle.pm_undo.proofs.Apart.{early_none, no_recorded, not_in_both}
 use Rattle.pm_undo.proofs.Logging.{Logging, class_so, fixed_so, no_making, phase_so}
-use Rattle.pm_undo.proofs.Notes.{class_same, known_again, known_noted, pictured_noted}
+use Rattle.pm_undo.proofs.Notes.{class_same, known_again, known_noted, pictured_again, pictured_noted}
 use Rattle.pm_undo.proofs.OneRecord.{IsAside, Written, record_written}
 use Rattle.pm_undo.proofs.Snapshotted.{all_past, all_rows, at_index, drained_open, left_beyond, looks_so}
 
@@ -49,10 +48,13 @@ module _ (v : View) (working : IsWorking v) where
   HasClean records u = Logging v records [] u × AreBeyond u.changes
 
   pub starts : HasClean before v
-  starts = (record { notes = []; are = refl; each = tt; same = ap (λ s. record v { log = record v.log { slot = s } }) working.whole.0; known_ = λ w far. refl; ends = refl }, working.clean)
+  starts = (record { notes = []; are = refl; each = tt; same = ap (λ s. record v { log = record v.log { slot = s } }) working.whole.0; known_ = λ w far. refl; others = λ y h. refl }, working.clean)
 
   -- ---- looking at a word
-  module _ (u : View) (at : Logging v before [] u) (w x : ℕ) (e : knows u w ≡ Some x) (apart : w ≢ word_of_generation sh v.fixed.lane) where
+  module _ (u : View) (at : Logging v before [] u) (w x : ℕ) (e : knows u w ≡ Some x) where
+    f : u.fixed ≡ v.fixed
+    f = ap (λ (y : View). y.fixed) at.same
+
     looked : (c i : ℕ) → (i ≡ 0 → class v.claims c ≡ 0) → Logging v before [] (record u { claims = Knows w x ∷ seen_by (ChunkPart c i) x u.claims })
     looked c zero huge =
         let none : class u.claims c ≡ 0 = ap (λ cl. cl c) (class_so v working.unmaking working.is_open before [] u at) ∙ huge refl in record {
@@ -62,7 +64,8 @@ module _ (v : View) (working : IsWorking v) where
           same = ap (λ (y : View). record y { claims = Knows w x ∷ SawBitmap c x ∷ u.claims; changes = u.changes; calls = u.calls }) at.same;
           known_ = λ y far. known_again u.fixed.shape (SawBitmap c x ∷ u.claims) (runs_one u) w x (known_noted u.fixed.shape u.claims (runs_one u) (Looked c x) none w tt ∙ e) y
               ∙ (known_noted u.fixed.shape u.claims (runs_one u) (Looked c x) none y tt ∙ at.known_ y far);
-          ends = pictured_noted sh (SawBitmap c x ∷ u.claims) (Valued w x) tt (word_of_generation sh v.fixed.lane) apart ∙ (pictured_noted sh u.claims (Looked c x) none (word_of_generation sh v.fixed.lane) tt ∙ at.ends);
+          others = λ y h. ap (λ (g : Constants). pictured g.shape (Knows w x ∷ SawBitmap c x ∷ u.claims) y) (sym f) ∙ (pictured_again u.fixed.shape (SawBitmap c x ∷ u.claims) (runs_one u) w x (known_noted u.fixed.shape u.claims (runs_one u) (Looked c x) none w tt ∙ e) y
+              ∙ (pictured_noted u.fixed.shape u.claims (Looked c x) none y tt ∙ (ap (λ (g : Constants). pictured g.shape u.claims y) f ∙ at.others y h)));
         }
     looked c (suc i) huge = record {
       notes = Valued w x ∷ at.notes;
@@ -70,7 +73,7 @@ module _ (v : View) (working : IsWorking v) where
       each = (tt, at.each);
       same = ap (λ (y : View). record y { claims = Knows w x ∷ u.claims; changes = u.changes; calls = u.calls }) at.same;
       known_ = λ y far. known_again u.fixed.shape u.claims (runs_one u) w x e y ∙ at.known_ y far;
-      ends = pictured_noted sh u.claims (Valued w x) tt (word_of_generation sh v.fixed.lane) apart ∙ at.ends;
+      others = λ y h. ap (λ (g : Constants). pictured g.shape (Knows w x ∷ u.claims) y) (sym f) ∙ (pictured_again u.fixed.shape u.claims (runs_one u) w x e y ∙ (ap (λ (g : Constants). pictured g.shape u.claims y) f ∙ at.others y h));
     }
 
   module _ (spans : List Span) (can : AllByRecursion (λ (s : Span). CanRecord v (recorded_in v s)) spans) where
@@ -82,7 +85,7 @@ module _ (v : View) (working : IsWorking v) where
         let step : after u (Load (s.word + i) (known_word u (s.word + i))) ≡ record u { claims = Knows (s.word + i) (known_word u (s.word + i)) ∷ seen_by (ChunkPart d.chunk d.at) (known_word u (s.word + i)) u.claims } =
         ap (λ ph. record u { claims = learned ph (part_in u (s.word + i)) (s.word + i) (known_word u (s.word + i)) u.claims }) (phase_so v working.unmaking working.is_open before [] u p.0)
         ∙ ap (λ q. record u { claims = Knows (s.word + i) (known_word u (s.word + i)) ∷ seen_by q (known_word u (s.word + i)) u.claims }) (ap (λ (g : Constants). part_of g.shape g.lane (s.word + i)) f ∙ d.part) in
-        (subst (λ (g : Constants). (s.word + i) < words_of g.shape) (sym f) l.inside, known_now, subst (HasClean before) (sym step) (looked u p.0 (s.word + i) (known_word u (s.word + i)) known_now (λ e. let a = working.lane in omega (arith, e, far, a)) d.chunk d.at d.huge, p.1)))
+        (subst (λ (g : Constants). (s.word + i) < words_of g.shape) (sym f) l.inside, known_now, subst (HasClean before) (sym step) (looked u p.0 (s.word + i) (known_word u (s.word + i)) known_now d.chunk d.at d.huge, p.1)))
       where
         l : Rattle.pm_undo.proofs.Snapshotted.Looks v s is i
         l = looks_so v s is i low
@@ -164,7 +167,7 @@ module _ (v : View) (working : IsWorking v) where
                 each = (subst (λ t. (c : ℕ) → making sh t c ≡ false) p.at.are quiet, p.at.each);
                 same = ap (λ (y : View). record y { claims = Drained left ∷ u.claims; changes = left; calls = u.calls + 1 }) p.at.same;
                 known_ = λ y far. known_noted u.fixed.shape u.claims (runs_one u) (DrainedTo left) (subst (λ f. (c : ℕ) → making f u.claims c ≡ false) (ap (λ (g : Constants). g.shape) (sym (fixed_so v working.unmaking working.is_open (before ++ take (length records) records) [] u p.at))) quiet) y tt ∙ p.at.known_ y far;
-                ends = p.at.ends;
+                others = p.at.others;
               }),
               left_beyond sh u.changes p.aside,
             ),

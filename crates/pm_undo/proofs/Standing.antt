@@ -1,5 +1,5 @@
 -- What a snapshot leaves: a lane at work, whose records may be put back.
-use Rattle.std.proofs.Common.{◌≡◌, ℕ, ◌+◌, ◌^◌, ◌<◌, ◌≤◌, false, List, [], ◌∷◌, ◌++◌, length, map, sym, ap, ◌∙◌, subst, arith, Some, length-append}
+use Rattle.std.proofs.Common.{◌≡◌, inl, ℕ, ◌+◌, ◌^◌, ◌<◌, ◌≤◌, false, List, [], ◌∷◌, ◌++◌, length, map, sym, ap, ◌∙◌, subst, arith, Some, length-append}
 use Rattle.std.specs.List.{AllByRecursion}
 use Rattle.std.proofs.lemmas.List.{append-nil, length-map}
 use Rattle.pm_layout.specs.declared.shape.Shape.{Shape}
@@ -104,7 +104,7 @@ module _ (v : View) (working : IsWorking v) where
         few = subst (λ (k : Log). length k.records ≤ 64) (sym l) few;
         standing = subst (λ (k : Log). AllByRecursion (IsStanding u) k.records) (sym l) standing;
         once = subst (λ (k : Log). AreOnce k.records) (sym l) once;
-        known = ap (λ (g : Constants). Rattle.pm_view.specs.Claims.pictured g.shape u.claims (Rattle.pm_layout.specs.Areas.word_of_generation g.shape g.lane)) f ∙ (p.0.ends ∙ (working.known ∙ ap (λ (k : Log). Some k.generation) (sym l)));
+        known = ap (λ (g : Constants). Rattle.pm_view.specs.Claims.pictured g.shape u.claims (Rattle.pm_layout.specs.Areas.word_of_generation g.shape g.lane)) f ∙ (p.0.others (Rattle.pm_layout.specs.Areas.word_of_generation v.fixed.shape v.fixed.lane) (inl (omega arith)) ∙ (working.known ∙ ap (λ (k : Log). Some k.generation) (sym l)));
       }
 
   -- A SNAPSHOT IS LAWFUL, AND LEAVES ITS RECORDS
@@ -124,6 +124,7 @@ module _ (v : View) (working : IsWorking v) where
           noted = record { notes = p.0.notes; are = p.0.are; each = p.0.each };
           changes = p.1;
           known = p.0.known_;
+          others = λ y h. ap (λ (g : Constants). Rattle.pm_view.specs.Claims.pictured g.shape w.claims y) f ∙ p.0.others y h;
           working = still_working w all p (let a = length-append v.log.records (map (recorded_in v) spans) in let b = length-map spans (recorded_in v) in omega (arith, a, b, room))
               (both_all (IsStanding w) v.log.records (map (recorded_in v) spans) (all_still v w v.log.records f cl working.standing) (all_new v w spans f cl can.each))
               (once_both v.log.records (map (recorded_in v) spans) working.once (past_once sh 0 (map (recorded_in v) spans) (all_past v 0 spans can.each past) (all_rows v spans can.each)) (apart_from v.log.records (map (recorded_in v) spans) (new_words_ v spans can.each)));

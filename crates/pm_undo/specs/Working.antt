@@ -1,8 +1,8 @@
 -- A lane whose log may grow, be put back and be retired, on its view alone; and what each of these leaves of the view.
-use Rattle.std.specs.Prelude.{◌≡◌, ◌≢◌, ℕ, ◌+◌, ◌*◌, ◌^◌, ◌<◌, ◌≤◌, true, false, List, [], ◌∷◌, ◌++◌, length, map, slice_index, Some}
+use Rattle.std.specs.Prelude.{◌≡◌, ◌⊎◌, ◌≢◌, ℕ, ◌+◌, ◌*◌, ◌^◌, ◌<◌, ◌≤◌, true, false, List, [], ◌∷◌, ◌++◌, length, map, slice_index, Some}
 use Rattle.std.specs.List.{AllByRecursion}
 use Rattle.pm_layout.specs.declared.shape.Shape.{Shape}
-use Rattle.pm_layout.specs.Areas.{greatest_generation, undo_slots, old_words, word_of_generation}
+use Rattle.pm_layout.specs.Areas.{greatest_generation, undo_slots, old_words, line_of_slot, word_of_generation}
 use Rattle.pm_layout.specs.Chunks.{page_of_zone}
 use Rattle.pm_view.specs.Changes.{Undrained}
 use Rattle.pm_view.specs.Claims.{Claim, Knows, Drained, SawBitmap, class, making}
@@ -35,6 +35,10 @@ AreOnce (r ∷ records) = ((p : Place) → given (old_in r p) ≡ true → is_re
 -- a word that is of no lane's area, nor before them
 abbrev pub IsBeyond : Shape → ℕ → Type 0
 IsBeyond sh w = 512 * page_of_zone sh 0 ≤ w
+
+-- a word that is in none of the lane's undo slots
+abbrev pub IsNoSlot : Shape → ℕ → ℕ → Type 0
+IsNoSlot sh lane w = (w < 8 * line_of_slot sh lane 0) ⊎ (8 * line_of_slot sh lane (undo_slots sh) ≤ w)
 
 -- A LANE AT WORK: its call is open, no record and no entry is in the making or stored, its records are drained, and it makes no run
 pub record IsWorking (v : View) : Type 0 where
@@ -98,12 +102,13 @@ pub record CanSnapshot (v : View) (spans : List Span) : Type 0 where
 abbrev pub HasSlots : View → List Span → Type 0
 HasSlots v spans = length v.log.records + length spans ≤ undo_slots v.fixed.shape
 
--- THEIR RECORDS STAND after those that there were, drained as they are, with the words as they were known; these are known so still
+-- THEIR RECORDS STAND after those that there were, drained as they are, with the words as they were known; and what the lane knows of words outside of its slots is as it was
 pub record IsSnapshot (v : View) (spans : List Span) (w : View) : Type 0 where
   pub same : w ≡ record v { claims = w.claims; changes = w.changes; calls = w.calls; log = record v.log { records = v.log.records ++ map (recorded_in v) spans } }
   pub noted : HasNoted v w
   pub changes : AllByRecursion (λ (u : Undrained). IsBeyond v.fixed.shape u.word) w.changes
   pub known : (u : ℕ) → IsBeyond v.fixed.shape u → knows w u ≡ knows v u
+  pub others : (u : ℕ) → IsNoSlot v.fixed.shape v.fixed.lane u → value_in w u ≡ value_in v u
   pub working : IsWorking w
 
 -- ---- putting back
