@@ -177,6 +177,7 @@ module _ (s : Standing) (at : At s) (id : Oid) (off len : ℕ) (may : CanAdd s i
       alive = r.alive;
       value = n.old;
       known = value_known;
+      small = n.can.small;
     }
 
     pictured_so : (b : ℕ) → picture s.view.fixed.shape s.view.claims p b ≡ Some (bit n.old b)
@@ -258,7 +259,7 @@ module _ (s : Standing) (at : At s) (id : Oid) (off len : ℕ) (may : CanAdd s i
         let d = data_before p e in
         let o : HasObject s.view (line_of d.off) = record { block = d.object.block; found = d.found; at = header_line s.view at.sound d.off d.object d.found; inside = d.object.object.inside } in
         let plain : is_data p ≡ true = ap is_data d.at ∙ (object_place s.view at.sound d.object.block d.index (record { found = d.found; inside = d.object.object.inside; within = d.within; kind = inr d.data_ })).data_ in
-        data_so s.view ns w.changes w.calls log snap.noted.each at.working.unmaking at.sound p d (size_same d.off (offset_line s.view at.sound d.off d.object d.found) o ∙ d.object.seen) d.value (values (word_of s.view.fixed.shape p) (data_far p plain) ∙ d.known)
+        data_so s.view ns w.changes w.calls log snap.noted.each at.working.unmaking at.sound p d (size_same d.off (offset_line s.view at.sound d.off d.object d.found) o ∙ d.object.seen) d.value (values (word_of s.view.fixed.shape p) (data_far p plain) ∙ d.known) d.small
 
     fit : SizesFit n
     fit B x f o e =

@@ -138,7 +138,7 @@ module _ (s : Standing) (level : ℕ) (at : IsAt s level) (next : View) (l : Loo
     fit = fit;
     seal = values (word_of_seal v.fixed.shape v.fixed.lane) 0 at.sealed;
     sizes = λ a m. values (a.id.off / 8 - 7) m.size m.sized ∙ sym m.sized;
-    recorded = λ q e. let d = at.recorded q e in data_so v ns v.changes v.calls v.log each at.working.unmaking at.sound q d (values (d.off / 8 - 7) d.object.size d.object.seen) d.value (values (word_of v.fixed.shape q) d.value d.known);
+    recorded = λ q e. let d = at.recorded q e in data_so v ns v.changes v.calls v.log each at.working.unmaking at.sound q d (values (d.off / 8 - 7) d.object.size d.object.seen) d.value (values (word_of v.fixed.shape q) d.value d.known) d.small;
     more = λ q e. e;
     knows = λ q b y _ e. before_stays (λ x. bit x b) (old_of v.log.records q) (picture v.fixed.shape v.claims q b) (picture then.fixed.shape then.claims q b) y (pictures q b y) e;
     same = λ q b. inl (same_bits q b (is_recorded v.log.records q) refl);

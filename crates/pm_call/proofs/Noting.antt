@@ -1,6 +1,6 @@
 -- A LANE AT WORK STAYS SO where it only notes, records or stores: what it holds is the same.
 use Rattle.std.specs.Prelude.{map}
-use Rattle.std.proofs.Common.{◌≡◌, ◌≢◌, ℕ, ◌+◌, ◌*◌, ◌-◌, ◌/◌, ◌%◌, ◌<◌, ◌≤◌, ◌⊎◌, inl, inr, ⊎_elim, Bool, true, false, List, [], ◌∷◌, refl, sym, ap, ◌∙◌, subst, arith, eq-eqb, nat_le, ◌==◌, Option, Some}
+use Rattle.std.proofs.Common.{◌≡◌, ◌≢◌, ℕ, ◌+◌, ◌*◌, ◌-◌, ◌/◌, ◌%◌, ◌^◌, ◌<◌, ◌≤◌, ◌⊎◌, inl, inr, ⊎_elim, Bool, true, false, List, [], ◌∷◌, refl, sym, ap, ◌∙◌, subst, arith, eq-eqb, nat_le, ◌==◌, Option, Some}
 use Rattle.std.specs.List.{AllByRecursion}
 use Rattle.std.proofs.lemmas.Bool.{and_from, both_ways, le-leb}
 use Rattle.pm_world.specs.Lanes.{is_occupancy}
@@ -101,8 +101,8 @@ module _ (v : View) (ns : List Note) (changes : List Undrained) (calls : ℕ) (l
   size_so s off k f seen = let o : HasObject next (line_of off) = record { block = k.block; found = found_so k.block ∙ f; at = header_so v.fixed.shape ns v.claims are none k.block ∙ header_line v s off k f; inside = k.object.inside } in
       size_known next (sound_so s) off k.size (offset_line v s off k f) o seen k.knows.small
 
-  pub data_so : IsSound v → (p : Place) (d : IsDataOf v p) → size_seen next d.off ≡ Some d.object.size → (y : ℕ) → value_in next (word_of v.fixed.shape p) ≡ Some y → IsDataOf next p
-  data_so s p d sized y known = record {
+  pub data_so : IsSound v → (p : Place) (d : IsDataOf v p) → size_seen next d.off ≡ Some d.object.size → (y : ℕ) → value_in next (word_of v.fixed.shape p) ≡ Some y → y < 2 ^ 64 → IsDataOf next p
+  data_so s p d sized y known small = record {
     off = d.off;
     object = size_so s d.off d.object d.found sized;
     found = found_so d.object.block ∙ d.found;
@@ -113,6 +113,7 @@ module _ (v : View) (ns : List Note) (changes : List Undrained) (calls : ℕ) (l
     alive = d.alive;
     value = y;
     known = known;
+    small = small;
   }
 
 -- what such a step owes, but for the bits as the call has made them
@@ -209,6 +210,7 @@ module _ (v : View) (call actions published : List Told) where
     alive = d.alive;
     value = d.value;
     known = d.known;
+    small = d.small;
   }
 
 -- AT WORK AGAIN after such a step that may change the bits, and one more operation told

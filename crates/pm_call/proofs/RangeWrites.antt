@@ -1,5 +1,5 @@
 -- A WRITE: its bytes stand in the words that it covers, it is told, and the lane is at work again.
-use Rattle.std.proofs.Common.{◌≡◌, ◌≢◌, ℕ, ◌+◌, ◌-◌, ◌*◌, ◌/◌, ◌%◌, ◌<◌, ◌≤◌, ◌⊎◌, inl, inr, ⊎_elim, Bool, true, false, cond, not, nat_le, ◌&&◌, ◌==◌, Contains, List, [], ◌∷◌, ◌++◌, length, refl, sym, ap, ◌∙◌, subst, arith, Option, None, Some}
+use Rattle.std.proofs.Common.{◌≡◌, ◌≢◌, ℕ, ◌+◌, ◌-◌, ◌*◌, ◌/◌, ◌%◌, ◌^◌, ◌<◌, ◌≤◌, ◌⊎◌, inl, inr, ⊎_elim, Bool, true, false, cond, not, nat_le, ◌&&◌, ◌==◌, Contains, List, [], ◌∷◌, ◌++◌, length, refl, sym, ap, ◌∙◌, subst, arith, Option, None, Some}
 use Rattle.std.specs.Option.{option_map}
 use Rattle.std.proofs.lemmas.Bool.{and_from, and_right, both_ways, cases_Bool, cases_lt, cond-true, cond-false, eqb-true, and_parts, leb-true}
 use Rattle.std.proofs.lemmas.List.FromFn.{length-range_with_len}
@@ -41,7 +41,6 @@ use Rattle.pm_plan.specs.Plans.{IsForeseen, known_word}
 use Rattle.pm_plan.proofs.Going.{Goes, goes_one, goes_repeated, goes_then}
 use Rattle.pm_undo.specs.Working.{IsBeyond, IsWorking, Note, noted}
 use Rattle.pm_undo.proofs.Notes as notes
-use Rattle.pm_undo.proofs.Putting.{has_one}
 use Rattle.pm_undo.proofs.Standing.{all_still}
 use Rattle.pm_call.specs.At.{At, AreLists, MaySet, entries_so_far}
 use Rattle.pm_call.specs.Did.{IsUnrefused, unseen}
@@ -118,7 +117,7 @@ module _ (s : Standing) (at : At s) (id : Oid) (off : ℕ) (bytes : List ℕ) (c
   q i = range_place s at id off bytes can i
 
   recorded_is : (i : ℕ) → IsIn i → is_recorded v.log.records (q i) ≡ true
-  recorded_is i c = let h = storing.has_record s at id off bytes can i c in has_one v.log.records h.index (q i) h.low h.has
+  recorded_is i c = storing.recorded_is s at id off bytes can i c
 
   -- no covered word is one of the lane's area
   far_word : (w : ℕ) → (IsBeyond v.fixed.shape w → ⊥) → ¬ IsIn w
@@ -158,8 +157,8 @@ module _ (s : Standing) (at : At s) (id : Oid) (off : ℕ) (bytes : List ℕ) (c
     value_new : (i : ℕ) → IsIn i → value_in u i ≡ Some (new i)
     value_new i c = st.done i c (all i c)
 
-    value_given : (p : Place) (y : ℕ) → value_in v (word_of v.fixed.shape p) ≡ Some y → (z : ℕ) × (value_in u (word_of v.fixed.shape p) ≡ Some z)
-    value_given p y e = ⊎_elim (λ (c : IsIn (word_of v.fixed.shape p)). (new (word_of v.fixed.shape p), value_new (word_of v.fixed.shape p) c)) (λ (out : ¬ IsIn (word_of v.fixed.shape p)). (y, value_out (word_of v.fixed.shape p) out ∙ e))
+    value_given : (p : Place) (y : ℕ) → value_in v (word_of v.fixed.shape p) ≡ Some y → y < 2 ^ 64 → (z : ℕ) × (value_in u (word_of v.fixed.shape p) ≡ Some z) × (z < 2 ^ 64)
+    value_given p y e small = ⊎_elim (λ (c : IsIn (word_of v.fixed.shape p)). (new (word_of v.fixed.shape p), value_new (word_of v.fixed.shape p) c, new_small s at id off bytes can (word_of v.fixed.shape p) c)) (λ (out : ¬ IsIn (word_of v.fixed.shape p)). (y, value_out (word_of v.fixed.shape p) out ∙ e, small))
         (covered_or place (length bytes) (word_of v.fixed.shape p))
 
     picture_out : (p : Place) (b : ℕ) → (is_pictured p ≡ true → ¬ IsIn (word_of v.fixed.shape p)) → picture v.fixed.shape v.claims p b ≡ picture v.fixed.shape (noted ns v.claims) p b
@@ -204,7 +203,7 @@ module _ (s : Standing) (at : At s) (id : Oid) (off : ℕ) (bytes : List ℕ) (c
           subst (λ m. 64 + x ≤ m) (sym (bytes_so v ns changes calls v.log st.each at.working.unmaking C)) (at.sizes C x old_found o
           (sym (value_out (8 * header_in v.fixed.shape v.claims C + 1) (not_size C old_found o)) ∙ (ap (λ h. value_in u (8 * h + 1)) (sym line) ∙ e)));
       seal = value_out (word_of_seal v.fixed.shape v.fixed.lane) not_seal ∙ at.sealed;
-      recorded = λ p e. let d = at.recorded p e in let z = value_given p d.value d.known in data_so v ns changes calls v.log st.each at.working.unmaking at.sound p d (size_data d.off d.object d.found ∙ d.object.seen) z.0 z.1;
+      recorded = λ p e. let d = at.recorded p e in let z = value_given p d.value d.known d.small in data_so v ns changes calls v.log st.each at.working.unmaking at.sound p d (size_data d.off d.object d.found ∙ d.object.seen) z.0 z.1 z.2;
       more = λ p e. e;
       knows = λ p b y sees e. before_so (λ x. bit x b) (old_of v.log.records p) (picture v.fixed.shape v.claims p b) (picture v.fixed.shape (noted ns v.claims) p b) y
           (λ fresh_. picture_out p b (λ pic c. let i : ℕ = word_of v.fixed.shape p in let w = storing.word_is s at id off bytes can i c in

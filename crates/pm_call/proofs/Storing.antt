@@ -21,7 +21,7 @@ use Rattle.pm_view.specs.View.{View}
 use Rattle.pm_view.specs.Views.{after, changed_from, decided_by, learned, marked_by, part_in, value_in, was_of}
 use Rattle.pm_world.specs.LaneFields.{Standing}
 use Rattle.pm_world.specs.Lawful.{MayStore, StoreFits, place_in}
-use Rattle.pm_world.specs.Sights.{is_logged_from}
+use Rattle.pm_world.specs.Sights.{is_logged_from, is_recorded}
 use Rattle.pm_crash.specs.Looked.{KnowsWord, word_place}
 use Rattle.pm_crash.specs.Writes.{written_word}
 use Rattle.pm_crash.proofs.Covered.{covered_has_byte}
@@ -34,8 +34,8 @@ use Rattle.pm_undo.specs.Spans as spans
 use Rattle.pm_undo.specs.Working.{AreNotes, DrainedTo, IsBeyond, Looked, Note, Valued, noted}
 use Rattle.pm_undo.proofs.AreaParts.{OfChunk, data_beyond, data_part, in_pool}
 use Rattle.pm_undo.proofs.Notes as notes
-use Rattle.pm_undo.proofs.Putting.{logged_so}
-use Rattle.pm_call.specs.At.{At}
+use Rattle.pm_undo.proofs.Putting.{has_one, logged_so}
+use Rattle.pm_call.specs.At.{At, IsDataOf}
 use Rattle.pm_call.specs.Held.{IsObjectWord}
 use Rattle.pm_call.specs.Plans.{writes_word}
 use Rattle.pm_call.specs.Writing.{MayPut}
@@ -123,14 +123,25 @@ module _ (s : Standing) (at : At s) (id : Oid) (off : ℕ) (bytes : List ℕ) (c
   has_record i c = word_has_record v v.log.records i (range_place i) at.working.standing (use_is i c)
       (all_member (is_among (spans.words_in (kept_by v))) (covered_words (id.off + off) (length bytes)) i can.recorded c)
 
-  -- the value of a covered word is known
+  pub recorded_is : (i : ℕ) → IsCovered i → is_recorded s.view.log.records (range_place i) ≡ true
+  recorded_is i c = let h = has_record i c in has_one v.log.records h.index (range_place i) h.low h.has
+
+  -- so its value is known
+  data_is : (i : ℕ) → IsCovered i → IsDataOf s.view (range_place i)
+  data_is i c = at.recorded (range_place i) (recorded_is i c)
+
+  seen_is : (i : ℕ) (c : IsCovered i) → value_in s.view i ≡ Some (data_is i c).value
+  seen_is i c = ap (value_in v) (sym (number_is i c)) ∙ (data_is i c).known
+
+  known_value : (i : ℕ) (c : IsCovered i) → known_word s.view i ≡ (data_is i c).value
+  known_value i c = let n = number_is i c in
+      ap (λ o. unwrap_or o 0) (ap (knows v) (sym n) ∙ (object_known v at.sound block (index i) (word_is i c) ∙ (ap (value_in v) n ∙ seen_is i c)))
+
   pub known_is : (i : ℕ) → IsCovered i → value_in s.view i ≡ Some (known_word s.view i)
-  known_is i c = let k = can.known i c in let n = number_is i c in
-      let e : knows v i ≡ value_in v i = ap (knows v) (sym n) ∙ (object_known v at.sound block (index i) (word_is i c) ∙ ap (value_in v) n) in
-      k.known ∙ ap (λ o. Some (unwrap_or o 0)) (sym (e ∙ k.known))
+  known_is i c = seen_is i c ∙ ap (λ n. Some n) (sym (known_value i c))
 
   pub known_small : (i : ℕ) → IsCovered i → known_word s.view i < 2 ^ 64
-  known_small i c = let k = can.known i c in let e = Rattle.std.proofs.lemmas.Option.same_Some k.value (known_word v i) (sym k.known ∙ known_is i c) in subst (λ n. n < 2 ^ 64) e k.small
+  known_small i c = subst (λ n. n < 2 ^ 64) (sym (known_value i c)) (data_is i c).small
 
   pub word_knows : (i : ℕ) → IsCovered i → KnowsWord s.view [] block (index i) (known_word s.view i)
   word_knows i c = word_known v at.sound block (index i) (known_word v i) (word_is i c) (ap (value_in v) (number_is i c) ∙ known_is i c) (known_small i c)

@@ -31,7 +31,7 @@ use Rattle.pm_call.specs.Ranges.{HasRange}
 use Rattle.pm_call.specs.Writing.{LeadsWrite, MayPut}
 use Rattle.pm_call.proofs.KnownObjects.{size_word, word_number}
 use Rattle.pm_call.proofs.ObjectWords.{object_place}
-use Rattle.pm_call.proofs.RangeWords.{has_line_, has_room, object}
+use Rattle.pm_call.proofs.LockedRanges.{range_low}
 use Rattle.pm_call.proofs.RangeWrites.{leads_write, one_covered}
 
 -- ---- one word
@@ -59,35 +59,6 @@ module _ (old mid : View → Type 0) (place : ℕ) (bytes : List ℕ) (w x y : �
 -- ---- which words there are
 pub covered_bounds : (place len k : ℕ) → k < length (covered_words place len) → (place < 8 * (place / 8 + k) + 8) × (8 * (place / 8 + k) < place + len)
 covered_bounds place len k low = let b = covered_has_byte place len (place / 8 + k) (one_covered place len k low) in (b.2, b.1)
-
--- ---- a range of an object ends in the pool
-module _ (s : Standing) (at : At s) (id : Oid) (off len : ℕ) (write : Bool) (r : HasRange s id off len write) where
-  abbrev v : View
-  v = s.view
-
-  abbrev o : HasObject s.view (line_of id.off)
-  o = object s at id off len write r
-
-  tests : (id.off % 64 ≡ 0) × (128 ≤ id.off)
-  tests = let t = and_parts (id.off % 64 == 0) (nat_le 128 id.off) (has_line_ s at id off len write r) in (eqb-true (id.off % 64) 0 t.0, leb-true 128 id.off t.1)
-
-  -- a word of the object is in the pool
-  word_low : (k : ℕ) → IsObjectWord s.view o.block k → 8 * header_in v.fixed.shape v.claims o.block + k < words_of v.fixed.shape
-  word_low k is = let p = object_place v at.sound o.block k is in
-      subst (λ n. n < words_of v.fixed.shape) (word_number v at.sound o.block k is) (in_pool v.fixed.shape (word_place v o.block k) p.data_ p.there)
-
-  pub range_low : id.off + off + len < 2 ^ 60
-  range_low =
-      let line = o.at in let even = tests.0 in let high = tests.1 in let room = has_room s at id off len write r in let inside = r.inside in
-      let lanes = at.working.lanes in let zones = at.working.zones in
-      ⊎_elim
-      (λ (more : 8 < words_in v o.block).
-      let low = word_low (words_in v o.block - 1) (record { found = o.found; inside = o.inside; within = omega (arith, more); kind = inr (omega (arith, more)) }) in
-      omega (arith, low, line, even, high, room, inside, lanes, zones, more))
-      (λ (few : words_in v o.block ≤ 8).
-      let low = word_low 1 (size_word v at.sound (line_of id.off) o) in
-      omega (arith, low, line, even, high, room, inside, lanes, zones, few))
-      (cases_lt 8 (words_in v o.block))
 
 -- ---- the lane
 module _ {M : Type 0} (at : M → View → Type 0) (old : Lane M) (id : Oid) (off : ℕ) (bytes : List ℕ) where

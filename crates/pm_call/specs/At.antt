@@ -67,6 +67,7 @@ pub record IsDataOf (v : View) (p : Place) : Type 0 where
   pub alive : index / 8 ≤ (object.size + 63) / 64
   pub value : ℕ
   pub known : value_in v (word_of v.fixed.shape p) ≡ Some value
+  pub small : value < 2 ^ 64
 
 -- the call saw that it may take a number, and took none
 pub record MayTakeNumber (v : View) : Type 0 where

@@ -1,4 +1,4 @@
--- A WRITE, as a law: a lane at work that recorded the words of a range, and knows them, may put bytes in and tell it, and is at work then.
+-- A WRITE, as a law: a lane at work that recorded the words of a range may put bytes in and tell it, and is at work then.
 use Rattle.std.specs.Prelude.{◌≡◌, ℕ, ◌+◌, true, List, length}
 use Rattle.std.specs.List.{list_all}
 use Rattle.pm_objects.specs.declared.calls.Operation.TheVariants.{Write}
@@ -14,16 +14,15 @@ use Rattle.pm_undo.specs.Spans as spans
 use Rattle.pm_call.specs.At.{At}
 use Rattle.pm_call.specs.Did.{IsUnrefused, next}
 use Rattle.pm_call.specs.Plans.{puts}
-use Rattle.pm_call.specs.Ranges.{HasRange, KnowsWords}
+use Rattle.pm_call.specs.Ranges.{HasRange}
 
 -- each word that so many bytes from a place on cover has a record
 abbrev pub AreRecorded : View → ℕ → ℕ → Type 0
 AreRecorded v place len = list_all (is_among (spans.words_in (kept_by v))) (covered_words place len) ≡ true
 
--- the bytes may be put there: the range is the lane's to write, its words are known, and recorded
+-- the bytes may be put there: the range is the lane's to write, and its words are recorded
 pub record MayPut (s : Standing) (id : Oid) (off : ℕ) (bytes : List ℕ) : Type 0 where
   pub range : HasRange s id off (length bytes) true
-  pub known : KnowsWords s.view (id.off + off) (length bytes)
   pub recorded : AreRecorded s.view (id.off + off) (length bytes)
   pub are_bytes : AreBytes bytes
 

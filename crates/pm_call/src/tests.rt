@@ -15,7 +15,13 @@ fn words_of_a_range(rt: HostRuntime) -> Result<(), Fail> {
 #[test]
 fn bytes_beside_a_range_stay(rt: HostRuntime) -> Result<(), Fail> {
     let bytes = [0xaa, 0xbb, 0xcc, 0xdd];
-    assert_eq!(rt; patched_word(6, &bytes, 0, 0x1122334455667788), 0xbbaa334455667788);
-    assert_eq!(rt; patched_word(6, &bytes, 1, 0x1122334455667788), 0x112233445566ddcc);
+    assert_eq!(rt;
+        patched_word(6, &bytes, 0, 0x1122334455667788),
+        0xbbaa334455667788
+    );
+    assert_eq!(rt;
+        patched_word(6, &bytes, 1, 0x1122334455667788),
+        0x112233445566ddcc
+    );
     Ok(())
 }

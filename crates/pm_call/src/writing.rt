@@ -64,8 +64,8 @@ fn write_words<M: LawfulMem>(mem: &mut M, place: u64, bytes: &[u8]) -> Result<()
     Ok(())
 }
 
-/// Writes bytes into an object from byte `off` on, where the range is the lane's to write, recorded
-/// and known, and adds the write to the call. Makes exactly the memory calls of `puts`.
+/// Writes bytes into an object from byte `off` on, where the range is the lane's to write and
+/// recorded, and adds the write to the call. Makes exactly the memory calls of `puts`.
 ///
 /// # Errors
 ///
@@ -90,8 +90,8 @@ pub fn do_write<M: LawfulMem>(
     }
 }
 
-/// A law: a lane at work that recorded the words of a range, and knows them, may put bytes in and
-/// tell it, and is at work then. No code runs.
+/// A law: a lane at work that recorded the words of a range may put bytes in and tell it, and is at
+/// work then. No code runs.
 pub fn ranges_may_be_written()
     ensures { RangesMayBeWritten }
 {}
