@@ -1,13 +1,12 @@
 -- WHAT A LANE KNOWS of the objects that it holds, as the laws of the model ask it: words, sizes, ranges.
-use Rattle.std.proofs.Common.{◌≡◌, ◌≢◌, ℕ, zero, suc, ◌+◌, ◌*◌, ◌-◌, ◌/◌, ◌%◌, ◌^◌, ◌<◌, ◌≤◌, ◌⊎◌, inl, inr, ⊎_elim, nat_le, nat_lt, Bool, true, false, cond, ◌==◌, ◌&&◌, ◌||◌, not, List, [], ◌∷◌, refl, sym, ap, ◌∙◌, subst, arith, eq-eqb, ne_eqb, Option, None, Some}
-use Rattle.std.specs.List.{AllByRecursion, list_any}
+use Rattle.std.proofs.Common.{◌≡◌, ℕ, ◌+◌, ◌*◌, ◌-◌, ◌/◌, ◌%◌, ◌^◌, ◌<◌, ◌≤◌, inl, inr, ⊎_elim, nat_le, Bool, true, false, cond, ◌==◌, ◌&&◌, ◌||◌, not, List, [], ◌∷◌, refl, sym, ap, ◌∙◌, subst, arith, ne_eqb, Option, None, Some}
+use Rattle.std.specs.List.{list_any}
 use Rattle.std.specs.Option.{option_map}
 use Rattle.std.proofs.lemmas.Bool.{and_right, and_parts, both_ways, cond-true, cond-false, eqb-true, leb-true, or_cases}
-use Rattle.pm_layout.specs.Chunks.{chunks_of, line_of_chunk, word_of_chunk}
-use Rattle.pm_view.specs.Claims.{Claim, class, first, geometry, header_in, span}
-use Rattle.pm_view.specs.Entries.{Entry, first_of_two, latest, redos, turn}
+use Rattle.pm_view.specs.Claims.{Claim, class, geometry, header_in, span}
+use Rattle.pm_view.specs.Entries.{first_of_two, latest, turn}
 use Rattle.pm_view.specs.Log.{Log, old_of}
-use Rattle.pm_view.specs.Places.{Place, InRun, InHuge, Descr, RootWord, Block, Small, Big, Root, block_of, header, is_data, is_place, word_of}
+use Rattle.pm_view.specs.Places.{Place, InRun, InHuge, Descr, RootWord, Block, Small, Big, Root, block_of, is_data, word_of}
 use Rattle.pm_view.specs.View.{View}
 use Rattle.pm_view.specs.Views.{value_in}
 use Rattle.pm_world.specs.InWorld.{IsSound}
@@ -15,11 +14,11 @@ use Rattle.pm_world.specs.Memory.{bit}
 use Rattle.pm_world.specs.Sights.{fresh, is_made, is_pictured, is_recorded, picture}
 use Rattle.pm_world.specs.States.{given}
 use Rattle.pm_world.specs.declared.lane.HeldLock.{HeldLock}
-use Rattle.pm_crash.specs.Footprints.{bit_before, has_found}
+use Rattle.pm_crash.specs.Footprints.{has_found}
 use Rattle.pm_crash.specs.Looked.{IsObject, KnowsBit, KnowsSize, KnowsWord, size_seen, word_place, words_in}
-use Rattle.pm_crash.specs.Sim.{change_so_far, known_offset, sees_at}
+use Rattle.pm_crash.specs.Sim.{change_so_far, sees_at}
 use Rattle.pm_world.proofs.RecordsAtPlaces.{data_pictured}
-use Rattle.pm_call.specs.Held.{AreHeld, HasObject, IsHeld, IsObjectWord, has_line, is_in_locks, line_of}
+use Rattle.pm_call.specs.Held.{AreHeld, HasObject, IsObjectWord, has_line, is_in_locks, line_of}
 use Rattle.pm_call.proofs.ObjectWords.{IsDataPlace, object_place}
 
 -- of a call without entries, what it changed are recorded words
@@ -31,7 +30,7 @@ none_made Root = refl
 pub fresh_is : (sh : Rattle.pm_layout.specs.declared.shape.Shape.Shape) (t : List Claim) (log : Log) (q : Place) (b : ℕ) → fresh sh t (record log { entries = [] }) q b ≡ cond (is_data q && is_recorded log.records q) (picture sh t q b) None
 fresh_is sh t log q b = ap (λ m. cond (is_data q && (m || is_recorded log.records q)) (picture sh t q b) None) (none_made (block_of (geometry sh t) q b))
 
-none_of_bool : {A : Type 0} (o : Option A) → given o ≡ false → o ≡ None
+pub none_of_bool : {A : Type 0} (o : Option A) → given o ≡ false → o ≡ None
 none_of_bool None e = refl
 none_of_bool (Some y) e = absurd (both_ways true e refl)
 
@@ -42,7 +41,7 @@ no_turn v (Big f) = fresh_is v.fixed.shape v.claims v.log (Descr f) 1
 no_turn v Root = refl
 
 -- the lane sees each bit of a word of data of a block that it found
-sees_data : (v : View) (B : Block) (p : Place) (b : ℕ) → is_data p ≡ true → block_of (geometry v.fixed.shape v.claims) p 64 ≡ B → has_found v B ≡ true → sees_at v p b ≡ true
+pub sees_data : (v : View) (B : Block) (p : Place) (b : ℕ) → is_data p ≡ true → block_of (geometry v.fixed.shape v.claims) p 64 ≡ B → has_found v B ≡ true → sees_at v p b ≡ true
 sees_data v B (InRun c w) b d e f = let l = leb-true 8 w d in let ne : (w == 0) ≡ false = ne_eqb w 0 (λ q. omega (arith, l, q)) in
     ap (has_found v) (ap (Small c) (cond-false (w == 0) b ((w / 8 - 1) / class v.claims c) ne ∙ sym (cond-false (w == 0) 64 ((w / 8 - 1) / class v.claims c) ne)) ∙ e) ∙ f
 sees_data v B (InHuge c w) b d e f = ap (has_found v) e ∙ f

@@ -6,3 +6,12 @@ pub mod Looking
 pub mod RangeRefusals
 pub mod RangeWords
 pub mod RangeReads
+pub mod RecordedWords
+pub mod SmallWords
+pub mod Storing
+pub mod RangeWrites
+pub mod WriteLanes
+pub mod NewRecords
+pub mod LockedRanges
+pub mod AddedRanges
+pub mod AddedLanes

@@ -1,32 +1,31 @@
 -- A LANE AT WORK THAT LOOKS at words of objects that it found stays at work, and knows what it saw.
 use Rattle.std.specs.Prelude.{map}
-use Rattle.std.proofs.Common.{◌≡◌, ◌≢◌, ℕ, zero, suc, ◌+◌, ◌*◌, ◌-◌, ◌/◌, ◌<◌, ◌≤◌, ◌⊎◌, inl, inr, ⊎_elim, Bool, true, false, cond, ◌==◌, ◌&&◌, ◌||◌, List, [], ◌∷◌, refl, sym, ap, ◌∙◌, subst, arith, eq-eqb, ne_eqb, Option, None, Some}
+use Rattle.std.proofs.Common.{◌≡◌, ◌≢◌, ℕ, zero, suc, ◌+◌, ◌*◌, ◌-◌, ◌/◌, ◌≤◌, inl, ⊎_elim, Bool, true, false, cond, ◌==◌, ◌&&◌, List, [], ◌∷◌, refl, sym, ap, ◌∙◌, subst, arith, eq-eqb, Option, None, Some}
 use Rattle.std.specs.Option.{option_map}
 use Rattle.std.proofs.lemmas.Option.{none-some, same_Some}
 use Rattle.std.proofs.lemmas.Bool.{and_right, cases_eq, cond-true, cond-false}
 use Rattle.pm_layout.specs.Areas.{word_of_generation, word_of_seal}
-use Rattle.pm_view.specs.Claims.{Claim, class, geometry, header_in, making, pictured}
-use Rattle.pm_view.specs.Entries.{Entry, first_of_two, latest, turn}
-use Rattle.pm_view.specs.Founds.{FindsKnown, knows}
-use Rattle.pm_view.specs.Log.{Log, Open, old_of, place_at}
-use Rattle.pm_view.specs.Parts.{ChunkPart, Part}
-use Rattle.pm_view.specs.Places.{Place, Block, Small, Big, Root, block_of, is_data, word_of}
-use Rattle.pm_view.specs.Steps.Step.{Load}
+use Rattle.pm_view.specs.Claims.{Claim, class, geometry, header_in, pictured}
+use Rattle.pm_view.specs.Entries.{first_of_two}
+use Rattle.pm_view.specs.Founds.{knows}
+use Rattle.pm_view.specs.Log.{Open, old_of, place_at}
+use Rattle.pm_view.specs.Parts.{ChunkPart}
+use Rattle.pm_view.specs.Places.{Place, Block, block_of, is_data, word_of}
 use Rattle.pm_view.specs.View.{View}
-use Rattle.pm_view.specs.Views.{after, learned, part_in, value_in}
+use Rattle.pm_view.specs.Views.{learned, part_in, value_in}
 use Rattle.pm_world.specs.LaneFields.{Standing, moved}
 use Rattle.pm_world.specs.Memory.{bit}
-use Rattle.pm_world.specs.Sights.{fresh, is_made, is_pictured, is_recorded, picture}
-use Rattle.pm_crash.specs.Footprints.{bit_before, has_found}
-use Rattle.pm_crash.specs.Looked.{size_seen, word_place}
-use Rattle.pm_crash.specs.Sim.{SameBits, change_so_far, sees_at}
+use Rattle.pm_world.specs.Sights.{is_pictured, is_recorded, picture}
+use Rattle.pm_crash.specs.Footprints.{has_found}
+use Rattle.pm_crash.specs.Looked.{word_place}
+use Rattle.pm_crash.specs.Sim.{change_so_far}
 use Rattle.pm_undo.specs.Ranges.{block_bytes}
 use Rattle.pm_world.specs.Lanes.{is_occupancy}
-use Rattle.pm_plan.specs.Notes.{Note, Valued, Looked, noted, AreNotes, IsBeyond}
-use Rattle.pm_undo.specs.Working.{IsStanding, IsWorking}
-use Rattle.pm_plan.proofs.AreaParts.{OfChunk, data_beyond, data_part}
+use Rattle.pm_plan.specs.Notes.{Note, Valued, Looked, noted, AreNotes}
+use Rattle.pm_undo.specs.Working.{IsWorking}
+use Rattle.pm_plan.proofs.AreaParts.{OfChunk, data_part}
 use Rattle.pm_plan.proofs.Notes as notes
-use Rattle.pm_call.specs.At.{At, IsAt, IsDataOf, entries_so_far}
+use Rattle.pm_call.specs.At.{IsAt}
 use Rattle.pm_call.specs.Held.{IsObjectWord, Looks, LooksAt, SizesFit}
 use Rattle.pm_call.proofs.Frames.{header_so, noting}
 use Rattle.pm_call.proofs.KnownObjects.{fresh_is, size_word, word_number}
@@ -138,7 +137,7 @@ module _ (s : Standing) (level : ℕ) (at : IsAt s level) (next : View) (l : Loo
     fit = fit;
     seal = values (word_of_seal v.fixed.shape v.fixed.lane) 0 at.sealed;
     sizes = λ a m. values (a.id.off / 8 - 7) m.size m.sized ∙ sym m.sized;
-    recorded = λ q e. let d = at.recorded q e in data_so v ns v.changes v.calls v.log each at.working.unmaking at.sound q d (values (d.off / 8 - 7) d.object.size d.object.seen) d.value (values (word_of v.fixed.shape q) d.value d.known);
+    recorded = λ q e. let d = at.recorded q e in data_so v ns v.changes v.calls v.log each at.working.unmaking at.sound q d (values (d.off / 8 - 7) d.object.size d.object.seen) d.value (values (word_of v.fixed.shape q) d.value d.known) d.small;
     more = λ q e. e;
     knows = λ q b y _ e. before_stays (λ x. bit x b) (old_of v.log.records q) (picture v.fixed.shape v.claims q b) (picture then.fixed.shape then.claims q b) y (pictures q b y) e;
     same = λ q b. inl (same_bits q b (is_recorded v.log.records q) refl);

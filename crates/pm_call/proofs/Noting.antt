@@ -1,6 +1,6 @@
 -- A LANE AT WORK STAYS SO where it only notes, records or stores: what it holds is the same.
 use Rattle.std.specs.Prelude.{map}
-use Rattle.std.proofs.Common.{◌≡◌, ◌≢◌, ℕ, ◌+◌, ◌*◌, ◌-◌, ◌/◌, ◌%◌, ◌<◌, ◌≤◌, ◌⊎◌, inl, inr, ⊎_elim, Bool, true, false, List, [], ◌∷◌, refl, sym, ap, ◌∙◌, subst, arith, eq-eqb, nat_le, ◌==◌, Option, Some}
+use Rattle.std.proofs.Common.{◌≡◌, ◌≢◌, ℕ, ◌+◌, ◌*◌, ◌%◌, ◌^◌, ◌<◌, ◌≤◌, inl, inr, ⊎_elim, Bool, true, false, List, [], ◌∷◌, refl, sym, ap, ◌∙◌, subst, arith, eq-eqb, nat_le, ◌==◌, Some}
 use Rattle.std.specs.List.{AllByRecursion}
 use Rattle.std.proofs.lemmas.Bool.{and_from, both_ways, le-leb}
 use Rattle.pm_world.specs.Lanes.{is_occupancy}
@@ -8,7 +8,7 @@ use Rattle.pm_layout.specs.Areas.{word_of_seal}
 use Rattle.pm_layout.specs.Sizes.{blocks_of}
 use Rattle.pm_model.specs.Pending.{SetWord}
 use Rattle.pm_view.specs.Changes.{Undrained}
-use Rattle.pm_view.specs.Claims.{class, first, found, header_in, locked, making, reads, span}
+use Rattle.pm_view.specs.Claims.{class, header_in, making}
 use Rattle.pm_view.specs.Log.{Log, Recorded, place_at}
 use Rattle.pm_view.specs.Places.{Place, Block, Small, Big, in_span, place_after, word_of}
 use Rattle.pm_view.specs.View.{View, Told}
@@ -22,7 +22,6 @@ use Rattle.pm_crash.specs.Looked.{KnowsSize, size_seen, word_place, words_in}
 use Rattle.pm_crash.specs.SimFacts.{is_begun}
 use Rattle.pm_crash.specs.Sim.{SameBits, Sim, lists_of, sees_at}
 use Rattle.pm_crash.proofs.Simulation.{sim_stays}
-use Rattle.pm_lock.specs.Holding.{IsHeldAs}
 use Rattle.pm_undo.specs.Ranges.{block_bytes}
 use Rattle.pm_plan.specs.Notes.{Note, noted, AreNotes}
 use Rattle.pm_undo.specs.Working.{IsStanding, IsWorking}
@@ -112,8 +111,8 @@ module _ (v : View) (ns : List Note) (changes : List Undrained) (calls : ℕ) (l
   size_so s off k f seen = let o : HasObject next (line_of off) = record { block = k.block; found = found_so k.block ∙ f; at = header_so v.fixed.shape ns v.claims are none k.block ∙ header_line v s off k f; inside = k.object.inside } in
       size_known next (sound_so s) off k.size (offset_line v s off k f) o seen k.knows.small
 
-  pub data_so : IsSound v → (p : Place) (d : IsDataOf v p) → size_seen next d.off ≡ Some d.object.size → (y : ℕ) → value_in next (word_of v.fixed.shape p) ≡ Some y → IsDataOf next p
-  data_so s p d sized y known = record {
+  pub data_so : IsSound v → (p : Place) (d : IsDataOf v p) → size_seen next d.off ≡ Some d.object.size → (y : ℕ) → value_in next (word_of v.fixed.shape p) ≡ Some y → y < 2 ^ 64 → IsDataOf next p
+  data_so s p d sized y known small = record {
     off = d.off;
     object = size_so s d.off d.object d.found sized;
     found = found_so d.object.block ∙ d.found;
@@ -124,7 +123,19 @@ module _ (v : View) (ns : List Note) (changes : List Undrained) (calls : ℕ) (l
     alive = d.alive;
     value = y;
     known = known;
+    small = small;
   }
+
+-- what such a step owes, but for the bits as the call has made them
+pub record KeepsHeld (s : Standing) (ns : List Note) (changes : List Undrained) (calls : ℕ) (log : Log) : Type 0 where
+  pub each : AreNotes s.view.fixed.shape s.view.claims ns
+  pub working : IsWorking (noting s.view ns changes calls log)
+  pub unbumped : log.bumped ≡ false
+  pub fit : SizesFit (noting s.view ns changes calls log)
+  pub seal : value_in (noting s.view ns changes calls log) (word_of_seal s.view.fixed.shape s.view.fixed.lane) ≡ Some 0
+  pub recorded : (p : Place) → is_recorded log.records p ≡ true → IsDataOf (noting s.view ns changes calls log) p
+  pub more : (p : Place) → is_recorded s.view.log.records p ≡ true → is_recorded log.records p ≡ true
+  pub knows : (p : Place) (b : ℕ) (y : Bool) → sees_at s.view p b ≡ true → bit_before s.view p b ≡ Some y → bit_before (noting s.view ns changes calls log) p b ≡ Some y
 
 -- what such a step owes
 pub record Keeps (s : Standing) (ns : List Note) (changes : List Undrained) (calls : ℕ) (log : Log) : Type 0 where
@@ -209,6 +220,37 @@ module _ (v : View) (call actions published : List Told) where
     alive = d.alive;
     value = d.value;
     known = d.known;
+    small = d.small;
+  }
+
+-- AT WORK AGAIN after such a step that may change the bits, and one more operation told
+module _ (s : Standing) (level : ℕ) (at : IsAt s level) (ns : List Note) (changes : List Undrained) (calls : ℕ) (log : Log) (k : KeepsHeld s ns changes calls log) where
+  abbrev next_view : View
+  next_view = noting s.view ns changes calls log
+
+  pub held_grows : (kept : Bool) → Rattle.pm_crash.specs.Sim.Grows s.view kept next_view kept
+  held_grows kept = noting_grows s.view ns changes calls log k.each at.working.unmaking kept k.more k.knows
+
+  pub held_told_at : (call actions published : List Told) (level' : ℕ) → 1 ≤ level' → level' ≤ 64 → is_begun call ≡ true
+      → AreLists (moved s (told next_view call actions published)) level' (lists_of (told next_view call actions published))
+      → Sim (told next_view call actions published) (entries_so_far s)
+      → IsAt (moved s (told next_view call actions published)) level'
+  held_told_at call actions published level' some most begun lists sim = record {
+    working = working_told next_view call actions published k.working;
+    unbumped = k.unbumped;
+    begun = begun;
+    some = some;
+    most = most;
+    sound = sound_told next_view call actions published (sound_so s.view ns changes calls log k.each at.working.unmaking at.sound);
+    sizes = sizes_told next_view call actions published k.fit;
+    sealed = k.seal;
+    number = record { seen = at.number.seen; told = at.number.told; below = at.number.below; none = at.number.none };
+    held = held_told next_view call actions published s.locks (held_so s.view ns changes calls log k.each at.working.unmaking s.locks at.held);
+    few = at.few;
+    recorded = λ p e. data_told next_view call actions published (sound_so s.view ns changes calls log k.each at.working.unmaking at.sound) p (k.recorded p e);
+    lists = lists;
+    sim = sim;
+    facts = at.facts;
   }
 
 -- AT WORK AGAIN after such a step, and one more operation told or none
@@ -216,8 +258,11 @@ module _ (s : Standing) (level : ℕ) (at : IsAt s level) (ns : List Note) (chan
   abbrev noted_view : View
   noted_view = noting s.view ns changes calls log
 
+  held_of : KeepsHeld s ns changes calls log
+  held_of = record { each = k.each; working = k.working; unbumped = k.unbumped; fit = k.fit; seal = k.seal; recorded = k.recorded; more = k.more; knows = k.knows }
+
   pub grows : (kept : Bool) → Rattle.pm_crash.specs.Sim.Grows s.view kept noted_view kept
-  grows kept = noting_grows s.view ns changes calls log k.each at.working.unmaking kept k.more k.knows
+  grows kept = held_grows s level at ns changes calls log held_of kept
 
   -- the call goes on as it was
   pub noted_sim : Sim noted_view (entries_so_far s)
@@ -227,23 +272,7 @@ module _ (s : Standing) (level : ℕ) (at : IsAt s level) (ns : List Note) (chan
       → AreLists (moved s (told noted_view call actions published)) level' (lists_of (told noted_view call actions published))
       → Sim (told noted_view call actions published) (entries_so_far s)
       → IsAt (moved s (told noted_view call actions published)) level'
-  told_at call actions published level' some most begun lists sim = record {
-    working = working_told noted_view call actions published k.working;
-    unbumped = k.unbumped;
-    begun = begun;
-    some = some;
-    most = most;
-    sound = sound_told noted_view call actions published (sound_so s.view ns changes calls log k.each at.working.unmaking at.sound);
-    sizes = sizes_told noted_view call actions published k.fit;
-    sealed = k.seal;
-    number = record { seen = at.number.seen; told = at.number.told; below = at.number.below; none = at.number.none };
-    held = held_told noted_view call actions published s.locks (held_so s.view ns changes calls log k.each at.working.unmaking s.locks at.held);
-    few = at.few;
-    recorded = λ p e. data_told noted_view call actions published (sound_so s.view ns changes calls log k.each at.working.unmaking at.sound) p (k.recorded p e);
-    lists = lists;
-    sim = sim;
-    facts = at.facts;
-  }
+  told_at call actions published level' some most begun lists sim = held_told_at s level at ns changes calls log held_of call actions published level' some most begun lists sim
 
   -- AND WITH NOTHING TOLD, where no record is new
   pub noted_at : log.records ≡ s.view.log.records → IsAt (moved s noted_view) level

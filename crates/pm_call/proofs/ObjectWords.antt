@@ -1,12 +1,12 @@
 -- THE WORDS OF AN OBJECT that a lane found: where they are, and that the lane has them.
-use Rattle.std.proofs.Common.{◌≡◌, ◌≢◌, ℕ, zero, suc, ◌+◌, ◌-◌, ◌*◌, ◌/◌, ◌%◌, ◌<◌, ◌≤◌, ◌⊎◌, inl, inr, ⊎_elim, nat_le, nat_lt, Bool, true, false, cond, ◌==◌, ◌&&◌, ◌||◌, refl, sym, ap, ◌∙◌, subst, arith, eq-eqb, ne_eqb, Option, None, Some}
-use Rattle.std.proofs.lemmas.Bool.{both_ways, and_parts, and_from, or_right, or_left, cond-true, cond-false, eqb-true, ltb-true, lt-ltb, le-leb}
+use Rattle.std.proofs.Common.{◌≡◌, ◌≢◌, ℕ, zero, suc, ◌+◌, ◌-◌, ◌*◌, ◌/◌, ◌%◌, ◌<◌, ◌≤◌, nat_le, nat_lt, true, false, ◌==◌, ◌&&◌, ◌||◌, refl, ap, ◌∙◌, arith, ne_eqb, None, Some}
+use Rattle.std.proofs.lemmas.Bool.{both_ways, and_parts, and_from, or_right, or_left, cond-true, cond-false, ltb-true, lt-ltb, le-leb}
 use Rattle.pm_layout.specs.Chunks.{chunks_of, word_of_chunk, words_of}
 use Rattle.pm_view.specs.Claims.{class, first, found, span, mine, geometry, is_held, is_held_at}
 use Rattle.pm_view.specs.Founds.{knows}
 use Rattle.pm_view.specs.Log.{place_at}
-use Rattle.pm_view.specs.Parts.{Part, ChunkPart, chunk_place, place_in, pool_part}
-use Rattle.pm_view.specs.Places.{Place, InRun, InHuge, Descr, RootWord, Block, Small, Big, Root, block_of, in_span, is_data, is_place, part, word_of}
+use Rattle.pm_view.specs.Parts.{chunk_place, place_in}
+use Rattle.pm_view.specs.Places.{Place, InRun, Block, Small, Big, Root, block_of, is_data, is_place, word_of}
 use Rattle.pm_view.specs.View.{View, runs_one}
 use Rattle.pm_view.specs.Views.{value_in}
 use Rattle.pm_world.specs.InWorld.{IsSound}

@@ -1,5 +1,5 @@
 -- A READ: it is told with the bytes that the lane knows.
-use Rattle.std.proofs.Common.{◌≡◌, ℕ, ◌+◌, ◌<◌, inl, inr, Bool, true, false, List, [], ◌∷◌, ◌++◌, not, nat_lt, ◌&&◌, ◌==◌, refl, sym, ap, ◌∙◌, subst, arith, eq-eqb, Option, None, Some}
+use Rattle.std.proofs.Common.{◌≡◌, ℕ, ◌+◌, inl, inr, Bool, true, false, List, [], ◌∷◌, ◌++◌, not, nat_lt, ◌==◌, refl, sym, ap, ◌∙◌, subst, arith, eq-eqb, None, Some}
 use Rattle.std.specs.Option.{option_map_or}
 use Rattle.std.proofs.lemmas.Bool.{and_from, false_from_ne_true, ltb-true}
 use Rattle.pm_objects.specs.declared.calls.Operation.TheVariants.{Read}
@@ -7,29 +7,25 @@ use Rattle.pm_objects.specs.declared.history.Value.TheVariants.{Bytes}
 use Rattle.pm_objects.specs.declared.ids.Oid.{Oid}
 use Rattle.pm_model.specs.Inside.{Ran}
 use Rattle.pm_model.specs.Refusals.{first_of}
-use Rattle.pm_view.specs.Places.{Place}
-use Rattle.pm_view.specs.Steps.Step.{Tell}
 use Rattle.pm_view.specs.View.{View, Told}
-use Rattle.pm_view.specs.Views.{after, after_all}
+use Rattle.pm_view.specs.Views.{after_all}
 use Rattle.pm_world.specs.LaneFields.{Standing, moved}
-use Rattle.pm_world.specs.Sights.{is_recorded}
 use Rattle.pm_crash.specs.Calls.{pending_of}
-use Rattle.pm_crash.specs.Looked.{IsChanged, bytes_seen}
+use Rattle.pm_crash.specs.Looked.{bytes_seen}
 use Rattle.pm_crash.specs.OpenRuns.{no_pool}
-use Rattle.pm_crash.specs.Sim.{Grows, Sim, lists_of}
+use Rattle.pm_crash.specs.Sim.{Sim, lists_of}
 use Rattle.pm_crash.specs.SimFacts.{is_begun}
 use Rattle.pm_crash.proofs.OpenRuns.{told_once_more}
 use Rattle.pm_crash.proofs.SimOps.{sim_extends}
 use Rattle.pm_crash.proofs.Telling.{tells_grow}
 use Rattle.pm_model.specs.Transaction.{idle}
 use Rattle.pm_plan.specs.Plans.{Ready, known_word, one}
-use Rattle.pm_call.specs.At.{At, AreLists, IsAt, IsDataOf, MaySet, entries_so_far}
-use Rattle.pm_call.specs.Did.{IsUnrefused, next, unseen}
-use Rattle.pm_call.specs.Plans.{gets}
-use Rattle.pm_call.specs.Ranges.{HasRange, KnowsWords, is_held_so, range_tests, size_or_none}
+use Rattle.pm_call.specs.At.{At, AreLists, IsAt, MaySet, entries_so_far}
+use Rattle.pm_call.specs.Did.{IsUnrefused, unseen}
+use Rattle.pm_call.specs.Ranges.{HasRange, KnowsWords, is_held_so, size_or_none}
 use Rattle.pm_call.specs.Reading.{LeadsRead, RangesMayBeRead}
 use Rattle.pm_call.proofs.Noting.{Keeps, all_map, data_told, told_at}
-use Rattle.pm_call.proofs.RangeRefusals.{enters, range_refusals, ranges_are_looked_at}
+use Rattle.pm_call.proofs.RangeRefusals.{range_refusals, ranges_are_looked_at}
 use Rattle.pm_call.proofs.RangeWords.{knows_range}
 
 pub begun_more : (told : List Told) (t : Told) → is_begun told ≡ true → is_begun (told ++ t ∷ []) ≡ true

@@ -49,7 +49,7 @@ module _ (s : Standing) (at : At s) where
   is_open : ((lists_of s.view).level == 0) ≡ false
   is_open = let l = at.lists.level_is in let some = at.some in ne_eqb (lists_of s.view).level 0 (λ q. omega (arith, l, some, q))
 
-  none_new : (off : ℕ) → is_new (lists_of s.view) off ≡ false
+  pub none_new : (off : ℕ) → is_new (lists_of s.view) off ≡ false
   none_new off = ap (list_any (λ (b : Block). b.off == off)) at.lists.blocks.0
 
   none_gone : (off : ℕ) → is_gone (lists_of s.view) off ≡ false

@@ -1,23 +1,22 @@
 -- THE WORDS OF A RANGE of an object that a lane at work holds.
 use Rattle.std.specs.Prelude.{unwrap_or}
 use Rattle.std.specs.List.{Contains}
-use Rattle.std.proofs.Common.{◌≡◌, ℕ, suc, ◌+◌, ◌*◌, ◌-◌, ◌/◌, ◌%◌, ◌^◌, ◌<◌, ◌≤◌, ◌⊎◌, inl, inr, Bool, true, false, ◌==◌, ◌&&◌, List, [], refl, sym, ap, ◌∙◌, subst, arith, nat_le, Option, None, Some}
-use Rattle.std.proofs.lemmas.Bool.{and_parts, both_ways, eqb-true, leb-true}
+use Rattle.std.proofs.Common.{◌≡◌, ℕ, ◌+◌, ◌*◌, ◌-◌, ◌/◌, ◌%◌, ◌^◌, ◌<◌, ◌≤◌, inr, Bool, true, ◌==◌, [], refl, sym, ap, ◌∙◌, subst, arith, nat_le, Some}
+use Rattle.std.proofs.lemmas.Bool.{and_parts, eqb-true, leb-true}
 use Rattle.pm_objects.specs.declared.ids.Oid.{Oid}
 use Rattle.pm_model.specs.Transaction.{covered_words}
-use Rattle.pm_view.specs.Claims.{header_in}
 use Rattle.pm_view.specs.Founds.{knows}
 use Rattle.pm_view.specs.Places.{Block, Small, Big, Root, word_of}
 use Rattle.pm_view.specs.View.{View}
 use Rattle.pm_view.specs.Views.{value_in}
 use Rattle.pm_world.specs.LaneFields.{Standing}
-use Rattle.pm_crash.specs.Looked.{KnowsRange, KnowsSize, size_seen, word_place, words_in}
+use Rattle.pm_crash.specs.Looked.{KnowsRange, KnowsSize, word_place, words_in}
 use Rattle.pm_crash.proofs.Covered.{covered_has_byte}
 use Rattle.pm_plan.specs.Plans.{known_word}
 use Rattle.pm_undo.specs.Ranges.{block_bytes}
-use Rattle.pm_call.specs.At.{At, entries_so_far}
+use Rattle.pm_call.specs.At.{At}
 use Rattle.pm_call.specs.Held.{HasObject, IsObjectWord, has_line, line_of}
-use Rattle.pm_call.specs.Ranges.{HasRange, KnowsWord, KnowsWords}
+use Rattle.pm_call.specs.Ranges.{HasRange, KnowsWords}
 use Rattle.pm_call.proofs.KnownObjects.{held_object, size_known, word_known, word_number}
 use Rattle.pm_call.proofs.ObjectWords.{object_known}
 

@@ -1,6 +1,6 @@
 -- A LANE AT WORK IN A TRANSACTION, between two of its operations: by plain data alone. Its log may grow; each object whose lock it has is found; its lists are
 -- those of the model's transaction that its operations led to; and from whatever bits it agrees with, what it told leads the model there.
-use Rattle.std.specs.Prelude.{◌≡◌, ℕ, ◌+◌, ◌*◌, ◌/◌, ◌%◌, ◌^◌, ◌<◌, ◌≤◌, Bool, true, false, Contains, List, [], length, map, Option, Some, None}
+use Rattle.std.specs.Prelude.{◌≡◌, ℕ, ◌+◌, ◌/◌, ◌%◌, ◌^◌, ◌<◌, ◌≤◌, Bool, true, false, Contains, List, [], length, map, Some, None}
 use Rattle.std.specs.List.{AllByRecursion}
 use Rattle.pm_layout.specs.Areas.{greatest_generation, word_of_seal}
 use Rattle.pm_objects.specs.declared.history.TxErr.TheVariants as error
@@ -67,6 +67,7 @@ pub record IsDataOf (v : View) (p : Place) : Type 0 where
   pub alive : index / 8 ≤ (object.size + 63) / 64
   pub value : ℕ
   pub known : value_in v (word_of v.fixed.shape p) ≡ Some value
+  pub small : value < 2 ^ 64
 
 -- the call saw that it may take a number, and took none
 pub record MayTakeNumber (v : View) : Type 0 where

@@ -6,3 +6,5 @@ pub mod Did
 pub mod GivenUp
 pub mod Reading
 pub mod RangeLaws
+pub mod Writing
+pub mod Adding

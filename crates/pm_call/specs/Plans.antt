@@ -1,17 +1,15 @@
 -- THE PLANS OF A TRANSACTION'S OPERATIONS on objects that it found, as functions of the lane's view before them: docs/FORMAT.md, "Sequences".
-use Rattle.std.specs.Prelude.{ℕ, zero, suc, ◌+◌, ◌/◌, if◌then◌else◌, ◌==◌, List, [], ◌∷◌, length, Option, Some, None}
+use Rattle.std.specs.Prelude.{ℕ, ◌+◌, ◌/◌, if◌then◌else◌, ◌==◌, List, length, Option, Some, None}
 use Rattle.pm_objects.specs.declared.calls.Operation.{Operation}
 use Rattle.pm_objects.specs.declared.calls.Operation.TheVariants.{AddRange, Write, Read}
 use Rattle.pm_objects.specs.declared.history.Value.{Value}
-use Rattle.pm_objects.specs.declared.history.Value.TheVariants.{Bytes, Refused}
+use Rattle.pm_objects.specs.declared.history.Value.TheVariants.{Bytes}
 use Rattle.pm_objects.specs.declared.ids.Oid.{Oid}
-use Rattle.pm_objects.specs.declared.refusal.Refusal.{Refusal}
 use Rattle.pm_model.specs.Transaction.{covered_words}
 use Rattle.pm_view.specs.Steps.Step.{Draw, Tell}
-use Rattle.pm_view.specs.View.{View}
 use Rattle.pm_crash.specs.Looked.{bytes_seen}
 use Rattle.pm_crash.specs.Writes.{written_word}
-use Rattle.pm_plan.specs.Plans.{Plan, by_view, in_turn, known_word, looks, nothing, one, persists_all, stores}
+use Rattle.pm_plan.specs.Plans.{Plan, in_turn, known_word, looks, one, persists_all, repeated, stores}
 use Rattle.pm_undo.specs.Plans.{restores, retires, snapshots}
 
 -- an operation is told, with its reply
@@ -22,16 +20,15 @@ tells op reply = one (Tell op reply)
 abbrev pub adds : Oid → ℕ → ℕ → Plan
 adds id off len = in_turn (snapshots (id.off + off) len) (tells (AddRange id off len) None)
 
--- ---- bytes are written: each covered word in rising place, as it is known
+-- ---- bytes are written: each covered word in rising place is looked at, and stored with its bytes put in
 unfoldable pub writes_word : ℕ → List ℕ → ℕ → Plan
-writes_word place bytes w v = stores w (written_word place bytes w (known_word v w)) v
+writes_word place bytes w v = in_turn (looks w) (stores w (written_word place bytes w (known_word v w))) v
 
-unfoldable pub writes_words : ℕ → List ℕ → List ℕ → Plan
-writes_words place bytes [] = nothing
-writes_words place bytes (w ∷ words) = in_turn (writes_word place bytes w) (writes_words place bytes words)
+unfoldable pub writes_words : ℕ → List ℕ → Plan
+writes_words place bytes = repeated (λ i. writes_word place bytes (place / 8 + i)) (length (covered_words place (length bytes)))
 
 abbrev pub puts : Oid → ℕ → List ℕ → Plan
-puts id off bytes = in_turn (writes_words (id.off + off) bytes (covered_words (id.off + off) (length bytes))) (tells (Write id off bytes) None)
+puts id off bytes = in_turn (writes_words (id.off + off) bytes) (tells (Write id off bytes) None)
 
 -- ---- bytes are read: they are known
 abbrev pub gets : Oid → ℕ → ℕ → Plan

@@ -1,5 +1,5 @@
 -- A READ, as a law: a lane at work that knows the words of a range may tell their bytes, and is at work then.
-use Rattle.std.specs.Prelude.{◌≡◌, ℕ, ◌+◌, false, None, Some}
+use Rattle.std.specs.Prelude.{ℕ, ◌+◌, false}
 use Rattle.pm_objects.specs.declared.calls.Operation.TheVariants.{Read}
 use Rattle.pm_objects.specs.declared.ids.Oid.{Oid}
 use Rattle.pm_world.specs.LaneFields.{Standing}

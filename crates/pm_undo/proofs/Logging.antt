@@ -14,10 +14,10 @@ use Rattle.pm_view.specs.Log.{Log, Open, Recorded, log_stored, place_at, with_sl
 use Rattle.pm_view.specs.Parts.{SlotPart, part_of}
 use Rattle.pm_view.specs.Places.{place_after, word_of}
 use Rattle.pm_view.specs.Steps.Step.{Store}
-use Rattle.pm_view.specs.View.{View, runs_one}
+use Rattle.pm_view.specs.View.{Constants, View, runs_one}
 use Rattle.pm_view.specs.Views.{after, changed_from, claims_drained, marked_by, value_in, was_of}
 use Rattle.pm_world.specs.Lawful.{CanRecord, MayStore, StoreFits}
-use Rattle.pm_world.specs.Logs.{spelled}
+use Rattle.pm_world.specs.Logs.{AreInRow, spelled}
 use Rattle.pm_world.specs.Sights.{is_recorded}
 use Rattle.pm_plan.specs.Plans.{IsPersisted, claims_persisted, log_persisted}
 use Rattle.pm_plan.specs.Notes.{AreNotes, IsBeyond, IsNote, Note, Valued, DrainedTo, claim_of, noted}
@@ -61,6 +61,26 @@ pub record Logging (v : View) (stay : ℕ → Type 0) (records : List Recorded) 
 
 abbrev pub AreBeyond : Shape → List Undrained → Type 0
 AreBeyond sh changes = AllByRecursion (λ (c : Undrained). IsBeyond sh c.word) changes
+
+-- records may be put back still where blocks have the classes that they had
+pub all_still : (v u : View) (rs : List Recorded) → u.fixed ≡ v.fixed
+    → class u.claims ≡ class v.claims → AllByRecursion (IsStanding v) rs
+    → AllByRecursion (IsStanding u) rs
+all_still v u [] f cl all = tt
+all_still v u (r ∷ rs) f cl all = let s = all.0 in (
+  record {
+    some = s.some;
+    most = s.most;
+    data_ = s.data_;
+    row = subst (λ (g : Constants). AreInRow g.shape r) (sym f) s.row;
+    use_ = λ i low. ap (λ (g : Constants). place_at g.shape (class u.claims)
+        (word_of g.shape (place_after r.place i))) f
+        ∙ (ap (λ c. place_at v.fixed.shape c (word_of v.fixed.shape (place_after r.place i))) cl
+        ∙ s.use_ i low);
+    small = s.small;
+  },
+  all_still v u rs f cl all.1,
+)
 
 module _ (v : View) (working : IsWorking v) where
   pub beyond_slots : (y : ℕ) → IsBeyond v.fixed.shape y → IsNoSlot v.fixed.shape v.fixed.lane y
@@ -229,27 +249,11 @@ module _ {v : View} {stay : ℕ → Type 0} {records : List Recorded} {slot : Li
       unmaking = no_making;
       clean = far;
       few = few;
-      standing = all_still records standing;
+      standing = all_still v (view_with v u.claims u.changes u.calls records slot) records refl
+          class_so standing;
       once = once;
       known = at.pictured_ (generation_word v) stays ∙ working.known;
     })
-      where
-        all_still : (rs : List Recorded) → AllByRecursion (IsStanding v) rs
-            → AllByRecursion (IsStanding (view_with v u.claims u.changes u.calls records slot)) rs
-        all_still [] all = tt
-        all_still (r ∷ rs) all = let s = all.0 in (
-          record {
-            some = s.some;
-            most = s.most;
-            data_ = s.data_;
-            row = s.row;
-            use_ = λ i low. ap
-                (λ c. place_at v.fixed.shape c (word_of v.fixed.shape (place_after r.place i)))
-                class_so ∙ s.use_ i low;
-            small = s.small;
-          },
-          all_still rs all.1,
-        )
 
 -- ---- a store of a slot's next word
 abbrev pub slot_change : ℕ → Undrained

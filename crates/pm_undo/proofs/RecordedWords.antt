@@ -35,7 +35,7 @@ not_in_slots sh lane j (c ∷ changes) low few all = let far = all.0 in
     changes) (ne_eqb (c.word / 8) (line_of_slot sh lane j) (λ e. omega (arith, e, far, low, few)))
     (not_in_slots sh lane j changes low few all.1)
 
-logged_so : (sh : Shape) (lane j : ℕ) (changes : List Undrained) (rs : List Recorded) (p : Place)
+pub logged_so : (sh : Shape) (lane j : ℕ) (changes : List Undrained) (rs : List Recorded) (p : Place)
     → lane < sh.lanes → j + length rs ≤ 64 → AreBeyond sh changes → is_recorded rs p ≡ true
     → is_logged_from sh lane changes j rs p ≡ true
 logged_so sh lane j changes [] p low few all e = absurd (both_ways false refl e)

@@ -46,11 +46,11 @@ use Rattle.pm_undo.proofs.RecordedWords.{IsKnownPlace, may_write, write_beyond, 
 use Rattle.pm_undo.proofs.Snapshotted.{all_kept}
 
 -- ---- a word among those kept is a place that is recorded
-record KeptPlace (v : View) (rs : List Recorded) (w : ℕ) : Type 0 where
-  place : Place
-  is_known : IsKnownPlace v place
-  has_ : is_recorded rs place ≡ true
-  word : word_of v.fixed.shape place ≡ w
+pub record KeptPlace (v : View) (rs : List Recorded) (w : ℕ) : Type 0 where
+  pub place : Place
+  pub is_known : IsKnownPlace v place
+  pub has_ : is_recorded rs place ≡ true
+  pub word : word_of v.fixed.shape place ≡ w
 
 -- a word in a range
 record InRange (a n w : ℕ) : Type 0 where
@@ -77,7 +77,7 @@ from_range a (suc n) w e = go (eqb a w) refl e (from_range (a + 1) n w) where
             (let e = r.is in omega (arith, e));
       }
 
-kept_place : (v : View) (rs : List Recorded) (w : ℕ) → AllByRecursion (IsStanding v) rs
+pub kept_place : (v : View) (rs : List Recorded) (w : ℕ) → AllByRecursion (IsStanding v) rs
     → is_among (words_in (map (kept_of v.fixed.shape) rs)) w ≡ true → KeptPlace v rs w
 unfolding words_in
 kept_place v [] w all e = absurd (both_ways false refl e)
