@@ -4,7 +4,7 @@ ghost use Rattle.pm_view.specs.Steps.{Step};
 ghost use Rattle.pm_view.specs.View.{View};
 ghost use Rattle.pm_view.specs.Views.{after_all};
 ghost use Rattle.pm_world.specs.declared.lane.HeldLock.{HeldLock};
-ghost use Rattle.pm_lock.specs.Held.{HeldAreRaised, HeldBefore, HeldGrow, HeldMayBeGiven, HeldMayBeRaised, HeldStay};
+ghost use Rattle.pm_lock.specs.Held.{HeldAreRaised, HeldBefore, HeldGrow, HeldMayBeGiven, HeldMayBeRaised, HeldStay, RaisedKeepBlocks, TakenKeepBlocks};
 ghost use Rattle.pm_lock.specs.Holding.{IsGiven, IsHeldAs, IsTaken, Rises};
 ghost use Rattle.pm_layout.specs.declared.shape.Shape.{Shape};
 ghost use Rattle.pm_objects.specs.declared.ids.Oid.{Oid};
@@ -80,4 +80,11 @@ pub fn held_locks_stand()
     ensures may_be_raised { HeldMayBeRaised }
     ensures are_raised { HeldAreRaised }
     ensures may_be_given { HeldMayBeGiven }
+{}
+
+/// A law: what a lane knows of blocks stays as it takes locks and raises them: those that it found are
+/// sound, objects that stand do, and no block is missed. No code runs.
+pub fn locks_keep_blocks()
+    ensures taken { TakenKeepBlocks }
+    ensures raised { RaisedKeepBlocks }
 {}
