@@ -18,3 +18,4 @@ pub mod ModelPlans
 pub mod RaisedClaims
 pub mod SizeWords
 pub mod HeldLocks
+pub mod KeptBlocks

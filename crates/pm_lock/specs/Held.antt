@@ -10,7 +10,10 @@ use Rattle.pm_view.specs.Views.{after_all}
 use Rattle.pm_world.specs.declared.lane.HeldLock.{HeldLock}
 use Rattle.pm_lock.specs.Acquiring.{MayWant}
 use Rattle.pm_lock.specs.Holding.{AreOnce, IsHeldAs, IsTaken, MayGiveAll}
-use Rattle.pm_lock.specs.Objects.{HasLooked}
+use Rattle.pm_view.specs.Places.{Block}
+use Rattle.pm_world.specs.Causes.{times_missed}
+use Rattle.pm_world.specs.InWorld.{IsSound}
+use Rattle.pm_lock.specs.Objects.{HasLooked, StandsAt}
 use Rattle.pm_lock.specs.Raising.{MayRaiseAll, raised, raises}
 use Rattle.pm_lock.specs.Steps.{takes, tries}
 use Rattle.pm_lock.specs.Wants.{wanted}
@@ -54,3 +57,18 @@ HeldAreRaised = (v : View) (writes : ℕ → Bool) (locks : List HeldLock) → H
 abbrev pub HeldMayBeGiven : Type 0
 HeldMayBeGiven = (v : View) (locks : List HeldLock) → v.log.phase ≡ Idle → HoldsEach v locks
     → MayGiveAll v locks
+
+-- WHAT IS KNOWN OF BLOCKS stays as locks are taken and raised: those that were found are sound, objects
+-- that stand do, and no block is missed
+pub record KeepsBlocks (v w : View) : Type 0 where
+  pub sound : IsSound v → IsSound w
+  pub stands : (line : ℕ) → StandsAt v line → StandsAt w line
+  pub missed : (B : Block) → times_missed w.fixed.shape B w.claims
+      ≡ times_missed v.fixed.shape B v.claims
+
+abbrev pub TakenKeepBlocks : Type 0
+TakenKeepBlocks = (v w : View) (locks : List HeldLock) → IsTaken v locks w → KeepsBlocks v w
+
+abbrev pub RaisedKeepBlocks : Type 0
+RaisedKeepBlocks = (v : View) (writes : ℕ → Bool) (locks : List HeldLock)
+    → KeepsBlocks v (after_all v (raises writes locks))

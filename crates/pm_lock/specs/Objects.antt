@@ -14,7 +14,8 @@ use Rattle.pm_view.specs.Steps.{Step}
 use Rattle.pm_view.specs.Steps.Step.{Load}
 use Rattle.pm_view.specs.View.{View}
 use Rattle.pm_view.specs.Views.{after, after_all, part_in, value_in}
-use Rattle.pm_world.specs.Causes.{times_missed}
+use Rattle.pm_world.specs.Causes.{CountsNew, drawn_by, times_missed}
+use Rattle.pm_world.specs.World.{Past}
 use Rattle.pm_world.specs.InWorld.{AgreesAt, InWorld, IsSound}
 use Rattle.pm_world.specs.Lanes.{is_occupancy}
 use Rattle.pm_world.specs.Lawful.{place_in}
@@ -196,3 +197,13 @@ pub record LookedAs (at : View → Type 0) (v : View) (sh : Shape) (line : ℕ)
 unfoldable pub Looked : {M : Type 0} → (M → View → Type 0) → Shape → ℕ → M → M → Bool → Type 0
 Looked at sh line old new there = (v : View) → at old v → CanLook v sh line
     → LookedAs (at new) v sh line there
+
+-- A MISS IS NEW in a call, number n of the lane's history or to be: so that it has its cause
+abbrev pub MissesAreNew : Type 0
+MissesAreNew = (g : Past) (lane n : ℕ) (v w : View) (line : ℕ) → MissesAt v line w
+    → ((p : ℕ) (B : Block) → p < n → drawn_by g p ≡ lane
+    → times_missed v.fixed.shape B (g.drew p).claims ≤ times_missed v.fixed.shape B v.claims)
+    → (classes : ℕ → ℕ) → ((c : ℕ) → class w.claims c ≢ 0 → classes c ≡ class w.claims c)
+    → (B : Block) → HasBlock v.fixed.shape classes B
+    → header v.fixed.shape (record { first = λ c. c; class = classes }) B ≡ line
+    → CountsNew (times_missed v.fixed.shape B) g lane n w

@@ -4,13 +4,13 @@ ghost use Rattle.pm_view.specs.Steps.{Step};
 ghost use Rattle.pm_view.specs.View.{View};
 ghost use Rattle.pm_view.specs.Views.{after_all};
 ghost use Rattle.pm_world.specs.declared.lane.HeldLock.{HeldLock};
-ghost use Rattle.pm_lock.specs.Held.{HeldAreRaised, HeldBefore, HeldGrow, HeldMayBeGiven, HeldMayBeRaised, HeldStay};
+ghost use Rattle.pm_lock.specs.Held.{HeldAreRaised, HeldBefore, HeldGrow, HeldMayBeGiven, HeldMayBeRaised, HeldStay, RaisedKeepBlocks, TakenKeepBlocks};
 ghost use Rattle.pm_lock.specs.Holding.{IsGiven, IsHeldAs, IsTaken, Rises};
 ghost use Rattle.pm_layout.specs.declared.shape.Shape.{Shape};
 ghost use Rattle.pm_objects.specs.declared.ids.Oid.{Oid};
 ghost use Rattle.pm_lock.specs.Acquiring.{WantedMayBeLocked};
 ghost use Rattle.pm_lock.specs.ModelLocks.{PlansAreTheModels};
-ghost use Rattle.pm_lock.specs.Objects.{IsHeader, LooksTell, SeenFits, line_of};
+ghost use Rattle.pm_lock.specs.Objects.{IsHeader, LooksTell, MissesAreNew, SeenFits, line_of};
 ghost use Rattle.pm_lock.specs.Plans.{planned};
 ghost use Rattle.pm_lock.specs.Raising.{AreRaised, raises};
 ghost use Rattle.pm_lock.specs.Steps.{AreWaits, gives, tries};
@@ -47,7 +47,7 @@ pub fn sights_fit()
 
 /// A law: a look that fits, under the lock of a line, leaves what the lane has and knows, and tells
 /// whether an object stands at the line: it is found then, or each block that would begin there is
-/// missed. No code runs.
+/// missed, or the chunk was told to be a run of blocks without lines. No code runs.
 pub fn looks_tell()
     ensures { LooksTell }
 {}
@@ -80,4 +80,17 @@ pub fn held_locks_stand()
     ensures may_be_raised { HeldMayBeRaised }
     ensures are_raised { HeldAreRaised }
     ensures may_be_given { HeldMayBeGiven }
+{}
+
+/// A law: what a lane knows of blocks stays as it takes locks and raises them: those that it found are
+/// sound, objects that stand do, and no block is missed. No code runs.
+pub fn locks_keep_blocks()
+    ensures taken { TakenKeepBlocks }
+    ensures raised { RaisedKeepBlocks }
+{}
+
+/// A law: a block that a look missed is newly missed in its call, as the cause of `NoObject` asks. No
+/// code runs.
+pub fn misses_are_new()
+    ensures { MissesAreNew }
 {}

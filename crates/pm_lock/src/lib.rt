@@ -27,9 +27,9 @@ pub use acquiring::{lock_objects, try_objects};
 pub use finding::{find_all, find_object};
 pub use giving::give_back;
 pub use laws::{
-    held_locks_stand, locks_are_held_once_taken, locks_may_be_given_back, looks_tell,
-    objects_have_headers, plans_are_the_models, plans_rise, raised_locks_are_held, sights_fit,
-    wanted_locks_may_be_taken,
+    held_locks_stand, locks_are_held_once_taken, locks_keep_blocks, locks_may_be_given_back,
+    looks_tell, misses_are_new, objects_have_headers, plans_are_the_models, plans_rise,
+    raised_locks_are_held, sights_fit, wanted_locks_may_be_taken,
 };
 pub use places::line_of;
 pub use planning::plan_lock;
