@@ -14,20 +14,20 @@ use Rattle.pm_view.specs.Places.{Place, Block, Small, Big, Root, block_of, is_da
 use Rattle.pm_view.specs.Steps.Step.{Load}
 use Rattle.pm_view.specs.View.{View}
 use Rattle.pm_view.specs.Views.{after, learned, part_in, value_in}
+use Rattle.pm_world.specs.InWorld.{SizesFit, block_bytes}
 use Rattle.pm_world.specs.LaneFields.{Standing, moved}
 use Rattle.pm_world.specs.Memory.{bit}
 use Rattle.pm_world.specs.Sights.{fresh, is_made, is_pictured, is_recorded, picture}
 use Rattle.pm_crash.specs.Footprints.{bit_before, has_found}
 use Rattle.pm_crash.specs.Looked.{size_seen, word_place}
 use Rattle.pm_crash.specs.Sim.{SameBits, change_so_far, sees_at}
-use Rattle.pm_undo.specs.Ranges.{block_bytes}
 use Rattle.pm_world.specs.Lanes.{is_occupancy}
 use Rattle.pm_undo.specs.Working.{IsStanding, IsWorking, Note, Valued, Looked, noted, AreNotes, IsBeyond}
 use Rattle.pm_undo.proofs.AreaParts.{OfChunk, data_beyond, data_part}
 use Rattle.pm_undo.proofs.Notes as notes
 use Rattle.pm_undo.proofs.Standing.{all_still}
 use Rattle.pm_call.specs.At.{At, IsAt, IsDataOf, entries_so_far}
-use Rattle.pm_call.specs.Held.{IsObjectWord, Looks, LooksAt, SizesFit}
+use Rattle.pm_call.specs.Held.{IsObjectWord, Looks, LooksAt}
 use Rattle.pm_call.proofs.Frames.{header_so, noting}
 use Rattle.pm_call.proofs.KnownObjects.{fresh_is, size_word, word_number}
 use Rattle.pm_call.proofs.Noting.{Keeps, bytes_so, data_so, found_so, noted_at, object_word_so, place_so}

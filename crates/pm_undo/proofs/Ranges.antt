@@ -1,8 +1,8 @@
 -- The words of an object under its write lock may be recorded.
 use Rattle.std.specs.Prelude.{find, slice_index, unwrap_or}
 use Rattle.std.specs.Option.{option_map_or}
-use Rattle.std.proofs.Common.{◌≡◌, ◌≢◌, ◌⊎◌, ℕ, zero, suc, ◌+◌, ◌-◌, ◌*◌, ◌/◌, ◌%◌, ◌^◌, ◌<◌, ◌≤◌, ⊎_elim, nat_lt, nat_le, Bool, true, false, cond, ◌==◌, ◌&&◌, ◌||◌, List, [], ◌∷◌, ◌++◌, length, map, refl, sym, ap, ◌∙◌, subst, arith, ne_eqb, Some, Option}
-use Rattle.std.specs.List.{AllByRecursion, list_any, range_with_len}
+use Rattle.std.proofs.Common.{◌≡◌, ◌≢◌, ℕ, zero, suc, ◌+◌, ◌-◌, ◌*◌, ◌/◌, ◌%◌, ◌^◌, ◌<◌, ◌≤◌, ⊎_elim, nat_lt, nat_le, Bool, true, false, ◌==◌, ◌||◌, List, [], ◌∷◌, length, map, refl, sym, ap, ◌∙◌, subst, arith, ne_eqb, Some}
+use Rattle.std.specs.List.{AllByRecursion, range_with_len}
 use Rattle.std.proofs.lemmas.Bool.{and_from, and_parts, both_ways, cond_both, cond-false, eqb-true, false_from_ne_true, le-leb, lt-ltb, ltb-true}
 use Rattle.std.proofs.lemmas.List.Folds.{list_any-append}
 use Rattle.std.proofs.lemmas.List.FromFn.{get_or-map-range_with_len, length-map-range_with_len}
@@ -16,20 +16,19 @@ use Rattle.pm_view.specs.Claims.{class, first, found, locked, header_in, span}
 use Rattle.pm_view.specs.Founds.{knows}
 use Rattle.pm_view.specs.Log.{Recorded, old_in, old_of}
 use Rattle.pm_view.specs.Parts.{chunk_place, place_in as place_by}
-use Rattle.pm_view.specs.Places.{Place, InRun, InHuge, RootWord, Block, Small, Big, Root, in_span, is_data, is_place, place_after, word_of}
+use Rattle.pm_view.specs.Places.{Place, InRun, InHuge, RootWord, Block, Small, Big, Root, is_data, is_place, place_after, word_of}
 use Rattle.pm_view.specs.View.{View}
-use Rattle.pm_world.specs.InWorld.{IsSound}
+use Rattle.pm_world.specs.InWorld.{IsSound, block_bytes}
 use Rattle.pm_world.specs.LaneFields.{kept_of}
 use Rattle.pm_world.specs.Lanes.{is_occupancy}
 use Rattle.pm_world.specs.Lawful.{CanRecord, CanRecordAt, MayChangeAt, is_guarded, is_here, offset_in, place_in, size_in}
 use Rattle.pm_world.specs.Logs.{AreInRow}
 use Rattle.pm_world.specs.Sights.{is_recorded}
 use Rattle.pm_world.specs.States.{given}
-use Rattle.pm_world.specs.declared.lane.KeptRecord.{KeptRecord}
 use Rattle.pm_world.proofs.Basics.{given_cases}
 use Rattle.pm_world.proofs.WordPlaces.{chunk_part}
 use Rattle.pm_plan.specs.Plans.{known_word}
-use Rattle.pm_undo.specs.Ranges.{HoldsObject, IsInObject, KnowsNew, RangesMayBeSnapshot, block_bytes, header_of}
+use Rattle.pm_undo.specs.Ranges.{HoldsObject, IsInObject, KnowsNew, RangesMayBeSnapshot, header_of}
 use Rattle.pm_undo.specs.Records.{kept_by, recorded_in}
 use Rattle.pm_undo.specs.Spans.{words_in}
 use Rattle.pm_undo.specs.Undoing.{needed}

@@ -1,11 +1,11 @@
 -- A RANGE OF AN OBJECT that a lane found under its write lock: its words may be recorded.
 use Rattle.std.specs.Prelude.{◌≡◌, ℕ, ◌+◌, ◌*◌, ◌^◌, ◌<◌, ◌≤◌, true, false, Some}
 use Rattle.pm_model.specs.Items.{is_among}
-use Rattle.pm_view.specs.Claims.{class, header_in, span}
+use Rattle.pm_view.specs.Claims.{header_in}
 use Rattle.pm_view.specs.Founds.{knows}
-use Rattle.pm_view.specs.Places.{Block, Small, Big, Root}
+use Rattle.pm_view.specs.Places.{Block}
 use Rattle.pm_view.specs.View.{View}
-use Rattle.pm_world.specs.InWorld.{IsSound}
+use Rattle.pm_world.specs.InWorld.{IsSound, block_bytes}
 use Rattle.pm_world.specs.Lanes.{is_occupancy}
 use Rattle.pm_world.specs.Lawful.{is_here}
 use Rattle.pm_undo.specs.Records.{kept_by}
@@ -19,12 +19,6 @@ header_of v B = header_in v.fixed.shape v.claims B
 
 abbrev pub object_at : View → Block → ℕ
 object_at v B = 64 * header_of v B + 64
-
--- how many bytes a block has, its header with them, as the lane knows
-abbrev pub block_bytes : View → Block → ℕ
-block_bytes v (Small c i) = 64 * class v.claims c
-block_bytes v (Big f) = 4096 * span v.fixed.shape v.claims f
-block_bytes v Root = 0
 
 -- AN OBJECT UNDER ITS WRITE LOCK: the lane found its block, and knows its size, which the block holds
 pub record HoldsObject (v : View) (B : Block) (size : ℕ) : Type 0 where
