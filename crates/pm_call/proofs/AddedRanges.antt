@@ -56,7 +56,8 @@ use Rattle.pm_crash.proofs.Composing.{growths_compose}
 use Rattle.pm_call.specs.Adding.{CanAdd, RangesMayBeAdded}
 use Rattle.pm_call.specs.At.{At, AreLists, IsAt, IsDataOf, MaySet, entries_so_far}
 use Rattle.pm_call.specs.Did.{IsRefused, IsUnrefused, unseen}
-use Rattle.pm_call.specs.Held.{HasObject, SizesFit, has_line, line_of}
+use Rattle.pm_world.specs.InWorld.{SizesFit}
+use Rattle.pm_call.specs.Held.{HasObject, has_line, line_of}
 use Rattle.pm_call.specs.Plans.{adds}
 use Rattle.pm_call.proofs.Frames.{header_so, noting, sees_same}
 use Rattle.pm_call.proofs.KnownObjects.{fresh_is, held_object, sees_data, size_word, word_number}

@@ -19,14 +19,15 @@ use Rattle.pm_world.specs.Sights.{is_pictured, is_recorded, picture}
 use Rattle.pm_crash.specs.Footprints.{has_found}
 use Rattle.pm_crash.specs.Looked.{word_place}
 use Rattle.pm_crash.specs.Sim.{change_so_far}
-use Rattle.pm_undo.specs.Ranges.{block_bytes}
+use Rattle.pm_world.specs.InWorld.{block_bytes}
 use Rattle.pm_world.specs.Lanes.{is_occupancy}
 use Rattle.pm_plan.specs.Notes.{Note, Valued, Looked, noted, AreNotes}
 use Rattle.pm_undo.specs.Working.{IsWorking}
 use Rattle.pm_plan.proofs.AreaParts.{OfChunk, data_part}
 use Rattle.pm_plan.proofs.Notes as notes
 use Rattle.pm_call.specs.At.{IsAt}
-use Rattle.pm_call.specs.Held.{IsObjectWord, Looks, LooksAt, SizesFit}
+use Rattle.pm_world.specs.InWorld.{SizesFit}
+use Rattle.pm_call.specs.Held.{IsObjectWord, Looks, LooksAt}
 use Rattle.pm_call.proofs.Frames.{header_so, noting}
 use Rattle.pm_call.proofs.KnownObjects.{fresh_is, size_word, word_number}
 use Rattle.pm_call.proofs.Noting.{Keeps, bytes_so, data_so, found_so, noted_at, object_word_so, place_so, standing_so}

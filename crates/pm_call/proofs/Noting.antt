@@ -13,7 +13,7 @@ use Rattle.pm_view.specs.Log.{Log, Recorded, place_at}
 use Rattle.pm_view.specs.Places.{Place, Block, Small, Big, in_span, place_after, word_of}
 use Rattle.pm_view.specs.View.{View, Told}
 use Rattle.pm_view.specs.Views.{value_in}
-use Rattle.pm_world.specs.InWorld.{IsSound}
+use Rattle.pm_world.specs.InWorld.{IsSound, SizesFit, block_bytes}
 use Rattle.pm_world.specs.LaneFields.{Standing, moved}
 use Rattle.pm_world.specs.Sights.{is_recorded}
 use Rattle.pm_world.specs.declared.lane.HeldLock.{HeldLock}
@@ -22,12 +22,11 @@ use Rattle.pm_crash.specs.Looked.{KnowsSize, size_seen, word_place, words_in}
 use Rattle.pm_crash.specs.SimFacts.{is_begun}
 use Rattle.pm_crash.specs.Sim.{SameBits, Sim, lists_of, sees_at}
 use Rattle.pm_crash.proofs.Simulation.{sim_stays}
-use Rattle.pm_undo.specs.Ranges.{block_bytes}
 use Rattle.pm_plan.specs.Notes.{Note, noted, AreNotes}
 use Rattle.pm_undo.specs.Working.{IsStanding, IsWorking}
 use Rattle.pm_plan.proofs.Notes as notes
 use Rattle.pm_call.specs.At.{AreLists, IsAt, IsDataOf, MaySet, entries_so_far}
-use Rattle.pm_call.specs.Held.{AreHeld, HasObject, IsHeld, IsObjectWord, SizesFit, has_line, line_of}
+use Rattle.pm_call.specs.Held.{AreHeld, HasObject, IsHeld, IsObjectWord, has_line, line_of}
 use Rattle.pm_call.proofs.KnownObjects.{size_known}
 use Rattle.pm_call.proofs.Frames.{header_so, noting, noting_grows}
 

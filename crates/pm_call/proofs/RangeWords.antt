@@ -9,11 +9,11 @@ use Rattle.pm_view.specs.Founds.{knows}
 use Rattle.pm_view.specs.Places.{Block, Small, Big, Root, word_of}
 use Rattle.pm_view.specs.View.{View}
 use Rattle.pm_view.specs.Views.{value_in}
+use Rattle.pm_world.specs.InWorld.{block_bytes}
 use Rattle.pm_world.specs.LaneFields.{Standing}
 use Rattle.pm_crash.specs.Looked.{KnowsRange, KnowsSize, word_place, words_in}
 use Rattle.pm_crash.proofs.Covered.{covered_has_byte}
 use Rattle.pm_plan.specs.Plans.{known_word}
-use Rattle.pm_undo.specs.Ranges.{block_bytes}
 use Rattle.pm_call.specs.At.{At}
 use Rattle.pm_call.specs.Held.{HasObject, IsObjectWord, has_line, line_of}
 use Rattle.pm_call.specs.Ranges.{HasRange, KnowsWords}

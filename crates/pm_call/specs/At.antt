@@ -13,7 +13,7 @@ use Rattle.pm_view.specs.Places.{Place, word_of}
 use Rattle.pm_view.specs.Steps.Step.{NumberSeen}
 use Rattle.pm_view.specs.View.{View}
 use Rattle.pm_view.specs.Views.{value_in}
-use Rattle.pm_world.specs.InWorld.{IsSound}
+use Rattle.pm_world.specs.InWorld.{IsSound, SizesFit}
 use Rattle.pm_world.specs.LaneFields.{Standing}
 use Rattle.pm_world.specs.Sights.{is_recorded}
 use Rattle.pm_crash.specs.Facts.{HaveFacts}
@@ -24,7 +24,7 @@ use Rattle.pm_crash.specs.SimFacts.{is_begun}
 use Rattle.pm_undo.specs.Records.{kept_by}
 use Rattle.pm_undo.specs.Spans as spans
 use Rattle.pm_undo.specs.Working.{IsWorking}
-use Rattle.pm_call.specs.Held.{AreHeld, SizesFit, is_in_locks}
+use Rattle.pm_call.specs.Held.{AreHeld, is_in_locks}
 
 -- the entries of the blocks that the call made and freed so far: none, as long as no call of a transaction makes or frees a block
 abbrev pub entries_so_far : Standing → List Entry

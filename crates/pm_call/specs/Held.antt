@@ -6,13 +6,13 @@ use Rattle.pm_view.specs.Founds.{FindsKnown}
 use Rattle.pm_view.specs.Places.{Block, word_of}
 use Rattle.pm_view.specs.Steps.Step.{Load}
 use Rattle.pm_view.specs.View.{View}
-use Rattle.pm_view.specs.Views.{after, value_in}
+use Rattle.pm_view.specs.Views.{after}
+use Rattle.pm_world.specs.InWorld.{block_bytes}
 use Rattle.pm_world.specs.Lanes.{is_occupancy}
 use Rattle.pm_world.specs.declared.lane.HeldLock.{HeldLock}
 use Rattle.pm_crash.specs.Footprints.{has_found}
 use Rattle.pm_crash.specs.Looked.{word_place, words_in}
 use Rattle.pm_lock.specs.Holding.{IsHeldAs}
-use Rattle.pm_undo.specs.Ranges.{block_bytes}
 
 -- ---- the list of locks
 
@@ -53,11 +53,6 @@ pub record IsObjectWord (v : View) (B : Block) (k : ℕ) : Type 0 where
   pub inside : is_occupancy v.fixed.shape B ≡ true
   pub within : k < words_in v B
   pub kind : (k ≡ 1) ⊎ (8 ≤ k)
-
--- each object whose size the lane knows fits its block
-abbrev pub SizesFit : View → Type 0
-SizesFit v = (B : Block) (x : ℕ) → has_found v B ≡ true → is_occupancy v.fixed.shape B ≡ true → value_in v (8 * header_in v.fixed.shape v.claims B + 1) ≡ Some x
-    → 64 + x ≤ block_bytes v B
 
 -- A LOOK at such a word: what is found is what the lane knows of it, where it knows it; and a size fits the block
 pub record LooksAt (v next : View) : Type 0 where

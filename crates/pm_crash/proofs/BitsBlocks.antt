@@ -20,7 +20,7 @@ use Rattle.pm_crash.proofs.Classes.{chunks_of_class, class_of_chunks, lines_of_c
 use Rattle.pm_crash.proofs.EmptyRuns.{class_of_run}
 use Rattle.pm_crash.proofs.Numbers.{number_bit, number_high}
 use Rattle.pm_crash.proofs.Spelling.{chunk_spelled, descriptor_spelled, with_block}
-use Rattle.pm_crash.proofs.Standing.{block_stands, standing_is_block, IsChunkBlock, IsRunBlock}
+use Rattle.pm_world.proofs.Standing.{block_stands, standing_is_block, IsChunkBlock, IsRunBlock}
 
 module _ (sh : Shape) (class : ℕ → ℕ) (s : State) where
   abbrev w : ℕ → ℕ

@@ -41,7 +41,7 @@ use Rattle.pm_crash.proofs.ImageDescriptors.{outcome}
 use Rattle.pm_crash.proofs.KeptBits as kept
 use Rattle.pm_crash.proofs.SmallWords.{recovered_small, survives_small}
 use Rattle.pm_crash.proofs.Spelling.{chunk_is, chunk_spelled, descriptor_is, descriptor_spelled, no_block, number_is, number_zero, root_spelled, same_number, some_block}
-use Rattle.pm_crash.proofs.Standing.{block_stands, IsChunkBlock, IsRunBlock}
+use Rattle.pm_world.proofs.Standing.{block_stands, IsChunkBlock, IsRunBlock}
 
 -- what a test says of a number
 told_so : (t : Bool) (y n : ℕ) → cond t y 0 ≡ n → 1 ≤ n → (t ≡ true) × (y ≡ n)

@@ -1,5 +1,3 @@
-pub mod Includes
-pub mod Standing
 pub mod Classes
 pub mod HeldAlike
 pub mod EmptyRuns

@@ -28,7 +28,7 @@ use Rattle.pm_crash.proofs.Classes.{chunks_of_class, lines_of_class}
 use Rattle.pm_crash.proofs.EmptyRuns.{HasZerosBehind, IsAlike, nothing_free, nothing_in_run, same_heap}
 use Rattle.pm_crash.proofs.HeldAlike.{held_alike}
 use Rattle.pm_crash.proofs.Spelling.{chunk_is, chunk_spelled, descriptor_is, descriptor_spelled, no_block, number_is, number_zero, root_spelled, some_block}
-use Rattle.pm_crash.proofs.Standing.{block_stands, IsChunkBlock, IsRunBlock}
+use Rattle.pm_world.proofs.Standing.{block_stands, IsChunkBlock, IsRunBlock}
 
 -- each member of a list that passes as a whole
 pub all_member : (p : ℕ → Bool) (xs : List ℕ) (x : ℕ) → list_all p xs ≡ true → Contains xs x → p x ≡ true

@@ -13,8 +13,10 @@ use Rattle.pm_world.specs.Laws.{Turn}
 use Rattle.pm_world.specs.Lawful.{IsLawful}
 use Rattle.pm_world.specs.Memory.{Memory}
 use Rattle.pm_world.specs.Moves.{Moves}
+use Rattle.pm_world.specs.Sizes.{ObjectsFit}
 use Rattle.pm_world.specs.World.{Opening, Views, Past, World}
 use Rattle.pm_world.proofs.EveryStep.{every_step}
+use Rattle.pm_world.proofs.SizesKept as sizes
 use Rattle.pm_shared.specs.Placing.{table_size, memory_of}
 use Rattle.pm_shared.specs.Rule.{Knowledge, Pool, Lane, Spent, Bound, BoundFits, Owned, SeatFits, Sound, Ruled, Made}
 use Rattle.pm_shared.proofs.Bounds.{bound_kept}
@@ -34,6 +36,7 @@ pub record Before (o : Opening) (words : List ℕ) (v : View) (b : Option Bound)
   pub past : Past
   pub size : length words ≡ table_size o.shape
   pub world : World o (memory_of o.shape words) views past
+  pub sizes : ObjectsFit o past
   pub sound : Sound o (memory_of o.shape words) views
   pub inside : v.fixed.lane < o.lanes
   pub view : views v.fixed.lane ≡ v
@@ -63,7 +66,7 @@ allows o id v b i f step lawful moves st r _ here fits =
     let s : Step = step x in let v' : View = after v s in let views' : Views = views_with r.views k v' in let same : v'.fixed ≡ v.fixed = fixed-after v s in let lane' : v'.fixed.lane ≡ k = ap (λ (c : Constants). c.lane) same in
     let old : Memory = memory_of o.shape words in let new : Memory = memory_of o.shape words' in
     let law : IsLawful (r.views k) s = subst (λ w. IsLawful w s) (sym own.view) (lawful x) in
-    let move : Moves k s old new = moves words (record { views = r.views; past = r.past; size = r.size; world = r.world; sound = r.sound; inside = own.inside; view = own.view; bound = fit.1 }) fits in
+    let move : Moves k s old new = moves words (record { views = r.views; past = r.past; size = r.size; world = r.world; sizes = r.sizes; sound = r.sound; inside = own.inside; view = own.view; bound = fit.1 }) fits in
     let turn : Turn r.views views' k (after (r.views k) s) = subst (λ w. Turn r.views views' k (after w s)) (sym own.view) (views_turn r.views k v') in
     let got = every_step s o old new r.views views' r.past k r.world own.inside law move turn in
     let mine : SeatFits o new views' r.owner id (Lane v' None) = (
@@ -83,6 +86,7 @@ allows o id v b i f step lawful moves st r _ here fits =
         past = past_after r.past (r.views k) s;
         size = length-set words i (f x) ∙ r.size;
         world = got.0;
+        sizes = sizes.keeps s o old new r.views r.past k r.world own.inside law move r.sizes;
         sound = sound_kept o old r.views r.past r.world k own.inside new views' s r.sound law move turn;
         seats = λ j w q. ⊎_elim (λ (t : (j ≡ id) × (Lane v' None ≡ w)). let Q : ℕ → Knowledge → Type 0 = λ j w. SeatFits o new views' r.owner j w in subst (Q j) t.1 (subst (λ z. Q z (Lane v' None)) (sym t.0) mine))
             (λ (t : (j ≢ id) × (get_elem? st.views j ≡ some w)). seat_kept o old new r.views r.owner k v' id j own.owner_is t.0

@@ -172,6 +172,7 @@ module _ (b : Beginning) (can : CanBegin b) where
     past = world.0;
     size = all_long;
     world = world.1;
+    sizes = world.3;
     sound = sound;
     seats = first_seat;
   }

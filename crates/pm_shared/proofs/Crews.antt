@@ -53,6 +53,7 @@ module _ (o : Opening) where
         past = r.past;
         size = r.size;
         world = r.world;
+        sizes = r.sizes;
         sound = r.sound;
         seats = λ j w e. ⊎_elim
             (λ (before : get_elem? (set s.views id (Pool vs)) j ≡ some w). ⊎_elim
@@ -84,6 +85,7 @@ module _ (o : Opening) where
         past = r.past;
         size = r.size;
         world = r.world;
+        sizes = r.sizes;
         sound = r.sound;
         seats = λ j w e. ⊎_elim
             (λ (t : (j ≡ other) × (Spent ≡ w)). subst (SeatFits o mem r.views owner' j) t.1 tt)

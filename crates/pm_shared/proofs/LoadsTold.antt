@@ -36,6 +36,7 @@ module _ (m : SharedMem) (lane : ℕ) (me : Me ℕ Knowledge) (id i w : ℕ) (as
           inside = subst (λ z. place z (PoolWord w) < table_size z) (sym same) (below_place m.shape (PoolWord w) inside);
           size = B.size;
         });
+        sizes = B.sizes;
       })
 
   pub loads_asked : TableAllows m.table.shared.key id me i (λ n. n) (tells (λ v st r. Load st.word r) (step 0 i 0 0 none) me) → TableAllows m.table.shared.key id me i (λ n. n) (loads (step 0 i 0 0 none) me)

@@ -40,7 +40,7 @@ words_same l i x e = ap (set l i) e ∙ set_same l i
 
 -- a seat's lane, in a state that meets the rule
 pub before : (o : Opening) (s : State ℕ Knowledge) (r : Ruled o s) (id : ℕ) (v : View) (b : Option Bound) → get_elem? s.views id ≡ some (Lane v b) → Before o s.words v b
-before o s r id v b here = let fit = r.seats id (Lane v b) here in record { views = r.views; past = r.past; size = r.size; world = r.world; sound = r.sound; inside = fit.0.inside; view = fit.0.view; bound = fit.1 }
+before o s r id v b here = let fit = r.seats id (Lane v b) here in record { views = r.views; past = r.past; size = r.size; world = r.world; sizes = r.sizes; sound = r.sound; inside = fit.0.inside; view = fit.0.view; bound = fit.1 }
 
 -- ---- HOW THE LANE HOLDS A LINE
 module _ (m : SharedMem) (lane : ℕ) (me : Me ℕ Knowledge) (line i : ℕ) (ask : SeatAsks m.shape lane me (λ r. Give line)) (few : lane < m.shape.lanes) (inside : line < words_of m.shape / 8) (is : i ≡ place m.shape (LockWord line)) where
@@ -167,6 +167,7 @@ module _ (m : SharedMem) (lane : ℕ) (me : Me ℕ Knowledge) (zone bits i : ℕ
           past = r.past;
           size = ap length kept ∙ r.size;
           world = subst (λ ws. Rattle.pm_world.specs.World.World o (memory_of o.shape ws) r.views r.past) (sym kept) r.world;
+          sizes = r.sizes;
           sound = subst (λ ws. Rattle.pm_shared.specs.Rule.Sound o (memory_of o.shape ws) r.views) (sym kept) r.sound;
           seats = λ j w q. subst (λ ws. SeatFits o (memory_of o.shape ws) r.views r.owner j w) (sym kept) (⊎_elim
               (λ (t : (j ≡ id) × (Lane ask.view (Some b) ≡ w)). subst (λ z. SeatFits o (memory_of o.shape s.words) r.views r.owner z w) (sym t.0) (subst (SeatFits o (memory_of o.shape s.words) r.views r.owner id) t.1 mine))

@@ -16,6 +16,7 @@ use Rattle.pm_view.specs.View.{View}
 use Rattle.pm_view.specs.Views.{after}
 use Rattle.pm_world.specs.Lawful.{IsLawful}
 use Rattle.pm_world.specs.Memory.{Memory, PoolWord, ZoneWord, bit}
+use Rattle.pm_world.specs.Sizes.{ObjectsFit}
 use Rattle.pm_world.specs.World.{Opening, Views, Past, World}
 use Rattle.pm_shared.specs.Placing.{table_size, memory_of}
 
@@ -80,6 +81,7 @@ pub record Ruled (o : Opening) (s : State ℕ Knowledge) : Type 0 where
   pub past : Past
   pub size : length s.words ≡ table_size o.shape
   pub world : World o (memory_of o.shape s.words) views past
+  pub sizes : ObjectsFit o past
   pub sound : Sound o (memory_of o.shape s.words) views
   pub seats : (id : ℕ) (w : Knowledge) → get_elem? s.views id ≡ some w → SeatFits o (memory_of o.shape s.words) views owner id w
 

@@ -8,7 +8,8 @@ use Rattle.pm_view.specs.Places.{Block, Small, Big, Root, in_span}
 use Rattle.pm_view.specs.View.{View, Constants}
 use Rattle.pm_world.specs.InWorld.{IsSound}
 use Rattle.pm_world.specs.LaneFields.{fields_at, moved, listed, last_number}
-use Rattle.pm_undo.specs.Ranges.{HoldingsStay, StaysBetween, HoldsObject, block_bytes, header_of}
+use Rattle.pm_world.specs.InWorld.{block_bytes}
+use Rattle.pm_undo.specs.Ranges.{HoldingsStay, StaysBetween, HoldsObject, header_of}
 use Rattle.pm_undo.specs.Records.{with_log}
 use Rattle.pm_plan.specs.Notes.{Note, Valued, DrainedTo, Looked, claim_of, noted}
 use Rattle.pm_plan.proofs.Notes.{class_same, first_same, found_same, mine_same}

@@ -18,7 +18,7 @@ use Rattle.pm_view.specs.Log.{Recorded, old_in, old_of}
 use Rattle.pm_view.specs.Parts.{chunk_place, place_in as place_by}
 use Rattle.pm_view.specs.Places.{Place, InRun, InHuge, RootWord, Block, Small, Big, Root, is_data, is_place, place_after, word_of}
 use Rattle.pm_view.specs.View.{View}
-use Rattle.pm_world.specs.InWorld.{IsSound}
+use Rattle.pm_world.specs.InWorld.{IsSound, block_bytes}
 use Rattle.pm_world.specs.LaneFields.{kept_of}
 use Rattle.pm_world.specs.Lanes.{is_occupancy}
 use Rattle.pm_world.specs.Lawful.{CanRecord, CanRecordAt, MayChangeAt, is_guarded, is_here, offset_in, place_in, size_in}
@@ -28,7 +28,7 @@ use Rattle.pm_world.specs.States.{given}
 use Rattle.pm_world.proofs.Basics.{given_cases}
 use Rattle.pm_world.proofs.WordPlaces.{chunk_part}
 use Rattle.pm_plan.specs.Plans.{known_word}
-use Rattle.pm_undo.specs.Ranges.{HoldsObject, IsInObject, KnowsNew, RangesMayBeSnapshot, block_bytes, header_of}
+use Rattle.pm_undo.specs.Ranges.{HoldsObject, IsInObject, KnowsNew, RangesMayBeSnapshot, header_of}
 use Rattle.pm_undo.specs.Records.{kept_by, recorded_in}
 use Rattle.pm_undo.specs.Spans.{words_in}
 use Rattle.pm_undo.specs.Undoing.{needed}

@@ -10,7 +10,7 @@ use Rattle.pm_view.specs.Founds.{knows}
 use Rattle.pm_view.specs.Log.{Log}
 use Rattle.pm_view.specs.Places.{Block, Small, Big, Root}
 use Rattle.pm_view.specs.View.{View}
-use Rattle.pm_world.specs.InWorld.{IsSound}
+use Rattle.pm_world.specs.InWorld.{IsSound, block_bytes}
 use Rattle.pm_world.specs.LaneFields.{IsSeenAs, Standing, fields_at, moved}
 use Rattle.pm_world.specs.Lanes.{is_occupancy}
 use Rattle.pm_world.specs.Lawful.{is_here}
@@ -27,12 +27,6 @@ header_of v B = header_in v.fixed.shape v.claims B
 
 abbrev pub object_at : View → Block → ℕ
 object_at v B = 64 * header_of v B + 64
-
--- how many bytes a block has, its header with them, as the lane knows
-abbrev pub block_bytes : View → Block → ℕ
-block_bytes v (Small c i) = 64 * class v.claims c
-block_bytes v (Big f) = 4096 * span v.fixed.shape v.claims f
-block_bytes v Root = 0
 
 -- AN OBJECT UNDER ITS WRITE LOCK: the lane found its block, which has room for the size that it
 -- knows

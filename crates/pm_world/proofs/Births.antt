@@ -53,7 +53,7 @@ first_known sh cells S flies g k v f c o = f.hold.first c o
 module _ (sh : Shape) (cells : Cells) (S : State) (flies : ℕ → Diff → Type 0) (g : Ghost) (geo : GeoFits sh S g) (k : ℕ) (v : View) (f : SightFits sh cells S flies g k (sight_of v))
     (new : (B : Block) → turn (latest (redos v.log.entries)) B ≡ Some true → NewBlock v B) where
   -- what was stored in a block that the call allocates is in its difference
-  stored_at : (p : Place) (b : ℕ) → is_data p ≡ true → is_pictured p ≡ true → turn (latest (redos v.log.entries)) (block_of (geometry v.fixed.shape v.claims) p b) ≡ Some true → (x : ℕ) → value_in v (word_of v.fixed.shape p) ≡ Some x → (call_in v).fresh p b ≡ Some (bit x b)
+  pub stored_at : (p : Place) (b : ℕ) → is_data p ≡ true → is_pictured p ≡ true → turn (latest (redos v.log.entries)) (block_of (geometry v.fixed.shape v.claims) p b) ≡ Some true → (x : ℕ) → value_in v (word_of v.fixed.shape p) ≡ Some x → (call_in v).fresh p b ≡ Some (bit x b)
   stored_at p b d r t x e = let made = is_made (turn (latest (redos v.log.entries)) (block_of (geometry v.fixed.shape v.claims) p b)) in let rec = is_recorded v.log.records p in
       let seen = option_map (λ y. bit y b) (value_in v (word_of v.fixed.shape p)) in
       cond-true (is_data p && (made || rec)) (cond (is_pictured p) seen None) None (and_from (is_data p) (made || rec) d (or_left made rec (ap is_made t)))

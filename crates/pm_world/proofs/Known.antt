@@ -67,7 +67,7 @@ module _ (o : Opening) (mem : Memory) (views : Views) (g : Past) (x : World o me
   in_pool (Descr c) b t i = absurd (both_ways false refl t)
   in_pool RootWord b t i = refl
 
-  place_so : (p : Place) (w y : ℕ) → is_pictured p ≡ true → is_place o.shape p ≡ true → word_of (views k).fixed.shape p ≡ w
+  pub place_so : (p : Place) (w y : ℕ) → is_pictured p ≡ true → is_place o.shape p ≡ true → word_of (views k).fixed.shape p ≡ w
       → ((b : ℕ) → (owns g.geo (settled_words o g) (sight_of (views k)).hold p b ≡ true) ⊎ (sees g.geo (settled_words o g) (sight_of (views k)).hold p b ≡ true))
       → pictured (views k).fixed.shape (views k).claims w ≡ Some y → mem (PoolWord w) ≡ y
   place_so p w y t i at u e = let here = ap (λ s. word_of s p) (sym shape_is) ∙ at in

@@ -77,9 +77,14 @@ pub mod OpenWords
 pub mod OpenChunks
 pub mod OpenGeometry
 pub mod OpenTaken
+pub mod Includes
+pub mod Standing
+pub mod OpenSizes
 pub mod OpenFaults
 pub mod Reopens
 pub mod EveryStep
+pub mod SizesKept
+pub mod SizesSeen
 pub mod Histories
 pub mod BlockLines
 pub mod WrongSteps

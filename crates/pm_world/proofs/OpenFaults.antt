@@ -22,9 +22,10 @@ use Rattle.pm_image.proofs.HeapWords.{chunks_fit}
 use Rattle.pm_image.proofs.Members.{range_member}
 use Rattle.pm_image.proofs.Ordered.{further_zeros}
 use Rattle.pm_view.specs.Places.{InRun, word_of}
-use Rattle.pm_world.specs.Opens.{IsRetired, Opens, descriptor}
+use Rattle.pm_world.specs.Opens.{IsRetired, Opens, descriptor, idle_views}
 use Rattle.pm_world.specs.World.{Opening}
 use Rattle.pm_world.proofs.ImageLogs.{slice_eight}
+use Rattle.pm_world.proofs.OpenSizes.{open_fits}
 use Rattle.pm_world.proofs.OpenTaken.{opens_taken}
 use Rattle.pm_world.proofs.OpenWords.{InTable, IsRunIn, IsHugeIn}
 
@@ -143,6 +144,7 @@ module _ (o : Opening)
 pub opens : Opens
 opens o mem fixed generation x none occ =
     opens_taken o mem fixed generation x (in_table o none) occ
+    (open_fits o (idle_views fixed generation) x.small (in_table o none) none)
 
 -- ---- logs: one that is not sealed, of a generation that counts, whose slots with a true sum are
 -- of earlier ones, is retired at its generation

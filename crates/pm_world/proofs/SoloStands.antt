@@ -17,10 +17,13 @@ use Rattle.pm_world.specs.Course.{past_after}
 use Rattle.pm_world.specs.Histories.{was_after, ghosts_after}
 use Rattle.pm_world.specs.Lawful.{IsLawful}
 use Rattle.pm_world.specs.Laws.{Turn}
+use Rattle.pm_world.specs.Solo.{meets_solo}
 use Rattle.pm_world.specs.SoloLanes.{OpenedStarts, OpenedStands, StandsAfter, StandingSurvives}
 use Rattle.pm_world.specs.SoloWorld.{memory_of}
 use Rattle.pm_world.specs.World.{Views, ghost_of}
 use Rattle.pm_world.proofs.Histories as histories
+use Rattle.pm_world.proofs.SizesKept as sizes
+use Rattle.pm_world.proofs.SoloMoves.{calls_move}
 use Rattle.pm_world.proofs.SoloWorlds.{calls_keep_worlds, calls_keep_forms, survivors_are}
 
 -- lane 0's view becomes v
@@ -43,6 +46,7 @@ stands_after s o old new v st lawful is sees =
       ghosts = ghosts_after st.past s st.ghosts;
       here = ap (λ (w : View). after w s) st.here;
       world = calls_keep_worlds s o old new st.views next st.past st.world seen ok is (turned st.views (after (st.views 0) s));
+      sizes = sizes.keeps s o (memory_of old) (memory_of new) st.views st.past 0 st.world some ok (calls_move s old new (meets_solo old (st.views 0) s seen ok.allowed) is) st.sizes;
       history = histories.goes_on s o (memory_of old) st.views st.past 0 st.world some ok st.was st.ghosts st.history;
       sees = sees;
       formed = calls_keep_forms s o old new st.views st.past st.world ok is st.formed;
@@ -79,6 +83,7 @@ opened_stands o fixed generation runs zones first one shape pages count opens = 
   ghosts = λ n. ghost_of opens.0;
   here = refl;
   world = opens.1;
+  sizes = opens.3;
   history = histories.begins o opens.0 (λ n p b. false) (λ n. ghost_of opens.0) opens.2;
   sees = sees_opened_with o.words runs zones (fixed 0) (generation 0) first one (opens.1.size ∙ ap words_of (sym shape)) pages count;
   formed = All-nil IsFormed;

@@ -97,4 +97,5 @@ in_world m v w x st inside found = let some : 0 < st.0.lanes = let l = st.1.worl
   here = ap st.1.views st.1.sees.fixed.lane ∙ st.1.here;
   inside = inside;
   word = sym found;
+  sizes = st.1.sizes;
 }

@@ -290,6 +290,16 @@ module _ (o : Opening) (mem new : Memory) (views views' : Views) (g : Past) (x :
       not_both : (views k).log.records ≡ [] → (views k).log.entries ≡ [] → phase_drawn g.length (views k).log.records (views k).log.entries ≡ Drawn g.length → ⊥
       not_both er ee q = both_ways true (ap is_idle (sym (ap (λ r. phase_drawn g.length r (views k).log.entries) er ∙ ap (λ n. phase_drawn g.length [] n) ee) ∙ q)) refl
 
+  -- it settles nothing: the call is not decided, or makes nothing final
+  pub drawn_settled : settled_words o (past_drawn g (views k)) ≡ settled_words o g
+  drawn_settled = ⊎_elim (λ (e : ((views k).log.records ≡ []) × ((views k).log.entries ≡ [])).
+      let idle_now : phase_drawn g.length (views k).log.records (views k).log.entries ≡ Idle = ap (λ r. phase_drawn g.length r (views k).log.entries) e.0 ∙ ap (λ n. phase_drawn g.length [] n) e.1 in
+      settled_same o.shape o.lanes (origin o) (cells_of o.shape mem) (λ j. sight_of (views j)) (ghost_of g) x.bits k ink true (ghost_of (past_drawn g (views k))).log (ghost_of (past_drawn g (views k))).who (ghost_of (past_drawn g (views k))).decided (longer_by true (ap is_idle idle_now))
+      (λ p b. inr (nothing (views k).log.records (views k).log.entries e.0 e.1 p b)))
+      (λ (e : (n : ℕ) → phase_drawn n (views k).log.records (views k).log.entries ≡ Drawn n).
+      settled_same o.shape o.lanes (origin o) (cells_of o.shape mem) (λ j. sight_of (views j)) (ghost_of g) x.bits k ink false (ghost_of (past_drawn g (views k))).log (ghost_of (past_drawn g (views k))).who (ghost_of (past_drawn g (views k))).decided (longer_by false (ap is_idle (e g.length)))
+      (λ p b. inl refl)) (drawn_cases (views k).log.records (views k).log.entries)
+
 -- THE DRAW OF A NUMBER KEEPS THE WORLD
 pub draw : (n : ℕ) → Keeps (Draw n)
 draw n o mem new views views' g k x ink law moves t = let a = law.allowed in let f = x.each_lane k ink in let e : n ≡ g.length = moves.1 ∙ x.bits.counter in (

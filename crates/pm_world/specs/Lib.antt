@@ -9,6 +9,7 @@ pub mod Lawful
 pub mod Course
 pub mod Crash
 pub mod Laws
+pub mod Sizes
 pub mod Histories
 pub mod Opens
 pub mod BlockLines

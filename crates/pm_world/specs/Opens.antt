@@ -22,6 +22,7 @@ use Rattle.pm_world.specs.Lanes.{is_occupancy}
 use Rattle.pm_world.specs.Logs.{slot_list}
 use Rattle.pm_world.specs.Memory.{Memory, bit, cells_of}
 use Rattle.pm_world.specs.Memory.{PoolWord, LockWord, ZoneLock, CommitCounter, StopWord}
+use Rattle.pm_world.specs.Sizes.{ObjectsFit}
 use Rattle.pm_world.specs.World.{Opening, Views, Past, World}
 
 -- the lane's log is retired at this generation: no seal, and no slot has a record of it, or of one
@@ -84,10 +85,11 @@ abbrev pub IsTaken : Opening → Memory → Type 0
 IsTaken o mem =
     (a : Block) → is_occupancy o.shape a ≡ true → (cells_of o.shape mem).occ a ≡ takes o a
 
--- a world of lanes that were asked nothing, for some ghosts; its history is empty
+-- a world of lanes that were asked nothing, for some ghosts; its history is empty, and each object
+-- fits its block
 abbrev pub OpensIdle : Opening → Memory → (ℕ → Constants) → (ℕ → ℕ) → Type 0
 OpensIdle o mem fixed generation =
-    (g : Past) × World o mem (idle_views fixed generation) g × (g.length ≡ 0)
+    (g : Past) × World o mem (idle_views fixed generation) g × (g.length ≡ 0) × ObjectsFit o g
 
 -- THE OPENING LAW: a world opens
 abbrev pub Opens : Type 0

@@ -12,6 +12,7 @@ use Rattle.pm_world.specs.Lanes.{Ghost}
 use Rattle.pm_world.specs.Lawful.{IsLawful}
 use Rattle.pm_world.specs.Laws.{History}
 use Rattle.pm_world.specs.Opens.{IsStart, OpensIdle}
+use Rattle.pm_world.specs.Sizes.{ObjectsFit}
 use Rattle.pm_world.specs.SoloWorld.{memory_of}
 use Rattle.pm_world.specs.States.{State}
 use Rattle.pm_world.specs.World.{Opening, Views, Past, World}
@@ -25,6 +26,7 @@ pub record Stands (o : Opening) (m : Solo) (v : View) : Type 0 where
   pub ghosts : ℕ → Ghost
   pub here : views 0 ≡ v
   pub world : World o (memory_of m) views past
+  pub sizes : ObjectsFit o past
   pub history : History o past was ghosts
   pub sees : Sees m v
   pub formed : All IsFormed m.changes

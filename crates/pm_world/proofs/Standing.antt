@@ -9,7 +9,7 @@ use Rattle.pm_layout.specs.declared.class.Class.TheVariants.{Lines, Chunks}
 use Rattle.pm_image.specs.declared.block.Block.{Block}
 use Rattle.pm_image.specs.Blocks.{descriptor_word, chunk_word, class_in, run_blocks, blocks_in, chunk_blocks, blocks}
 use Rattle.pm_image.proofs.Members.{first_member, in_range, member_kept, member_made, member_of_part, no_member, only_member, range_member}
-use Rattle.pm_crash.proofs.Includes.{kept_member, kept_passes, made_member, part_member}
+use Rattle.pm_world.proofs.Includes.{kept_member, kept_passes, made_member, part_member}
 
 -- block i of a run at a chunk
 abbrev run_block : ℕ → ℕ → ℕ → ℕ → Block

@@ -1,0 +1,9 @@
+use Rattle.pm_world.proofs.SizesKept.{keeps}
+use Rattle.pm_world.proofs.SizesSeen.{sizes_seen}
+use Rattle.pm_world.proofs.sizes.objects_fit_their_blocks.Goals as goal
+
+pub returns-clause-keeps : goal.returns-clause-keeps
+returns-clause-keeps c = keeps
+
+pub returns-clause-seen : goal.returns-clause-seen
+returns-clause-seen c = sizes_seen
