@@ -1,1 +1,5 @@
 pub mod Frames
+pub mod RecordedWords
+pub mod TakenBack
+pub mod Ending
+pub mod RolledBack
