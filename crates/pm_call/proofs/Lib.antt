@@ -3,3 +3,4 @@ pub mod RecordedWords
 pub mod TakenBack
 pub mod Ending
 pub mod RolledBack
+pub mod GivingUp
