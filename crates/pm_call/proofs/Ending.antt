@@ -1,17 +1,15 @@
 -- Which operations end a transaction, by its lists: a refusal of one at work leaves a trace, and an abort of it is not refused.
-use Rattle.std.proofs.Common.{◌≡◌, ℕ, suc, ◌+◌, ◌<◌, ◌≤◌, ◌==◌, ◌&&◌, nat_le, Bool, true, false, cond, not, List, [], ◌∷◌, ◌++◌, refl, sym, ap, ◌∙◌, subst, arith, Option, None, Some}
+use Rattle.std.proofs.Common.{◌≡◌, ℕ, ◌≤◌, ◌==◌, ◌&&◌, nat_le, Bool, true, false, not, List, [], ◌∷◌, ◌++◌, refl, sym, ap, ◌∙◌, arith, None, Some}
 use Rattle.std.proofs.lemmas.Bool.{and_left, and_right, both_ways, cond-true, cond-false, ne_eqb}
-use Rattle.pm_model.specs.Inside.{Ran, is_action, is_untraced}
-use Rattle.pm_model.specs.Refusals.{Seen, Test, first_of, refusal_of, stage_tests, tests}
-use Rattle.pm_model.specs.Shown.{aborts, is_abort}
+use Rattle.pm_model.specs.Inside.{is_untraced}
+use Rattle.pm_model.specs.Refusals.{Seen, Test, first_of, refusal_of, tests}
 use Rattle.pm_model.specs.Transaction.{Transaction, is_working}
 use Rattle.pm_objects.specs.declared.calls.Operation.{Operation}
 use Rattle.pm_objects.specs.declared.calls.Operation.TheVariants.{Begin, Lock, AddRange, Write, Read, Increment, Alloc, Free, Reserve, WriteReserved, DeferFree, SetValue, Publish, Commit, Abort}
-use Rattle.pm_objects.specs.declared.history.Value.{Value}
 use Rattle.pm_objects.specs.declared.history.Value.TheVariants.{Refused}
 use Rattle.pm_objects.specs.declared.refusal.Refusal.{Refusal}
 use Rattle.pm_view.specs.View.{Told}
-use Rattle.pm_view.specs.Views.{actions_told, published_told}
+use Rattle.pm_view.specs.Views.{actions_told}
 use Rattle.pm_crash.specs.SimFacts.{is_begun}
 
 -- ---- the first refusal of tests that leave a trace where they apply

@@ -1,26 +1,23 @@
 -- A LANE AT WORK MAY GIVE ITS TRANSACTION UP, whatever number it takes; and the call is over then.
-use Rattle.std.proofs.Common.{◌≡◌, ◌≢◌, ℕ, suc, ◌+◌, ◌*◌, ◌/◌, ◌%◌, ◌<◌, ◌≤◌, ◌⊎◌, inl, inr, ⊎_elim, Bool, true, false, ◌&&◌, ◌||◌, not, Contains, rules, List, [], ◌∷◌, ◌++◌, refl, sym, ap, ◌∙◌, subst, arith, Option, None, Some}
+use Rattle.std.proofs.Common.{◌≡◌, ◌≢◌, ℕ, ◌*◌, ◌<◌, ◌≤◌, inl, inr, ⊎_elim, true, false, ◌&&◌, not, Contains, rules, List, [], ◌∷◌, ◌++◌, refl, sym, ap, ◌∙◌, subst, arith, Option, None, Some}
 use Rattle.std.proofs.lemmas.Bool.{and_from, both_ways, or_left, or_right}
 use Rattle.std.proofs.lemmas.List.Elements.{All-nil}
 use Rattle.pm_layout.specs.Areas.{word_of_generation, word_of_seal}
-use Rattle.pm_model.specs.Inside.{Ran, is_action, is_inside, is_kept_by, is_refusal}
+use Rattle.pm_model.specs.Inside.{Ran, is_action, is_refusal}
 use Rattle.pm_model.specs.Shown.{aborts, is_abort}
-use Rattle.pm_model.specs.Transaction.{Transaction, is_working}
+use Rattle.pm_model.specs.Transaction.{is_working}
 use Rattle.pm_objects.specs.declared.calls.Operation.{Operation}
-use Rattle.pm_objects.specs.declared.calls.Operation.TheVariants.{Abort}
 use Rattle.pm_objects.specs.declared.history.Value.{Value}
 use Rattle.pm_objects.specs.declared.ids.Oid.{Oid}
-use Rattle.pm_objects.specs.declared.history.Value.TheVariants.{Refused}
-use Rattle.pm_view.specs.Claims.{class, pictured}
+use Rattle.pm_view.specs.Claims.{class}
 use Rattle.pm_view.specs.Log.{Open, new_log}
 use Rattle.pm_view.specs.Places.{Place, InRun, InHuge, Descr, RootWord, Block, Small, Big, Root, word_of}
-use Rattle.pm_view.specs.Steps.{Step}
 use Rattle.pm_view.specs.Steps.Step.{Draw, Tell}
 use Rattle.pm_view.specs.View.{View}
-use Rattle.pm_view.specs.Views.{after, after_all, value_in}
+use Rattle.pm_view.specs.Views.{after, after_all}
 use Rattle.pm_world.specs.LaneFields.{Standing, last_number, moved}
 use Rattle.pm_world.specs.Lawful.{MayDraw}
-use Rattle.pm_world.specs.Sights.{is_pictured, is_recorded}
+use Rattle.pm_world.specs.Sights.{is_pictured}
 use Rattle.pm_crash.specs.Calls.{Fact}
 use Rattle.pm_crash.specs.Facts.{HaveFacts}
 use Rattle.pm_crash.specs.Looked.{word_place, words_in}
@@ -34,11 +31,10 @@ use Rattle.pm_crash.proofs.Simulation.{no_turn}
 use Rattle.pm_crash.proofs.Telling.{no_root_is_asked}
 use Rattle.pm_plan.specs.Plans.{Ready, in_turn, one}
 use Rattle.pm_plan.proofs.Plans.{after_all-append, ready_both}
-use Rattle.pm_undo.specs.Working.{Note, noted}
 use Rattle.pm_call.specs.At.{At}
 use Rattle.pm_call.specs.Did as did
 use Rattle.pm_call.specs.Did.{IsRefused, next, unseen}
-use Rattle.pm_call.specs.GivenUp.{GivesUp, IsAbort, IsRefusedWith, LeavesOver, TransactionsMayBeGivenUp, generation_after}
+use Rattle.pm_call.specs.GivenUp.{GivesUp, IsAbort, IsRefusedWith, LeavesOver, TransactionsMayBeGivenUp}
 use Rattle.pm_call.specs.Plans.{gives_up, takes_back, tells}
 use Rattle.pm_call.proofs.Ending.{abort_unrefused, begun_still, refusal_traced}
 use Rattle.pm_call.proofs.Frames.{noting}
@@ -62,7 +58,7 @@ none_among : (id : Oid) → Contains [] id → ⊥
 none_among id among = search rules
 
 module _ (s : Standing) (is : At s) (op : Operation) (reply : Option Value) (gives : GivesUp s op reply) where
-  abbrev v : View
+  abbrev pub v : View
   v = s.view
 
   taken : Ready v (takes_back v) × IsTakenBack v (after_all v (takes_back v))
@@ -71,13 +67,13 @@ module _ (s : Standing) (is : At s) (op : Operation) (reply : Option Value) (giv
   pub b : IsTakenBack v (after_all v (takes_back v))
   b = taken.1
 
-  abbrev back : View
+  abbrev pub back : View
   back = noting v b.notes [] b.calls (new_log Open b.generation)
 
-  abbrev told : View
+  abbrev pub told : View
   told = after back (Tell op reply)
 
-  abbrev done : ℕ → View
+  abbrev pub done : ℕ → View
   done n = after told (Draw n)
 
   abbrev ran : Ran
@@ -163,10 +159,13 @@ module _ (s : Standing) (is : At s) (op : Operation) (reply : Option Value) (giv
     where
       all_held : (n : ℕ) (locks : List Rattle.pm_world.specs.declared.lane.HeldLock.HeldLock) → Rattle.pm_call.specs.Held.AreHeld back locks → Rattle.pm_call.specs.Held.AreHeld (done n) locks
       all_held n [] all = tt
-      all_held n (l ∷ locks) all = (record {
-        held = all.0.held;
-        object = ⊎_elim (λ (e : l.line ≡ 0). inl e) (λ (o : Rattle.pm_call.specs.Held.HasObject back l.line). inr (record { block = o.block; found = o.found; at = o.at; inside = o.inside })) all.0.object;
-      }, all_held n locks all.1)
+      all_held n (l ∷ locks) all = (
+        record {
+          held = all.0.held;
+          object = ⊎_elim (λ (e : l.line ≡ 0). inl e) (λ (o : Rattle.pm_call.specs.Held.HasObject back l.line). inr (record { block = o.block; found = o.found; at = o.at; inside = o.inside })) all.0.object;
+        },
+        all_held n locks all.1,
+      )
 
   -- ---- the steps
   steps_ready : (n : ℕ) → Ready (after_all v (takes_back v)) (Tell op reply ∷ Draw n ∷ [])
@@ -189,6 +188,9 @@ module _ (s : Standing) (is : At s) (op : Operation) (reply : Option Value) (giv
   ends_at n = ap (after_all v) (plan_is n)
       ∙ (after_all-append v (takes_back v) (Tell op reply ∷ Draw n ∷ [])
       ∙ (told_so (after_all v (takes_back v)) n ∙ ap (λ (w : View). after (after w (Tell op reply)) (Draw n)) b.same))
+
+  pub taken_at : after_all v (takes_back v) ≡ back
+  taken_at = b.same
 
   pub leaves_over : (n : ℕ) → LeavesOver s op reply n
   leaves_over n = record {

@@ -4,3 +4,4 @@ pub mod TakenBack
 pub mod Ending
 pub mod RolledBack
 pub mod GivingUp
+pub mod RollbackLanes

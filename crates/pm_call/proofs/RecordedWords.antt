@@ -1,5 +1,5 @@
 -- A word that a lane recorded is no word that the lane sees in another use, and no word of a header.
-use Rattle.std.proofs.Common.{◌≡◌, ◌≢◌, ℕ, zero, suc, ◌+◌, ◌-◌, ◌*◌, ◌/◌, ◌%◌, ◌<◌, ◌≤◌, ⊎_elim, nat_le, nat_lt, Bool, true, false, cond, ◌&&◌, refl, sym, ap, ◌∙◌, subst, arith}
+use Rattle.std.proofs.Common.{◌≡◌, ◌≢◌, ℕ, suc, ◌+◌, ◌-◌, ◌*◌, ◌/◌, ◌%◌, ◌<◌, ◌≤◌, ⊎_elim, nat_le, nat_lt, Bool, true, false, refl, sym, ap, ◌∙◌, subst, arith}
 use Rattle.std.proofs.lemmas.Bool.{and_from, and_parts, both_ways, cases_lt, cond-true, cond-false, le-leb, lt-ltb, ltb-true}
 use Rattle.std.proofs.Math.Nat.{mul-le-mul_left}
 use Rattle.pm_layout.specs.Chunks.{page_of_chunk, word_of_chunk}

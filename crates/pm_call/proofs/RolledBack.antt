@@ -1,5 +1,5 @@
 -- A lane whose transaction is taken back: it holds what it held, knows its words without their records, and its call has its fact.
-use Rattle.std.proofs.Common.{◌≡◌, ◌≢◌, ℕ, suc, ◌+◌, ◌-◌, ◌*◌, ◌/◌, ◌%◌, ◌<◌, ◌≤◌, ◌⊎◌, inl, inr, ⊎_elim, Bool, true, false, cond, ◌==◌, ◌&&◌, List, [], ◌∷◌, ◌++◌, length, refl, sym, ap, ◌∙◌, subst, arith, Option, None, Some}
+use Rattle.std.proofs.Common.{◌≡◌, ◌≢◌, ℕ, ◌+◌, ◌-◌, ◌*◌, ◌/◌, ◌%◌, ◌<◌, ◌≤◌, inl, inr, ⊎_elim, Bool, true, false, cond, ◌==◌, List, [], ◌∷◌, refl, sym, ap, ◌∙◌, subst, arith, Option, None, Some}
 use Rattle.std.specs.Int.{bit_at}
 use Rattle.std.specs.Option.{option_map}
 use Rattle.std.proofs.lemmas.Bool.{both_ways, cases_Bool, cond-false}
@@ -8,9 +8,9 @@ use Rattle.pm_layout.specs.Areas.{word_of_generation}
 use Rattle.pm_objects.specs.declared.calls.Operation.{Operation}
 use Rattle.pm_objects.specs.declared.history.Value.{Value}
 use Rattle.pm_model.specs.Inside.{is_kept_by}
-use Rattle.pm_view.specs.Claims.{Claim, class, first, header_in, locked, making, pictured, reads, span}
+use Rattle.pm_view.specs.Claims.{Claim, making, pictured, span}
 use Rattle.pm_view.specs.Entries.{first_of_two}
-use Rattle.pm_view.specs.Log.{Log, Open, Recorded, new_log, old_of}
+use Rattle.pm_view.specs.Log.{Open, Recorded, new_log, old_of}
 use Rattle.pm_view.specs.Places.{Place, InRun, InHuge, Descr, RootWord, Block, Small, Big, Root, in_span, word_of}
 use Rattle.pm_view.specs.Steps.Step.{Tell}
 use Rattle.pm_view.specs.View.{View}
@@ -22,9 +22,8 @@ use Rattle.pm_world.specs.Sights.{is_pictured, is_recorded, picture}
 use Rattle.pm_world.specs.States.{given}
 use Rattle.pm_world.specs.declared.lane.HeldLock.{HeldLock}
 use Rattle.pm_crash.specs.Footprints.{bit_before, has_found}
-use Rattle.pm_crash.specs.Looked.{IsChanged, IsObject, IsWholeTo, KnowsBit, KnowsSize, KnowsWord, word_place, words_in}
-use Rattle.pm_crash.specs.OwnBlocks.{own_span}
-use Rattle.pm_crash.specs.Sim.{Grows, IsSamePlace, change_so_far, known_offset, sees_at}
+use Rattle.pm_crash.specs.Looked.{IsChanged, IsWholeTo, KnowsBit, KnowsWord, word_place, words_in}
+use Rattle.pm_crash.specs.Sim.{Grows, IsSamePlace, change_so_far, sees_at}
 use Rattle.pm_crash.specs.SimOps.{KnowsWithoutRecords, RollsBack, with_records}
 use Rattle.pm_crash.proofs.KnownWords.{none_of}
 use Rattle.pm_crash.proofs.SimFacts.{no_block}
@@ -34,7 +33,7 @@ use Rattle.pm_undo.specs.Working.{AreNotes, Note, noted}
 use Rattle.pm_undo.proofs.Notes as notes
 use Rattle.pm_call.specs.At.{IsDataOf}
 use Rattle.pm_call.specs.Held.{AreHeld, HasObject, IsHeld}
-use Rattle.pm_call.proofs.Frames.{header_so, noting, noting_grows, same_place, sees_same}
+use Rattle.pm_call.proofs.Frames.{header_so, noting, noting_grows, sees_same}
 use Rattle.pm_call.proofs.RecordedWords.{header_apart, one_use, size_pictured, size_word}
 
 -- what is recorded has an old value
@@ -104,7 +103,6 @@ module _ (v : View) (ns : List Note) (calls g : ℕ) (are : AreNotes v.fixed.sha
       (restored : AreRestored (picture sh t) v.log.records)
       (others : (u : ℕ) → ((p : Place) → is_recorded v.log.records p ≡ true → u ≢ word_of sh p) → u ≢ word_of_generation sh v.fixed.lane → pictured sh t u ≡ value_in v u)
       (far : (p : Place) → is_pictured p ≡ true → word_of sh p ≢ word_of_generation sh v.fixed.lane) where
-
     -- a word that it sees, and did not record, is as it was
     value_stays : (p : Place) (b : ℕ) → sees_at v p b ≡ true → is_pictured p ≡ true → is_recorded v.log.records p ≡ false → pictured sh t (word_of sh p) ≡ value_in v (word_of sh p)
     value_stays p b sees in_picture new = others (word_of sh p) (λ q r e.
@@ -132,15 +130,15 @@ module _ (v : View) (ns : List Note) (calls g : ℕ) (are : AreNotes v.fixed.sha
     pub grows : (op : Operation) (reply : Option Value) (kept : Bool) → Grows v (is_kept_by op kept) (with_records v.log.records (after back (Tell op reply))) kept
     grows op reply kept = let g_ = grows_told v (with_records v.log.records back) op reply kept
         (noting_grows v ns [] calls (record (new_log Open g) { records = v.log.records }) are unmaking (is_kept_by op kept) (λ p e. e) knows_before) in record {
-      found = g_.found;
-      spans = g_.spans;
-      class = g_.class;
-      own = g_.own;
-      lines = g_.lines;
-      sees = g_.sees;
-      recorded = g_.recorded;
-      knows = g_.knows;
-    }
+          found = g_.found;
+          spans = g_.spans;
+          class = g_.class;
+          own = g_.own;
+          lines = g_.lines;
+          sees = g_.sees;
+          recorded = g_.recorded;
+          knows = g_.knows;
+        }
 
     -- ---- of each recorded word it knows the object's size still
     place_same : (B : Block) (k : ℕ) → word_place back B k ≡ word_place v B k

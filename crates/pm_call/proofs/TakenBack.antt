@@ -1,5 +1,5 @@
 -- A lane at work may take back what its transaction did: its recorded words are as they were, and nothing of it is left in its log.
-use Rattle.std.proofs.Common.{◌≡◌, ◌≢◌, ℕ, suc, ◌+◌, ◌*◌, ◌/◌, ◌%◌, ◌<◌, ◌≤◌, ◌⊎◌, inl, inr, ⊎_elim, Bool, true, false, cond, eqb, ◌==◌, List, [], ◌∷◌, ◌++◌, length, refl, sym, ap, ◌∙◌, subst, arith, Option, None, Some}
+use Rattle.std.proofs.Common.{◌≡◌, ◌≢◌, ℕ, ◌+◌, ◌*◌, ◌<◌, ◌≤◌, ◌⊎◌, inl, inr, ⊎_elim, Bool, true, false, cond, eqb, ◌==◌, List, [], ◌∷◌, ◌++◌, length, refl, sym, ap, ◌∙◌, subst, arith, None, Some}
 use Rattle.std.specs.Int.{bit_at}
 use Rattle.std.specs.Option.{option_map}
 use Rattle.std.proofs.lemmas.Bool.{eqb-true, eqb-false}
@@ -51,7 +51,7 @@ are_both sh [] ys t xs_are ys_are = ys_are
 are_both sh (x ∷ xs) ys t xs_are ys_are = (subst (λ s. Rattle.pm_undo.specs.Working.IsNote sh s x) (sym (noted_both xs ys t)) xs_are.0, are_both sh xs ys t xs_are.1 ys_are)
 
 -- ---- where all is made persistent
-persisted_log : (changes : List Undrained) (log : Log) → log.phase ≡ Open → log_persisted changes log ≡ log
+pub persisted_log : (changes : List Undrained) (log : Log) → log.phase ≡ Open → log_persisted changes log ≡ log
 persisted_log [] log open_ = refl
 persisted_log (c ∷ changes) log open_ = ap (λ ph. log_drained ph log) open_
 
@@ -71,6 +71,32 @@ far_word : (v : View) (B : Block) (k : ℕ) → v.fixed.lane < v.fixed.shape.lan
 far_word v (Small c i) k lane lanes within e = let m : ℕ = Rattle.pm_view.specs.Claims.class v.claims c * i in omega (arith, e, lane)
 far_word v (Big f) k lane lanes within e = omega (arith, e, lane)
 far_word v Root k lane lanes within e = absurd (omega (arith, within))
+
+-- once its words are back, a lane may end its generation
+pub may_retire : (v : View) → IsWorking v → CanRetire (after_all v (restores v))
+may_retire v working = record {
+  ends = ends u.log.phase r.working.is_open;
+  whole = r.working.whole;
+  unentered = r.working.unentered;
+  below = r.working.below;
+  lane = r.working.lane;
+  unmaking = r.working.unmaking;
+  drained = ap (λ (y : View). y.changes) r.same;
+  known = r.working.known;
+}
+  where
+    u : View
+    u = after_all v (restores v)
+
+    r : IsRestored v (after_all v (restores v))
+    r = (restore_lawful v working).1
+
+    ends : (ph : Phase) → ph ≡ Open → CanEndAt (after_all v (restores v)) ph
+    ends ph e = subst (CanEndAt (after_all v (restores v))) (sym e) r.restored
+
+pub undo_ready : (v : View) → IsWorking v → Ready v (in_turn restores retires v)
+unfolding in_turn
+undo_ready v working = ready_both v (restores v) (retires (after_all v (restores v))) (restore_lawful v working).0 (retire_lawful (after_all v (restores v)) (may_retire v working)).0
 
 module _ (v : View) (working : IsWorking v) (unbumped : v.log.bumped ≡ false) (recorded : (p : Place) → is_recorded v.log.records p ≡ true → IsDataOf v p) where
   abbrev sh : Shape
@@ -133,20 +159,8 @@ module _ (v : View) (working : IsWorking v) (unbumped : v.log.bumped ≡ false) 
     log_u : u.log ≡ v.log
     log_u = ap (λ (y : View). y.log) r.same
 
-    ends : (ph : Phase) → ph ≡ Open → CanEndAt u ph
-    ends ph e = subst (CanEndAt u) (sym e) r.restored
-
     can : CanRetire u
-    can = record {
-      ends = ends u.log.phase r.working.is_open;
-      whole = r.working.whole;
-      unentered = r.working.unentered;
-      below = r.working.below;
-      lane = r.working.lane;
-      unmaking = r.working.unmaking;
-      drained = ap (λ (y : View). y.changes) r.same;
-      known = r.working.known;
-    }
+    can = may_retire v working
 
     abbrev w : View
     w = after_all u (retires u)
@@ -194,7 +208,7 @@ module _ (v : View) (working : IsWorking v) (unbumped : v.log.bumped ≡ false) 
     undone : Ready v (in_turn restores retires v) × IsTakenBack v (after_all v (in_turn restores retires v))
     unfolding in_turn
     undone = (
-      ready_both v (restores v) (retires u) (restore_lawful v working).0 (retire_lawful u can).0,
+      undo_ready v working,
       subst (IsTakenBack v) (sym (after_all-append v (restores v) (retires u))) (record {
         notes = notes_;
         each = each_w;

@@ -1,6 +1,6 @@
 -- A LANE AT WORK IN A TRANSACTION, between two of its operations: by plain data alone. Its log may grow; each object whose lock it has is found; its lists are
 -- those of the model's transaction that its operations led to; and from whatever bits it agrees with, what it told leads the model there.
-use Rattle.std.specs.Prelude.{◌≡◌, ℕ, ◌+◌, ◌*◌, ◌/◌, ◌%◌, ◌^◌, ◌<◌, ◌≤◌, Bool, true, false, Contains, List, [], length, map, Option, Some, None}
+use Rattle.std.specs.Prelude.{◌≡◌, ℕ, ◌+◌, ◌/◌, ◌%◌, ◌^◌, ◌<◌, ◌≤◌, Bool, true, false, Contains, List, [], length, map, Some, None}
 use Rattle.std.specs.List.{AllByRecursion}
 use Rattle.pm_layout.specs.Areas.{greatest_generation, word_of_seal}
 use Rattle.pm_objects.specs.declared.history.TxErr.TheVariants as error

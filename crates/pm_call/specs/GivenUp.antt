@@ -1,5 +1,5 @@
 -- A TRANSACTION IS GIVEN UP: all that it did is rolled back, the operation that ends it is told, and it takes its number.
-use Rattle.std.specs.Prelude.{◌≡◌, ◌⊎◌, ℕ, zero, suc, ◌+◌, true, false, List, [], ◌∷◌, length, Option, Some, None, Result, Ok, Err}
+use Rattle.std.specs.Prelude.{◌≡◌, ◌⊎◌, ℕ, suc, ◌+◌, true, false, List, [], ◌∷◌, Option, Some, None, Result, Ok, Err}
 use Rattle.pm_memory.specs.Runs.{Stops}
 use Rattle.pm_memory.specs.declared.lane_mem.Stopped.{Stopped}
 use Rattle.pm_model.specs.Inside.{error_for, is_action, is_inside}
@@ -10,17 +10,17 @@ use Rattle.pm_objects.specs.declared.history.Value.{Value}
 use Rattle.pm_objects.specs.declared.history.Value.TheVariants.{Refused}
 use Rattle.pm_objects.specs.declared.refusal.Refusal.{Refusal}
 use Rattle.pm_objects.specs.declared.refusal.Refusal.TheVariants as refusal
-use Rattle.pm_view.specs.Log.{Log, Recorded}
+use Rattle.pm_view.specs.Log.{Recorded}
 use Rattle.pm_view.specs.View.{View}
 use Rattle.pm_view.specs.Views.{after_all}
 use Rattle.pm_world.specs.LaneFields.{IsSeenAs, Standing, Works, fields_of, last_number}
 use Rattle.pm_world.specs.declared.lane.Lane.{Lane}
-use Rattle.pm_plan.specs.Plans.{Ready}
+use Rattle.pm_plan.specs.Plans.{Plan, Ready}
 use Rattle.pm_undo.specs.Undoing.{KeepsLog, LogMoves}
 use Rattle.pm_undo.specs.Working.{IsWorking}
 use Rattle.pm_call.specs.At.{At}
 use Rattle.pm_call.specs.Did.{Cut, IsOver, IsRefused, given_up, next, work_refusal}
-use Rattle.pm_call.specs.Plans.{gives_up, takes_back}
+use Rattle.pm_call.specs.Plans.{ends_call, gives_up}
 
 -- ---- WHICH OPERATIONS GIVE IT UP, with their replies
 
@@ -60,13 +60,17 @@ TransactionsMayBeGivenUp = (s : Standing) (op : Operation) (reply : Option Value
 
 -- ---- WHAT WAS DONE TO A LANE
 
--- recorded words are what they were, and their generation is ended; or the lane stopped on the way
-abbrev pub TakenBackAs : {M : Type 0} → (M → View → Type 0) → View → Lane M → Lane M → Result (Unit {0}) Stopped → Type 0
-TakenBackAs at v old new (Ok done) = LogMoves at old new (after_all v (takes_back v))
-TakenBackAs at v old new (Err stopped) = Stops (at new.memory) v (takes_back v) × (fields_of new ≡ fields_of old)
+-- a plan of the log was carried out, so that its log is what the view says then; or the lane stopped on the way, and its fields are as they were
+abbrev pub MovesLog : {M : Type 0} → (M → View → Type 0) → Lane M → Lane M → Plan → View → Result (Unit {0}) Stopped → Type 0
+MovesLog at old new plan v (Ok done) = LogMoves at old new (after_all v (plan v))
+MovesLog at old new plan v (Err stopped) = Stops (at new.memory) v (plan v) × (fields_of new ≡ fields_of old)
 
-unfoldable pub TakenBack : {M : Type 0} → (M → View → Type 0) → Lane M → Lane M → Result (Unit {0}) Stopped → Type 0
-TakenBack at old new result = (v : View) → KeepsLog at old v → IsWorking v → TakenBackAs at v old new result
+unfoldable pub MovedLog : {M : Type 0} → (M → View → Type 0) → Lane M → Lane M → Plan → Result (Unit {0}) Stopped → Type 0
+MovedLog at old new plan result = (v : View) → KeepsLog at old v → IsWorking v → MovesLog at old new plan v result
+
+-- for each number an end of the call may be carried out
+unfoldable pub MayEnd : (View → Type 0) → Operation → Option Value → Type 0
+MayEnd old op reply = (v : View) × old v × ((n : ℕ) → Ready v (ends_call op reply n v))
 
 -- it was given up with this operation and this error
 pub record WasGivenUp {M : Type 0} (at : M → View → Type 0) (lane : Lane M) (s : Standing) (op : Operation) (reply : Option Value) (e : TxErr) : Type 0 where
