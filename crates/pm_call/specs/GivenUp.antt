@@ -85,16 +85,3 @@ GivenUpAs at lane op reply e (Err stopped) s = (n : ℕ) × Cut at lane s (gives
 
 unfoldable pub GivenUp : {M : Type 0} → (M → View → Type 0) → Lane M → Lane M → Operation → Option Value → TxErr → Result (Unit {0}) Stopped → Type 0
 GivenUp at old new op reply e result = (s : Standing) → Works at old s → At s → GivesUp s op reply → GivenUpAs at new op reply e result s
-
--- ---- AN ABORT: refused for its stage it changes nothing; else the transaction is given up with its error, or the lane stopped on the way
-abbrev pub AbortedAs : {M : Type 0} → (M → View → Type 0) → Lane M → ℕ → Result (Unit {0}) Refusal → Standing → Type 0
-AbortedAs at lane errnum (Ok done) s = WasGivenUp at lane s (Abort errnum) None (error_for errnum)
-AbortedAs at lane errnum (Err refusal.Stopped) s = (n : ℕ) × Cut at lane s (gives_up (Abort errnum) None n) true
-AbortedAs at lane errnum (Err r) s = ⊥
-
-abbrev pub AbortedSo : {M : Type 0} → Option Refusal → (M → View → Type 0) → Lane M → Lane M → ℕ → Result (Unit {0}) Refusal → Type 0
-AbortedSo (Some r) at old new errnum result = (result ≡ Err r) × (new ≡ old)
-AbortedSo None at old new errnum result = (s : Standing) → Works at old s → At s → AbortedAs at new errnum result s
-
-unfoldable pub Aborted : {M : Type 0} → (M → View → Type 0) → Lane M → Lane M → ℕ → Result (Unit {0}) Refusal → Type 0
-Aborted at old new errnum result = AbortedSo (work_refusal old) at old new errnum result

@@ -10,6 +10,8 @@
 
 mod laws;
 mod rollback;
+mod stages;
 
 pub use laws::transactions_may_be_given_up;
 pub use rollback::{give_up, refuse, stop, take_back};
+pub use stages::work_refusal;
