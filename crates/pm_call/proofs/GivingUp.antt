@@ -38,7 +38,8 @@ use Rattle.pm_call.specs.GivenUp.{GivesUp, IsAbort, IsRefusedWith, LeavesOver, T
 use Rattle.pm_call.specs.Plans.{gives_up, takes_back, tells}
 use Rattle.pm_call.proofs.Ending.{abort_unrefused, begun_still, refusal_traced}
 use Rattle.pm_call.proofs.Frames.{noting}
-use Rattle.pm_call.proofs.RolledBack.{held_stays, is_changed, rolls_back, sound_stays}
+use Rattle.pm_call.proofs.RolledBack.{is_changed, rolls_back}
+use Rattle.pm_call.proofs.Stays.{held_stays, sound_stays}
 use Rattle.pm_call.proofs.TakenBack.{IsTakenBack, take_back_lawful}
 
 -- a word of which a lane has a picture is in no lane's area
@@ -147,13 +148,13 @@ module _ (s : Standing) (is : At s) (op : Operation) (reply : Option Value) (giv
   facts n = draws_keep_facts told n fact is.facts
 
   is_over : (n : ℕ) → did.IsOver (moved s (done n))
-  is_over n = let sound = sound_stays v b.notes b.calls b.generation b.each is.working.unmaking is.sound in record {
+  is_over n = let sound = sound_stays v b.notes [] b.calls (new_log Open b.generation) b.each is.working.unmaking is.sound in record {
     log = refl;
     drained = refl;
     sound = record { small = sound.small; zone = sound.zone; huge = sound.huge };
     known = b.known;
     sealed = b.others (word_of_seal v.fixed.shape v.fixed.lane) (λ p r e. let d = is.recorded p r in far_seal v d.object.block d.index is.working.lane is.working.lanes d.within (e ∙ ap (word_of v.fixed.shape) d.at)) (λ e. omega (arith, e)) ∙ is.sealed;
-    held = all_held n s.locks (held_stays v b.notes b.calls b.generation b.each is.working.unmaking s.locks is.held);
+    held = all_held n s.locks (held_stays v b.notes [] b.calls (new_log Open b.generation) b.each is.working.unmaking s.locks is.held);
     facts = facts n;
   }
     where

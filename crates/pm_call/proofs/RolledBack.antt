@@ -1,5 +1,5 @@
 -- A lane whose transaction is taken back: it holds what it held, knows its words without their records, and its call has its fact.
-use Rattle.std.proofs.Common.{◌≡◌, ◌≢◌, ℕ, ◌+◌, ◌-◌, ◌*◌, ◌/◌, ◌%◌, ◌<◌, ◌≤◌, inl, inr, ⊎_elim, Bool, true, false, cond, ◌==◌, List, [], ◌∷◌, refl, sym, ap, ◌∙◌, subst, arith, Option, None, Some}
+use Rattle.std.proofs.Common.{◌≡◌, ◌≢◌, ℕ, ◌≤◌, inr, ⊎_elim, Bool, true, false, cond, ◌==◌, List, [], refl, sym, ap, ◌∙◌, arith, Option, None, Some}
 use Rattle.std.specs.Int.{bit_at}
 use Rattle.std.specs.Option.{option_map}
 use Rattle.std.proofs.lemmas.Bool.{both_ways, cases_Bool, cond-false}
@@ -11,7 +11,7 @@ use Rattle.pm_model.specs.Inside.{is_kept_by}
 use Rattle.pm_view.specs.Claims.{Claim, making, pictured, span}
 use Rattle.pm_view.specs.Entries.{first_of_two}
 use Rattle.pm_view.specs.Log.{Open, Recorded, new_log, old_of}
-use Rattle.pm_view.specs.Places.{Place, InRun, InHuge, Descr, RootWord, Block, Small, Big, Root, in_span, word_of}
+use Rattle.pm_view.specs.Places.{Place, InRun, InHuge, Descr, RootWord, Big, word_of}
 use Rattle.pm_view.specs.Steps.Step.{Tell}
 use Rattle.pm_view.specs.View.{View}
 use Rattle.pm_view.specs.Views.{after, value_in}
@@ -20,21 +20,16 @@ use Rattle.pm_world.specs.Logs.{AreRestored}
 use Rattle.pm_world.specs.Memory.{bit}
 use Rattle.pm_world.specs.Sights.{is_pictured, is_recorded, picture}
 use Rattle.pm_world.specs.States.{given}
-use Rattle.pm_world.specs.declared.lane.HeldLock.{HeldLock}
 use Rattle.pm_crash.specs.Footprints.{bit_before, has_found}
-use Rattle.pm_crash.specs.Looked.{IsChanged, IsWholeTo, KnowsBit, KnowsWord, word_place, words_in}
-use Rattle.pm_crash.specs.Sim.{Grows, IsSamePlace, change_so_far, sees_at}
+use Rattle.pm_crash.specs.Looked.{IsChanged, word_place}
+use Rattle.pm_crash.specs.Sim.{Grows, IsSamePlace, sees_at}
 use Rattle.pm_crash.specs.SimOps.{KnowsWithoutRecords, RollsBack, with_records}
-use Rattle.pm_crash.proofs.KnownWords.{none_of}
-use Rattle.pm_crash.proofs.SimFacts.{no_block}
-use Rattle.pm_crash.proofs.Simulation.{nothing_yet}
 use Rattle.pm_crash.proofs.Telling.{tells_grow}
 use Rattle.pm_undo.specs.Working.{AreNotes, Note, noted}
-use Rattle.pm_undo.proofs.Notes as notes
 use Rattle.pm_call.specs.At.{IsDataOf}
-use Rattle.pm_call.specs.Held.{AreHeld, HasObject, IsHeld}
-use Rattle.pm_call.proofs.Frames.{header_so, noting, noting_grows, sees_same}
-use Rattle.pm_call.proofs.RecordedWords.{header_apart, one_use, size_pictured, size_word}
+use Rattle.pm_call.proofs.Frames.{noting, noting_grows}
+use Rattle.pm_call.proofs.Stays.{data_stays, header_new, size_bit, some_words}
+use Rattle.pm_call.proofs.RecordedWords.{one_use, size_pictured}
 
 -- what is recorded has an old value
 old_some : (rs : List Recorded) (p : Place) → is_recorded rs p ≡ true → (x : ℕ) × (old_of rs p ≡ Some x)
@@ -72,30 +67,6 @@ module _ (v : View) (ns : List Note) (calls g : ℕ) (are : AreNotes v.fixed.sha
 
   abbrev pub back : View
   back = noting v ns [] calls (new_log Open g)
-
-  -- ---- it holds what it held
-  pub sound_stays : IsSound v → IsSound back
-  sound_stays s = record {
-    small = λ c i e. let z = s.small c i (sym (notes.found_same sh ns v.claims are (Small c i)) ∙ e) in subst (λ (cl : ℕ → ℕ). (cl c ≢ 0) × (i < Rattle.pm_layout.specs.Sizes.blocks_of (cl c))) (sym (notes.class_same ns v.claims)) z;
-    zone = λ f e. subst (λ (sp : ℕ → ℕ). f % 64 + sp f ≤ 64) (sym (notes.span_same sh ns v.claims)) (s.zone f (sym (notes.found_same sh ns v.claims are (Big f)) ∙ e));
-    huge = λ f c e within.
-        let z = s.huge f c (sym (notes.found_same sh ns v.claims are (Big f)) ∙ e) (sym (λ i. in_span f (notes.span_same sh ns v.claims i f) c) ∙ within) in
-        ((λ i. notes.first_same sh ns v.claims i c) ∙ z.0, (λ i. notes.class_same ns v.claims i c) ∙ z.1);
-  }
-
-  pub held_stays : (locks : List HeldLock) → AreHeld v locks → AreHeld back locks
-  held_stays [] all = tt
-  held_stays (l ∷ locks) all = (one all.0, held_stays locks all.1) where
-    one : IsHeld v l → IsHeld back l
-    one h = record {
-      held = (λ w. (λ i. notes.locked_same ns v.claims i l.line) ∙ h.held.0 w, λ w. (λ i. notes.reads_same ns v.claims i l.line) ∙ h.held.1 w);
-      object = ⊎_elim (λ (e : l.line ≡ 0). inl e) (λ (o : HasObject v l.line). inr (record {
-        block = o.block;
-        found = notes.found_same sh ns v.claims are o.block ∙ o.found;
-        at = header_so sh ns v.claims are unmaking o.block ∙ o.at;
-        inside = o.inside;
-      })) h.object;
-    }
 
   -- ---- what it knows of words
   module _ (sound : IsSound v) (spans : (f : ℕ) → has_found v (Big f) ≡ true → 1 ≤ span sh v.claims f)
@@ -141,91 +112,35 @@ module _ (v : View) (ns : List Note) (calls g : ℕ) (are : AreNotes v.fixed.sha
         }
 
     -- ---- of each recorded word it knows the object's size still
-    place_same : (B : Block) (k : ℕ) → word_place back B k ≡ word_place v B k
-    place_same (Small c i) k = λ j. InRun c (8 * (1 + notes.class_same ns v.claims j c * i) + k)
-    place_same (Big f) k = refl
-    place_same Root k = refl
-
-    words_same : (B : Block) → words_in back B ≡ words_in v B
-    words_same (Small c i) = λ j. 8 * notes.class_same ns v.claims j c
-    words_same (Big f) = λ j. 512 * notes.span_same sh ns v.claims j f
-    words_same Root = refl
-
-    some_words : (B : Block) (k : ℕ) → k < words_in v B → 1 < words_in v B
-    some_words (Small c i) k low = omega arith
-    some_words (Big f) k low = omega arith
-    some_words Root k low = absurd (omega (arith, low))
-
     module _ (p : Place) (r : is_recorded v.log.records p ≡ true) (op : Operation) (reply : Option Value) where
-      abbrev told : View
-      told = after back (Tell op reply)
-
       d : IsDataOf v p
       d = recorded p r
 
-      abbrev B : Block
-      B = d.object.block
+      size_new : is_recorded v.log.records (word_place v d.object.block 1) ≡ false
+      size_new = header_new v sound spans v.log.records recorded d.object.block d.found
 
-      abbrev at_size : Place
-      at_size = word_place v B 1
+      value_new : pictured sh t (word_of sh (word_place v d.object.block 1)) ≡ value_in v (word_of sh (word_place v d.object.block 1))
+      value_new = value_stays (word_place v d.object.block 1) 0 (size_bit v d.off d.object size_new 0 (omega arith)).1 (size_pictured v sound spans d.object.block d.found (some_words v d.object.block d.index d.within)) size_new
 
-      some : 1 < words_in v B
-      some = some_words B d.index d.within
+      still : IsDataOf back p
+      still = data_stays v ns [] calls (new_log Open g) are unmaking sound spans p d size_new refl value_new
 
-      size_new : is_recorded v.log.records at_size ≡ false
-      size_new = Rattle.std.proofs.lemmas.Bool.false_from_ne_true (is_recorded v.log.records at_size)
-          (λ e. let q = recorded at_size e in header_apart v sound spans B q.object.block 1 q.index d.found q.found (omega arith) q.data_ q.within q.at)
-
-      -- the size was seen, and is no bit that the call changed
-      size_bit : (b : ℕ) → b < 64 → (sees_at v at_size b ≡ true) × (picture sh v.claims at_size b ≡ Some (bit d.object.size b))
-      size_bit b few = ⊎_elim
-          (λ (e : change_so_far v [] at_size b ≡ Some (bit d.object.size b)).
-          absurd (both_ways (is_recorded v.log.records at_size) size_new (Rattle.pm_crash.proofs.SimFacts.was_recorded v at_size b (ap given e))))
-          (λ (e : (change_so_far v [] at_size b ≡ None) × (has_found v B ≡ true) × (given (Rattle.pm_view.specs.Entries.turn (change_so_far v []) B) ≡ false) × (sees_at v at_size b ≡ true) × (bit_before v at_size b ≡ Some (bit d.object.size b))).
-          (e.3, sym (ap (λ o. first_of_two (option_map (λ n. bit n b) o) (picture sh v.claims at_size b)) (none_of (old_of v.log.records at_size) size_new)) ∙ e.4))
-          (d.object.knows.bits b few)
-
-      found_told : has_found told B ≡ true
-      found_told = notes.found_same sh ns v.claims are B ∙ d.found
-
-      knows_size : KnowsWord told [] B 1 d.object.size
-      knows_size = record {
-        small = d.object.knows.small;
-        bits = λ b few. subst (λ q. KnowsBit told [] B q b (bit d.object.size b)) (sym (place_same B 1)) (inr (
-          nothing_yet told refl at_size b,
-          found_told,
-          no_block told B,
-          sees_same v ns [] calls (new_log Open g) are unmaking at_size b ∙ (size_bit b few).0,
-          picture_stays at_size b (size_bit b few).0 size_new ∙ (size_bit b few).1,
-        ));
-      }
-
-      whole_told : (C : Block) → IsWholeTo v C → IsWholeTo told C
-      whole_told (Small c i) y = tt
-      whole_told (Big f) y = λ c e. (λ i. notes.first_same sh ns v.claims i c) ∙ y c (sym (λ i. in_span f (notes.span_same sh ns v.claims i f) c) ∙ e)
-      whole_told Root y = tt
-
-      seen_told : value_in told (d.off / 8 - 7) ≡ Some d.object.size
-      seen_told =
-          let w : d.off / 8 - 7 ≡ word_of sh at_size = ap (λ n. n / 8 - 7) (sym d.object.at) ∙ sym (size_word v sound spans B some) in
-          ap (pictured sh t) w ∙ (value_stays at_size 0 (size_bit 0 (omega arith)).0 (size_pictured v sound spans B d.found some) size_new ∙ (ap (value_in v) (sym w) ∙ d.object.seen))
-
-      pub without_records : KnowsWithoutRecords told v.log.records p
-      without_records = record {
-        off = d.off;
+      pub without_records : KnowsWithoutRecords (after back (Tell op reply)) v.log.records p
+      without_records = let k = still.object in record {
+        off = still.off;
         object = record {
-          block = B;
-          at = ap (λ n. 64 * n + 64) (header_so sh ns v.claims are unmaking B) ∙ d.object.at;
-          object = record { inside = d.object.object.inside; stands = inl (found_told, no_block told B); whole = whole_told B d.object.object.whole };
-          size = d.object.size;
-          knows = knows_size;
-          seen = seen_told;
+          block = k.block;
+          at = k.at;
+          object = record { inside = k.object.inside; stands = k.object.stands; whole = k.object.whole };
+          size = k.size;
+          knows = record { small = k.knows.small; bits = k.knows.bits };
+          seen = k.seen;
         };
-        found = found_told;
-        index = d.index;
-        at = d.at ∙ sym (place_same B d.index);
-        within = subst (λ n. d.index < n) (sym (words_same B)) d.within;
-        alive = d.alive;
+        found = still.found;
+        index = still.index;
+        at = still.at;
+        within = still.within;
+        alive = still.alive;
         old = λ b y e.
             let x = old_some v.log.records p r in
             restored p x.0 b x.1 ∙ (sym (ap (λ o. first_of_two (option_map (λ n. bit n b) o) (picture sh t p b)) x.1) ∙ e);

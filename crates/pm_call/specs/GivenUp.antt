@@ -2,14 +2,13 @@
 use Rattle.std.specs.Prelude.{◌≡◌, ◌⊎◌, ℕ, suc, ◌+◌, true, false, List, [], ◌∷◌, Option, Some, None, Result, Ok, Err}
 use Rattle.pm_memory.specs.Runs.{Stops}
 use Rattle.pm_memory.specs.declared.lane_mem.Stopped.{Stopped}
-use Rattle.pm_model.specs.Inside.{error_for, is_action, is_inside}
+use Rattle.pm_model.specs.Inside.{is_action, is_inside}
 use Rattle.pm_objects.specs.declared.calls.Operation.{Operation}
 use Rattle.pm_objects.specs.declared.calls.Operation.TheVariants.{Abort}
 use Rattle.pm_objects.specs.declared.history.TxErr.{TxErr}
 use Rattle.pm_objects.specs.declared.history.Value.{Value}
 use Rattle.pm_objects.specs.declared.history.Value.TheVariants.{Refused}
 use Rattle.pm_objects.specs.declared.refusal.Refusal.{Refusal}
-use Rattle.pm_objects.specs.declared.refusal.Refusal.TheVariants as refusal
 use Rattle.pm_view.specs.Log.{Recorded}
 use Rattle.pm_view.specs.View.{View}
 use Rattle.pm_view.specs.Views.{after_all}
@@ -19,7 +18,7 @@ use Rattle.pm_plan.specs.Plans.{Plan, Ready}
 use Rattle.pm_undo.specs.Undoing.{KeepsLog, LogMoves}
 use Rattle.pm_undo.specs.Working.{IsWorking}
 use Rattle.pm_call.specs.At.{At}
-use Rattle.pm_call.specs.Did.{Cut, IsOver, IsRefused, given_up, next, work_refusal}
+use Rattle.pm_call.specs.Did.{Cut, IsOver, IsRefused, given_up, next}
 use Rattle.pm_call.specs.Plans.{ends_call, gives_up}
 
 -- ---- WHICH OPERATIONS GIVE IT UP, with their replies

@@ -1,5 +1,5 @@
 -- What an abort leaves of its lane.
-use Rattle.std.proofs.Common.{◌≡◌, ℕ, true, false, inr, Option, Some, None, Result, Ok, Err, refl, sym, ap, ◌∙◌, subst}
+use Rattle.std.proofs.Common.{◌≡◌, ℕ, true, false, inr, Some, None, Result, Ok, Err, refl, sym, ap, subst}
 use Rattle.pm_memory.specs.declared.lane_mem.Stopped.{Stopped}
 use Rattle.pm_model.specs.Inside.{error_for}
 use Rattle.pm_objects.specs.declared.calls.Operation.TheVariants.{Abort}
