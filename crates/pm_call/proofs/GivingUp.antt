@@ -23,7 +23,8 @@ use Rattle.pm_crash.specs.Facts.{HaveFacts}
 use Rattle.pm_crash.specs.Looked.{word_place, words_in}
 use Rattle.pm_crash.specs.Sim.{Sim, Tells}
 use Rattle.pm_crash.specs.SimFacts.{IsOver}
-use Rattle.pm_crash.specs.SimOps.{IsAborted, IsRefusedBy, LookedAt}
+use Rattle.pm_model.specs.Refusals.{Seen}
+use Rattle.pm_crash.specs.SimOps.{RollsBack, IsAborted, IsRefusedBy, LookedAt}
 use Rattle.pm_crash.proofs.EntryFacts.{draws_keep_facts}
 use Rattle.pm_crash.proofs.Rollbacks.{sim_rolls_back}
 use Rattle.pm_crash.proofs.SimFacts.{calls_without_log, no_entries, without_entries_have_facts}
@@ -77,8 +78,8 @@ module _ (s : Standing) (is : At s) (op : Operation) (reply : Option Value) (giv
   abbrev pub done : ℕ → View
   done n = after told (Draw n)
 
-  abbrev ran : Ran
-  ran = record { operation = op; seen = unseen; reply = reply }
+  abbrev ran : Seen → Ran
+  ran seen = record { operation = op; seen = seen; reply = reply }
 
   works : is_working (Rattle.pm_crash.specs.Sim.lists_of v).stage ≡ true
   works = is.lists.works
@@ -87,7 +88,7 @@ module _ (s : Standing) (is : At s) (op : Operation) (reply : Option Value) (giv
   some = let e = is.lists.level_is in let l = is.some in omega (arith, e, l)
 
   -- ---- the model's transaction ends with it
-  abort_by : IsAbort op reply → IsAborted v [] told None ran
+  abort_by : IsAbort op reply → IsAborted v [] told None (ran unseen)
   abort_by a = record {
     number = a.errnum;
     aborts = a.is;
@@ -101,30 +102,34 @@ module _ (s : Standing) (is : At s) (op : Operation) (reply : Option Value) (giv
     records = refl;
   }
 
-  refusal_by_ : IsRefusedWith s op reply → IsRefusedBy v [] told [] None ran
+  refusal_by_ : (r : IsRefusedWith s op reply) → IsRefusedBy v [] told [] r.root (ran r.seen)
   refusal_by_ r = record {
     inside = r.inside;
-    looks = r.refused.looks;
+    looks = r.looks;
     refusal = r.refusal;
-    first = r.refused.first;
-    traced = refusal_traced (Rattle.pm_crash.specs.Sim.tx_with v (Rattle.pm_crash.specs.Looked.pool_seen v None) (Rattle.pm_crash.specs.Looked.items_seen v)) works some unseen op r.refusal r.refused.first;
+    first = r.first;
+    traced = refusal_traced (Rattle.pm_crash.specs.Sim.tx_with v (Rattle.pm_crash.specs.Looked.pool_seen v r.root) (Rattle.pm_crash.specs.Looked.items_seen v)) works some r.seen op r.refusal r.first;
     replied = r.replied;
     left = subst (λ c. Rattle.pm_crash.specs.SimOps.LeavesBits v [] told [] c) (sym r.plain) (refl, refl);
   }
 
-  sim : Sim told []
-  sim = sim_rolls_back v told [] None ran is.sim (record { keeps = record { fixed = refl; entries = refl }; call = refl }) (inr works)
-      (rolls_back v b.notes b.calls b.generation b.each is.working.unmaking is.sound is.spans is.recorded b.restored b.others (λ p e. far_picture v p is.working.lane is.working.lanes e) op reply)
-      (⊎_elim (λ (r : IsRefusedWith s op reply). inr (refusal_by_ r)) (λ (a : IsAbort op reply). inl (abort_by a)) gives)
+  rolls : RollsBack v told op
+  rolls = rolls_back v b.notes b.calls b.generation b.each is.working.unmaking is.sound is.spans is.recorded b.restored b.others (λ p e. far_picture v p is.working.lane is.working.lanes e) op reply
 
-  ends : aborts ran ≡ true
+  sim : Sim told []
+  sim = ⊎_elim
+      (λ (r : IsRefusedWith s op reply). sim_rolls_back v told [] r.root (ran r.seen) is.sim (record { keeps = record { fixed = refl; entries = refl }; call = refl }) (inr works) rolls (inr (refusal_by_ r)))
+      (λ (a : IsAbort op reply). sim_rolls_back v told [] None (ran unseen) is.sim (record { keeps = record { fixed = refl; entries = refl }; call = refl }) (inr works) rolls (inl (abort_by a)))
+      gives
+
+  ends : aborts (ran unseen) ≡ true
   ends = ⊎_elim
       (λ (r : IsRefusedWith s op reply). or_left (not (is_action op) && is_refusal reply) (is_abort op) (and_from (not (is_action op)) (is_refusal reply) (ap not r.plain) (ap is_refusal r.replied)))
       (λ (a : IsAbort op reply). or_right (not (is_action op) && is_refusal reply) (is_abort op) (ap is_abort a.is))
       gives
 
   over : IsOver told
-  over = calls_without_log told v.call ran (record { begun = begun_still v.call (record { operation = op; reply = reply } ∷ []) is.begun; call = refl; ends = inl ends }) refl refl
+  over = calls_without_log told v.call (ran unseen) (record { begun = begun_still v.call (record { operation = op; reply = reply } ∷ []) is.begun; call = refl; ends = inl ends }) refl refl
 
   fact : Fact told
   fact = without_entries_have_facts told refl sim over

@@ -1,5 +1,5 @@
 -- How a rollback leaves its lane, from how its parts leave it.
-use Rattle.std.proofs.Common.{◌≡◌, ◌≢◌, ℕ, suc, ◌+◌, ◌%◌, ◌^◌, ◌==◌, true, false, cond, List, [], ◌∷◌, length, map, refl, sym, ap, ◌∙◌, subst, arith, rules, inl, inr, Option, Some, Result, Ok, Err, IsErr}
+use Rattle.std.proofs.Common.{◌≡◌, ◌≢◌, ℕ, suc, ◌+◌, ◌%◌, ◌^◌, ◌==◌, true, false, cond, List, [], ◌∷◌, length, map, refl, sym, ap, ◌∙◌, subst, arith, rules, inl, inr, Option, None, Some, Result, Ok, Err, IsErr}
 use Rattle.std.proofs.lemmas.Bool.{cond-false, ne_eqb}
 use Rattle.pm_memory.specs.Runs.{Made, Ran, Stops}
 use Rattle.pm_memory.specs.declared.lane_mem.Stopped.{Stopped}
@@ -30,7 +30,7 @@ use Rattle.pm_undo.specs.Undoing.{KeepsLog, LogMoves, Restored, Retired, Stands}
 use Rattle.pm_undo.specs.Working.{CanRetire, IsWorking}
 use Rattle.pm_undo.proofs.Restored.{restore_lawful}
 use Rattle.pm_call.specs.At.{At}
-use Rattle.pm_call.specs.Did.{Cut, GaveUp, GivesUpFor, IsAtSo, IsRefused, Refuses, given_up, next}
+use Rattle.pm_call.specs.Did.{Cut, GaveUp, GivesUpFor, IsAtSo, IsRefused, Refuses, given_up, next, unseen}
 use Rattle.pm_call.specs.GivenUp.{GivenUp, GivesUp, MayEnd, MovedLog, MovesLog, WasGivenUp}
 use Rattle.pm_call.specs.Plans.{ends_call, gives_up, takes_back}
 use Rattle.pm_call.proofs.Ending.{refused_actions}
@@ -227,7 +227,7 @@ refuses_stop at old new op why answer e is same = subst (λ (r : Refusal). Refus
 
 module _ {M : Type 0} (at : M → View → Type 0) (old : Lane M) (op : Operation) (why : Refusal) (inside : is_inside op ≡ true) (plain : is_action op ≡ false) where
   gives_for : (s : Standing) → IsRefused s op why → GivesUp s op (Some (Refused why))
-  gives_for s refused = inl (record { inside = inside; plain = plain; refusal = why; refused = refused; replied = refl })
+  gives_for s refused = inl (record { inside = inside; plain = plain; seen = unseen; root = None; looks = refused.looks; refusal = why; first = refused.first; replied = refl })
 
   pub refuse_stands : IsAtSo at old (λ s. IsRefused s op why) → IsAtSo at old (λ s. GivesUp s op (Some (Refused why)))
   refuse_stands is = record { standing = is.standing; works = is.works; stands = is.stands; holds = gives_for is.standing is.holds }

@@ -2,6 +2,7 @@
 use Rattle.std.specs.Prelude.{◌≡◌, ◌⊎◌, ℕ, suc, ◌+◌, true, false, List, [], ◌∷◌, Option, Some, None, Result, Ok, Err}
 use Rattle.pm_memory.specs.Runs.{Stops}
 use Rattle.pm_memory.specs.declared.lane_mem.Stopped.{Stopped}
+use Rattle.pm_model.specs.Refusals.{Seen}
 use Rattle.pm_model.specs.Inside.{is_action, is_inside}
 use Rattle.pm_objects.specs.declared.calls.Operation.{Operation}
 use Rattle.pm_objects.specs.declared.calls.Operation.TheVariants.{Abort}
@@ -17,18 +18,23 @@ use Rattle.pm_world.specs.declared.lane.Lane.{Lane}
 use Rattle.pm_plan.specs.Plans.{Plan, Ready}
 use Rattle.pm_undo.specs.Undoing.{KeepsLog, LogMoves}
 use Rattle.pm_undo.specs.Working.{IsWorking}
-use Rattle.pm_call.specs.At.{At}
-use Rattle.pm_call.specs.Did.{Cut, IsOver, IsRefused, given_up, next}
+use Rattle.pm_crash.specs.Looked.{refusal_by}
+use Rattle.pm_crash.specs.SimOps.{LookedAt}
+use Rattle.pm_call.specs.At.{At, entries_so_far}
+use Rattle.pm_call.specs.Did.{Cut, IsOver, given_up, next}
 use Rattle.pm_call.specs.Plans.{ends_call, gives_up}
 
 -- ---- WHICH OPERATIONS GIVE IT UP, with their replies
 
--- one that is refused, and is none on the pending list alone
+-- one that is refused, by the lane's lists and by what it looked at and saw, and is none on the pending list alone
 pub record IsRefusedWith (s : Standing) (op : Operation) (reply : Option Value) : Type 0 where
   pub inside : is_inside op ≡ true
   pub plain : is_action op ≡ false
+  pub seen : Seen
+  pub root : Option ℕ
+  pub looks : LookedAt s.view (entries_so_far s) root op
   pub refusal : Refusal
-  pub refused : IsRefused s op refusal
+  pub first : refusal_by seen s.view root op ≡ Some refusal
   pub replied : reply ≡ Some (Refused refusal)
 
 -- an abort
