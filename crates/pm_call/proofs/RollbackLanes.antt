@@ -1,5 +1,5 @@
 -- How a rollback leaves its lane, from how its parts leave it.
-use Rattle.std.proofs.Common.{◌≡◌, ◌≢◌, ℕ, suc, ◌+◌, ◌%◌, ◌^◌, ◌==◌, true, false, cond, List, [], ◌∷◌, length, map, refl, sym, ap, ◌∙◌, subst, arith, rules, inl, inr, Option, None, Some, Result, Ok, Err, IsErr}
+use Rattle.std.proofs.Common.{◌≡◌, ◌≢◌, ℕ, suc, ◌+◌, ◌^◌, ◌<◌, ◌==◌, true, false, cond, List, [], ◌∷◌, length, map, refl, sym, ap, ◌∙◌, subst, arith, rules, inl, inr, Option, None, Some, Result, Ok, Err, IsErr}
 use Rattle.std.proofs.lemmas.Bool.{cond-false, ne_eqb}
 use Rattle.pm_memory.specs.Runs.{Made, Ran, Stops}
 use Rattle.pm_memory.specs.declared.lane_mem.Stopped.{Stopped}
@@ -50,15 +50,19 @@ ready_ends : (v : View) (op : Operation) (reply : Option Value) (n : ℕ) → Re
 unfolding in_turn
 ready_ends v op reply n r = ready_right v (takes_back v) (ends_call op reply n (after_all v (takes_back v))) r
 
+-- a number that is taken is far below 2^64
+pub few_drawn : (may : View → Step → Type 0) → ((v : View) (s : Step) → Allowed v s → may v s) → (old new : View → Type 0) (n : ℕ) → (v : View) × old v × ((k : ℕ) → Allowed v (Draw k)) → Made may old new (Draw n) → n < 2 ^ 63
+few_drawn may grants old new n v made = (made v.0 v.1 (grants v.0 (Draw n) (v.2 n))).1.2
+
 -- ---- the call ends: its operation is told, and it takes its number
 module _ (may : View → Step → Type 0) (grants : (v : View) (s : Step) → Allowed v s → may v s) (old : View → Type 0) (op : Operation) (reply : Option Value) where
   pub end_tell : MayEnd old op reply → (v : View) × old v × Allowed v (Tell op reply)
   unfolding MayEnd Ready in_turn one
   end_tell m = (m.0, m.1, (m.2 0).0)
 
-  pub end_draw : (mid : View → Type 0) → MayEnd old op reply → Made may old mid (Tell op reply) → (n : ℕ) → (v : View) × mid v × Allowed v (Draw n)
+  pub end_draw : (mid : View → Type 0) → MayEnd old op reply → Made may old mid (Tell op reply) → (v : View) × mid v × ((n : ℕ) → Allowed v (Draw n))
   unfolding MayEnd Ready in_turn one after_all
-  end_draw mid m told n = (after m.0 (Tell op reply), (told m.0 m.1 (grants m.0 (Tell op reply) (m.2 n).0)).0, (m.2 n).2.0)
+  end_draw mid m told = (after m.0 (Tell op reply), (told m.0 m.1 (grants m.0 (Tell op reply) (m.2 0).0)).0, λ n. (m.2 n).2.0)
 
   pub end_made : (mid new : View → Type 0) (n : ℕ) → Made may old mid (Tell op reply) → Made may mid new (Draw n) → IsMade old new (ends_call op reply n)
   unfolding Runs Ready in_turn one after_all
@@ -166,16 +170,16 @@ module _ {M : Type 0} (at : M → View → Type 0) (old : Lane M) where
     actions_same s (inr a) = λ i. actions_told (a.is i) (a.replied i) s.view.actions
 
     fields_after : (e : TxErr) (n : ℕ) (s : Standing) (is : At s) (gives : GivesUp s op reply)
-        → record (with_log (after_all s.view (takes_back s.view)) (fields_at stage.Work s)) { entries = []; stage = stage.OnAbort; error = e; last = (n + 1) % 2 ^ 64 } ≡ given_up e (next s (gives_up op reply n))
+        → record (with_log (after_all s.view (takes_back s.view)) (fields_at stage.Work s)) { entries = []; stage = stage.OnAbort; error = e; last = n + 1 } ≡ given_up e (next s (gives_up op reply n))
     fields_after e n s is gives =
-        ap (λ (w : View). record (with_log w (fields_at stage.Work s)) { entries = []; stage = stage.OnAbort; error = e; last = (n + 1) % 2 ^ 64 }) (taken_at s is op reply gives)
+        ap (λ (w : View). record (with_log w (fields_at stage.Work s)) { entries = []; stage = stage.OnAbort; error = e; last = n + 1 }) (taken_at s is op reply gives)
         ∙ (same ∙ ap (λ (w : View). given_up e (moved s w)) (sym (ends_at s is op reply gives n)))
       where
-        same : record (with_log (Rattle.pm_call.proofs.GivingUp.back s is op reply gives) (fields_at stage.Work s)) { entries = []; stage = stage.OnAbort; error = e; last = (n + 1) % 2 ^ 64 } ≡ given_up e (moved s (Rattle.pm_call.proofs.GivingUp.done s is op reply gives n))
-        same = (λ i. record (given_up e (moved s (Rattle.pm_call.proofs.GivingUp.done s is op reply gives n))) { pending = listed (sym (actions_same s gives) i); last = (let z : n + 1 ≡ suc n = omega arith in z) i % 2 ^ 64 })
+        same : record (with_log (Rattle.pm_call.proofs.GivingUp.back s is op reply gives) (fields_at stage.Work s)) { entries = []; stage = stage.OnAbort; error = e; last = n + 1 } ≡ given_up e (moved s (Rattle.pm_call.proofs.GivingUp.done s is op reply gives n))
+        same = (λ i. record (given_up e (moved s (Rattle.pm_call.proofs.GivingUp.done s is op reply gives n))) { pending = listed (sym (actions_same s gives) i); last = (let z : n + 1 ≡ suc n = omega arith in z) i })
 
     pub gave_ok : (mid new : Lane M) (e : TxErr) (n : ℕ) → MovedLog at old mid takes_back (Ok tt) → IsMade (at mid.memory) (at new.memory) (ends_call op reply n)
-        → fields_of new ≡ record (fields_of mid) { entries = []; stage = stage.OnAbort; error = e; last = (n + 1) % 2 ^ 64 } → GivenUp at old new op reply e (Ok tt)
+        → fields_of new ≡ record (fields_of mid) { entries = []; stage = stage.OnAbort; error = e; last = n + 1 } → GivenUp at old new op reply e (Ok tt)
     unfolding GivenUp MovedLog Runs
     gave_ok mid new e n back made fields s works is gives =
         let v : View = s.view in
@@ -187,7 +191,7 @@ module _ {M : Type 0} (at : M → View → Type 0) (old : Lane M) where
           sees = record {
             memory = ran_then {T = Unit {0}} (at new.memory) v takes_back (ends_call op reply n) (Ok tt) l.ready (made (after_all v (takes_back v)) b.memory (ready_ends v op reply n l.ready));
             fields = fields
-                ∙ (ap (λ (f : Fields). record f { entries = []; stage = stage.OnAbort; error = e; last = (n + 1) % 2 ^ 64 }) (b.fields ∙ ap (with_log (after_all v (takes_back v))) works.fields)
+                ∙ (ap (λ (f : Fields). record f { entries = []; stage = stage.OnAbort; error = e; last = n + 1 }) (b.fields ∙ ap (with_log (after_all v (takes_back v))) works.fields)
                 ∙ fields_after e n s is gives);
           };
           over = l.over;

@@ -1,10 +1,12 @@
-ghost use Rattle.std.specs.Prelude.{◌≡◌, ◌≢◌, ◌+◌, ◌%◌, ◌^◌, ℕ, true, false, []};
+ghost use Rattle.std.specs.Prelude.{◌≡◌, ◌≢◌, ◌+◌, ℕ, true, false, []};
 ghost use Rattle.std.specs.Option.{option_map};
 ghost use Rattle.pm_memory.specs.Runs.{Made};
 ghost use Rattle.pm_model.specs.Inside.{is_action, is_inside};
 ghost use Rattle.pm_model.specs.declared.stage.Stage.TheVariants as stage;
 ghost use Rattle.pm_objects.specs.declared.refusal.Refusal.TheVariants as refusal;
 ghost use Rattle.pm_view.specs.Steps.Step.{Draw};
+ghost use Rattle.pm_view.specs.View.{View};
+ghost use Rattle.pm_world.specs.Lawful.{Allowed};
 ghost use Rattle.pm_world.specs.LaneFields.{fields_of};
 ghost use Rattle.pm_world.specs.Lent.{operation_of, value_of};
 ghost use Rattle.pm_plan.specs.Plans.{IsMade, in_turn};
@@ -61,12 +63,12 @@ pub fn take_back<M: LawfulMem>(lane: &mut Lane<M>) -> Result<(), Stopped>
 /// Draws the number of the open call, goes on to the stage after an abort with this error, and tells
 /// how many numbers were drawn before.
 fn draw_number<M: LawfulMem>(lane: &mut Lane<M>, error: TxErr) -> u64
-    requires may { (n : ℕ) → M.can lane.old.memory (Draw n) }
+    requires may { (v : View) × M.at lane.old.memory v × ((n : ℕ) → Allowed v (Draw n)) }
     ensures made { Made M.may (M.at lane.old.memory) (M.at lane.new.memory) (Draw result) }
-    ensures fields { fields_of lane.new ≡ record (fields_of lane.old) { entries = []; stage = stage.OnAbort; error = error; last = (result + 1) % 2 ^ 64 } }
+    ensures fields { fields_of lane.new ≡ record (fields_of lane.old) { entries = []; stage = stage.OnAbort; error = error; last = result + 1 } }
 {
     let number = lane.memory.draw();
-    lane.last = number.wrapping_add(1);
+    lane.last = number + 1;
     lane.entries.clear();
     lane.stage = Stage::OnAbort;
     lane.error = error;
@@ -82,7 +84,7 @@ fn end_call<M: LawfulMem>(
 ) -> u64
     requires { MayEnd (M.at lane.old.memory) (operation_of told) (option_map value_of reply) }
     ensures made { IsMade (M.at lane.old.memory) (M.at lane.new.memory) (ends_call (operation_of told.entry) (option_map value_of reply.entry) result) }
-    ensures fields { fields_of lane.new ≡ record (fields_of lane.old) { entries = []; stage = stage.OnAbort; error = error; last = (result + 1) % 2 ^ 64 } }
+    ensures fields { fields_of lane.new ≡ record (fields_of lane.old) { entries = []; stage = stage.OnAbort; error = error; last = result + 1 } }
 {
     lane.memory.tell(told, reply);
     draw_number(lane, error)

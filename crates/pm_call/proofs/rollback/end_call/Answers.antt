@@ -1,5 +1,4 @@
 use Rattle.std.specs.Option.{option_map}
-use Rattle.pm_view.specs.Steps.Step.{Draw}
 use Rattle.pm_world.specs.Lent.{operation_of, tells, value_of}
 use Rattle.pm_call.proofs.RollbackLanes.{end_draw, end_made, end_tell}
 use Rattle.pm_call.proofs.rollback.end_call.Goals as goal
@@ -11,9 +10,7 @@ tell-requires g c =
 
 pub draw_number-requires : goal.draw_number-requires
 draw_number-requires g c = record {
-  may = λ n.
-      let m = end_draw g.M.LaneMem.may g.met.M.LawfulMem.grants (g.M.LaneMem.at c.args.lane.now.memory) (operation_of c.args.told) (option_map value_of c.args.reply) (g.M.LaneMem.at c.tell.new.self) c.requires c.tell.ensures n in
-      g.met.M.LawfulMem.meets c.tell.new.self m.0 (Draw n) m.1 m.2;
+  may = end_draw g.M.LaneMem.may g.met.M.LawfulMem.grants (g.M.LaneMem.at c.args.lane.now.memory) (operation_of c.args.told) (option_map value_of c.args.reply) (g.M.LaneMem.at c.tell.new.self) c.requires c.tell.ensures;
 }
 
 pub returns-clause-made : goal.returns-clause-made
