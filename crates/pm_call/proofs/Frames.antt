@@ -1,14 +1,14 @@
 -- A LANE THAT ONLY NOTES, records and stores holds what it held: its blocks are the same, and it knows no less.
-use Rattle.std.proofs.Common.{◌≡◌, ℕ, ◌+◌, ◌*◌, Bool, true, false, ◌==◌, ◌&&◌, List, sym, ◌∙◌, subst, Some}
+use Rattle.std.proofs.Common.{◌≡◌, ℕ, ◌+◌, ◌*◌, Bool, true, false, ◌==◌, ◌&&◌, List, refl, sym, ap, ◌∙◌, subst, Option, Some}
 use Rattle.std.specs.List.{list_any}
 use Rattle.pm_layout.specs.declared.shape.Shape.{Shape}
 use Rattle.pm_view.specs.Changes.{Undrained}
-use Rattle.pm_view.specs.Claims.{Claim, making, header_in, geometry}
+use Rattle.pm_view.specs.Claims.{Claim, class, first, found, mine, span, locked, reads, here, making, header_in, geometry}
 use Rattle.pm_view.specs.Log.{Log}
-use Rattle.pm_view.specs.Places.{Geometry, Place, InRun, InHuge, Descr, RootWord, Block, header}
+use Rattle.pm_view.specs.Places.{Geometry, Place, InRun, InHuge, Descr, RootWord, Block, Small, Big, header}
 use Rattle.pm_view.specs.View.{View}
 use Rattle.pm_world.specs.Sights.{Hold, hold_of, is_recorded}
-use Rattle.pm_crash.specs.Footprints.{bit_before}
+use Rattle.pm_crash.specs.Footprints.{bit_before, has_found}
 use Rattle.pm_crash.specs.Sim.{Grows, IsSamePlace, sees_at}
 use Rattle.pm_undo.specs.Working.{Note, noted, AreNotes}
 use Rattle.pm_undo.proofs.Notes as notes

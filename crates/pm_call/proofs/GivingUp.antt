@@ -40,7 +40,7 @@ use Rattle.pm_call.specs.Plans.{gives_up, takes_back, tells}
 use Rattle.pm_call.proofs.Ending.{abort_unrefused, begun_still, refusal_traced}
 use Rattle.pm_call.proofs.Frames.{noting}
 use Rattle.pm_call.proofs.RolledBack.{is_changed, rolls_back}
-use Rattle.pm_call.proofs.Stays.{held_stays, sound_stays}
+use Rattle.pm_call.proofs.Noting.{held_so, sound_so}
 use Rattle.pm_call.proofs.TakenBack.{IsTakenBack, take_back_lawful}
 
 -- a word of which a lane has a picture is in no lane's area
@@ -94,7 +94,7 @@ module _ (s : Standing) (is : At s) (op : Operation) (reply : Option Value) (giv
     aborts = a.is;
     replied = a.replied;
     looks = record {
-      enters = no_entries v (is_changed v b.notes b.calls b.generation b.each is.working.unmaking is.sound is.spans is.recorded b.restored b.others (λ p e. far_picture v p is.working.lane is.working.lanes e));
+      enters = no_entries v (is_changed v b.notes b.calls b.generation b.each is.working.unmaking is.sound is.sound.some is.recorded b.restored b.others (λ p e. far_picture v p is.working.lane is.working.lanes e));
       sizes = subst (λ o. Rattle.pm_crash.specs.Looked.KnowsSizes v [] None o) (sym a.is) (λ id write among held stays. absurd (none_among id among));
       knows_root = no_root_is_asked v None op (ap (Rattle.pm_crash.specs.Looks.ids_freed (Rattle.pm_crash.specs.Sim.lists_of v)) a.is);
     };
@@ -114,11 +114,11 @@ module _ (s : Standing) (is : At s) (op : Operation) (reply : Option Value) (giv
   }
 
   rolls : RollsBack v told op
-  rolls = rolls_back v b.notes b.calls b.generation b.each is.working.unmaking is.sound is.spans is.recorded b.restored b.others (λ p e. far_picture v p is.working.lane is.working.lanes e) op reply
+  rolls = rolls_back v b.notes b.calls b.generation b.each is.working.unmaking is.sound is.sound.some is.recorded b.restored b.others (λ p e. far_picture v p is.working.lane is.working.lanes e) op reply
 
   sim : Sim told []
   sim = ⊎_elim
-      (λ (r : IsRefusedWith s op reply). sim_rolls_back v told [] r.root (ran r.seen) is.sim (record { keeps = record { fixed = refl; entries = refl }; call = refl }) (inr works) rolls (inr (refusal_by_ r)))
+      (λ (r : IsRefusedWith s op reply). sim_rolls_back v told [] r.root (ran r.seen) is.sim (record { keeps = record { fixed = refl; entries = refl }; call = refl }) (inr works) rolls (inr (r.plain, refusal_by_ r)))
       (λ (a : IsAbort op reply). sim_rolls_back v told [] None (ran unseen) is.sim (record { keeps = record { fixed = refl; entries = refl }; call = refl }) (inr works) rolls (inl (abort_by a)))
       gives
 
@@ -153,13 +153,13 @@ module _ (s : Standing) (is : At s) (op : Operation) (reply : Option Value) (giv
   facts n = draws_keep_facts told n fact is.facts
 
   is_over : (n : ℕ) → did.IsOver (moved s (done n))
-  is_over n = let sound = sound_stays v b.notes [] b.calls (new_log Open b.generation) b.each is.working.unmaking is.sound in record {
+  is_over n = let sound = sound_so v b.notes [] b.calls (new_log Open b.generation) b.each is.working.unmaking is.sound in record {
     log = refl;
     drained = refl;
-    sound = record { small = sound.small; zone = sound.zone; huge = sound.huge };
+    sound = record { small = sound.small; some = sound.some; zone = sound.zone; huge = sound.huge };
     known = b.known;
     sealed = b.others (word_of_seal v.fixed.shape v.fixed.lane) (λ p r e. let d = is.recorded p r in far_seal v d.object.block d.index is.working.lane is.working.lanes d.within (e ∙ ap (word_of v.fixed.shape) d.at)) (λ e. omega (arith, e)) ∙ is.sealed;
-    held = all_held n s.locks (held_stays v b.notes [] b.calls (new_log Open b.generation) b.each is.working.unmaking s.locks is.held);
+    held = all_held n s.locks (held_so v b.notes [] b.calls (new_log Open b.generation) b.each is.working.unmaking s.locks is.held);
     facts = facts n;
   }
     where

@@ -2,7 +2,13 @@ pub mod Frames
 pub mod RecordedWords
 pub mod TakenBack
 pub mod Ending
-pub mod Stays
 pub mod RolledBack
 pub mod GivingUp
 pub mod RollbackLanes
+pub mod ObjectWords
+pub mod KnownObjects
+pub mod Noting
+pub mod Looking
+pub mod RangeRefusals
+pub mod RangeWords
+pub mod RangeReads

@@ -1,17 +1,19 @@
 -- A lane whose transaction is taken back: it holds what it held, knows its words without their records, and its call has its fact.
-use Rattle.std.proofs.Common.{◌≡◌, ◌≢◌, ℕ, ◌≤◌, inr, ⊎_elim, Bool, true, false, cond, ◌==◌, List, [], refl, sym, ap, ◌∙◌, arith, Option, None, Some}
+use Rattle.pm_crash.proofs.SimFacts.{was_recorded}
+use Rattle.pm_crash.proofs.KnownWords.{none_of}
+use Rattle.std.proofs.Common.{◌≡◌, ◌≢◌, ℕ, ◌≤◌, inr, ⊎_elim, Bool, true, false, cond, ◌==◌, List, [], refl, sym, ap, ◌∙◌, arith, Option, None, Some, subst, ◌-◌, ◌/◌, ◌<◌}
 use Rattle.std.specs.Int.{bit_at}
 use Rattle.std.specs.Option.{option_map}
-use Rattle.std.proofs.lemmas.Bool.{both_ways, cases_Bool, cond-false}
+use Rattle.std.proofs.lemmas.Bool.{both_ways, cases_Bool, cond-false, false_from_ne_true}
 use Rattle.pm_layout.specs.declared.shape.Shape.{Shape}
 use Rattle.pm_layout.specs.Areas.{word_of_generation}
 use Rattle.pm_objects.specs.declared.calls.Operation.{Operation}
 use Rattle.pm_objects.specs.declared.history.Value.{Value}
 use Rattle.pm_model.specs.Inside.{is_kept_by}
 use Rattle.pm_view.specs.Claims.{Claim, making, pictured, span}
-use Rattle.pm_view.specs.Entries.{first_of_two}
+use Rattle.pm_view.specs.Entries.{first_of_two, turn}
 use Rattle.pm_view.specs.Log.{Open, Recorded, new_log, old_of}
-use Rattle.pm_view.specs.Places.{Place, InRun, InHuge, Descr, RootWord, Big, word_of}
+use Rattle.pm_view.specs.Places.{Place, InRun, InHuge, Descr, RootWord, Big, word_of, Block, Root, Small}
 use Rattle.pm_view.specs.Steps.Step.{Tell}
 use Rattle.pm_view.specs.View.{View}
 use Rattle.pm_view.specs.Views.{after, value_in}
@@ -21,15 +23,15 @@ use Rattle.pm_world.specs.Memory.{bit}
 use Rattle.pm_world.specs.Sights.{is_pictured, is_recorded, picture}
 use Rattle.pm_world.specs.States.{given}
 use Rattle.pm_crash.specs.Footprints.{bit_before, has_found}
-use Rattle.pm_crash.specs.Looked.{IsChanged, word_place}
-use Rattle.pm_crash.specs.Sim.{Grows, IsSamePlace, sees_at}
+use Rattle.pm_crash.specs.Looked.{size_seen, IsChanged, word_place, KnowsSize, words_in}
+use Rattle.pm_crash.specs.Sim.{Grows, IsSamePlace, sees_at, change_so_far}
 use Rattle.pm_crash.specs.SimOps.{KnowsWithoutRecords, RollsBack, with_records}
 use Rattle.pm_crash.proofs.Telling.{tells_grow}
 use Rattle.pm_undo.specs.Working.{AreNotes, Note, noted}
 use Rattle.pm_call.specs.At.{IsDataOf}
 use Rattle.pm_call.proofs.Frames.{noting, noting_grows}
-use Rattle.pm_call.proofs.Stays.{data_stays, header_new, size_bit, some_words}
-use Rattle.pm_call.proofs.RecordedWords.{one_use, size_pictured}
+use Rattle.pm_call.proofs.Noting.{found_so, place_so, size_so, words_so}
+use Rattle.pm_call.proofs.RecordedWords.{one_use, size_pictured, header_apart, size_word}
 
 -- what is recorded has an old value
 old_some : (rs : List Recorded) (p : Place) → is_recorded rs p ≡ true → (x : ℕ) × (old_of rs p ≡ Some x)
@@ -57,6 +59,29 @@ grows_told v u op reply kept g = let t = tells_grow u op reply kept in record {
   recorded = g.recorded;
   knows = g.knows;
 }
+
+-- where the lane knows the size of an object of which no header word is recorded, it saw the size
+pub size_bit : (v : View) (off : ℕ) (k : KnowsSize v [] off) → is_recorded v.log.records (word_place v k.block 1) ≡ false → (b : ℕ) → b < 64
+    → (has_found v k.block ≡ true) × (sees_at v (word_place v k.block 1) b ≡ true) × (picture v.fixed.shape v.claims (word_place v k.block 1) b ≡ Some (bit k.size b))
+size_bit v off k new b few = ⊎_elim
+    (λ (e : change_so_far v [] p b ≡ Some (bit k.size b)). absurd (both_ways (is_recorded v.log.records p) new (was_recorded v p b (ap given e))))
+    (λ (e : (change_so_far v [] p b ≡ None) × (has_found v k.block ≡ true) × (given (turn (change_so_far v []) k.block) ≡ false) × (sees_at v p b ≡ true) × (bit_before v p b ≡ Some (bit k.size b))).
+    (e.1, e.3, sym (ap (λ o. first_of_two (option_map (λ n. bit n b) o) (picture v.fixed.shape v.claims p b)) (none_of (old_of v.log.records p) new)) ∙ e.4))
+    (k.knows.bits b few)
+  where
+    p : Place
+    p = word_place v k.block 1
+
+pub some_words : (v : View) (B : Block) (k : ℕ) → k < words_in v B → 1 < words_in v B
+some_words v (Small c i) k low = omega arith
+some_words v (Big f) k low = omega arith
+some_words v Root k low = absurd (omega (arith, low))
+
+-- no header word of an object is recorded
+pub header_new : (v : View) → IsSound v → ((f : ℕ) → has_found v (Big f) ≡ true → 1 ≤ span v.fixed.shape v.claims f) → (records : List Recorded) → ((p : Place) → is_recorded records p ≡ true → IsDataOf v p)
+    → (B : Block) → has_found v B ≡ true → is_recorded records (word_place v B 1) ≡ false
+header_new v sound spans records recorded B found = false_from_ne_true (is_recorded records (word_place v B 1))
+    (λ e. let q = recorded (word_place v B 1) e in header_apart v sound spans B q.object.block 1 q.index found q.found (omega arith) q.data_ q.within q.at)
 
 module _ (v : View) (ns : List Note) (calls g : ℕ) (are : AreNotes v.fixed.shape v.claims ns) (unmaking : (c : ℕ) → making v.fixed.shape v.claims c ≡ false) where
   abbrev sh : Shape
@@ -122,25 +147,31 @@ module _ (v : View) (ns : List Note) (calls g : ℕ) (are : AreNotes v.fixed.sha
       value_new : pictured sh t (word_of sh (word_place v d.object.block 1)) ≡ value_in v (word_of sh (word_place v d.object.block 1))
       value_new = value_stays (word_place v d.object.block 1) 0 (size_bit v d.off d.object size_new 0 (omega arith)).1 (size_pictured v sound spans d.object.block d.found (some_words v d.object.block d.index d.within)) size_new
 
-      still : IsDataOf back p
-      still = data_stays v ns [] calls (new_log Open g) are unmaking sound spans p d size_new refl value_new
+      at_size : d.off / 8 - 7 ≡ word_of sh (word_place v d.object.block 1)
+      at_size = ap (λ n. n / 8 - 7) (sym d.object.at) ∙ sym (size_word v sound spans d.object.block (some_words v d.object.block d.index d.within))
+
+      size_back : size_seen back d.off ≡ Some d.object.size
+      size_back = ap (pictured sh t) at_size ∙ (value_new ∙ (ap (value_in v) (sym at_size) ∙ d.object.seen))
+
+      abbrev still : KnowsSize back [] d.off
+      still = size_so v ns [] calls (new_log Open g) are unmaking sound d.off d.object d.found size_back
 
       pub without_records : KnowsWithoutRecords (after back (Tell op reply)) v.log.records p
-      without_records = let k = still.object in record {
-        off = still.off;
+      without_records = record {
+        off = d.off;
         object = record {
-          block = k.block;
-          at = k.at;
-          object = record { inside = k.object.inside; stands = k.object.stands; whole = k.object.whole };
-          size = k.size;
-          knows = record { small = k.knows.small; bits = k.knows.bits };
-          seen = k.seen;
+          block = still.block;
+          at = still.at;
+          object = record { inside = still.object.inside; stands = still.object.stands; whole = still.object.whole };
+          size = still.size;
+          knows = record { small = still.knows.small; bits = still.knows.bits };
+          seen = still.seen;
         };
-        found = still.found;
-        index = still.index;
-        at = still.at;
-        within = still.within;
-        alive = still.alive;
+        found = found_so v ns [] calls (new_log Open g) are unmaking d.object.block ∙ d.found;
+        index = d.index;
+        at = d.at ∙ sym (place_so v ns [] calls (new_log Open g) are unmaking d.object.block d.index);
+        within = subst (λ n. d.index < n) (sym (words_so v ns [] calls (new_log Open g) are unmaking d.object.block)) d.within;
+        alive = d.alive;
         old = λ b y e.
             let x = old_some v.log.records p r in
             restored p x.0 b x.1 ∙ (sym (ap (λ o. first_of_two (option_map (λ n. bit n b) o) (picture sh t p b)) x.1) ∙ e);

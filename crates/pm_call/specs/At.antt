@@ -1,6 +1,6 @@
 -- A LANE AT WORK IN A TRANSACTION, between two of its operations: by plain data alone. Its log may grow; each object whose lock it has is found; its lists are
 -- those of the model's transaction that its operations led to; and from whatever bits it agrees with, what it told leads the model there.
-use Rattle.std.specs.Prelude.{◌≡◌, ℕ, ◌+◌, ◌/◌, ◌%◌, ◌^◌, ◌<◌, ◌≤◌, Bool, true, false, Contains, List, [], length, map, Some, None}
+use Rattle.std.specs.Prelude.{◌≡◌, ℕ, ◌+◌, ◌*◌, ◌/◌, ◌%◌, ◌^◌, ◌<◌, ◌≤◌, Bool, true, false, Contains, List, [], length, map, Option, Some, None}
 use Rattle.std.specs.List.{AllByRecursion}
 use Rattle.pm_layout.specs.Areas.{greatest_generation, word_of_seal}
 use Rattle.pm_objects.specs.declared.history.TxErr.TheVariants as error
@@ -8,9 +8,8 @@ use Rattle.pm_model.specs.Pending.{SetWord}
 use Rattle.pm_model.specs.Transaction.{Transaction, is_locked, is_working}
 use Rattle.pm_record.specs.declared.redo.Op.TheVariants as op
 use Rattle.pm_record.specs.declared.redo.Redo.{Redo}
-use Rattle.pm_view.specs.Claims.{span}
 use Rattle.pm_view.specs.Entries.{Entry}
-use Rattle.pm_view.specs.Places.{Big, Place}
+use Rattle.pm_view.specs.Places.{Place, word_of}
 use Rattle.pm_view.specs.Steps.Step.{NumberSeen}
 use Rattle.pm_view.specs.View.{View}
 use Rattle.pm_view.specs.Views.{value_in}
@@ -25,7 +24,7 @@ use Rattle.pm_crash.specs.SimFacts.{is_begun}
 use Rattle.pm_undo.specs.Records.{kept_by}
 use Rattle.pm_undo.specs.Spans as spans
 use Rattle.pm_undo.specs.Working.{IsWorking}
-use Rattle.pm_call.specs.Held.{AreHeld, is_in_locks}
+use Rattle.pm_call.specs.Held.{AreHeld, SizesFit, is_in_locks}
 
 -- the entries of the blocks that the call made and freed so far: none, as long as no call of a transaction makes or frees a block
 abbrev pub entries_so_far : Standing → List Entry
@@ -56,7 +55,7 @@ pub record AreLists (s : Standing) (level : ℕ) (tx : Transaction) : Type 0 whe
   pub may_set : AllByRecursion (MaySet s) tx.sets
   pub error_is : tx.error ≡ error.None
 
--- a recorded word is of the data of an object that the lane found, and of which it knows the size: in a line that the object has
+-- a recorded word is of the data of an object that the lane found, and of which it knows the size: in a line that the object has. The lane knows the word too
 pub record IsDataOf (v : View) (p : Place) : Type 0 where
   pub off : ℕ
   pub object : KnowsSize v [] off
@@ -66,6 +65,8 @@ pub record IsDataOf (v : View) (p : Place) : Type 0 where
   pub data_ : 8 ≤ index
   pub within : index < words_in v object.block
   pub alive : index / 8 ≤ (object.size + 63) / 64
+  pub value : ℕ
+  pub known : value_in v (word_of v.fixed.shape p) ≡ Some value
 
 -- the call saw that it may take a number, and took none
 pub record MayTakeNumber (v : View) : Type 0 where
@@ -82,7 +83,7 @@ pub record IsAt (s : Standing) (level : ℕ) : Type 0 where
   pub some : 1 ≤ level
   pub most : level ≤ 64
   pub sound : IsSound s.view
-  pub spans : (f : ℕ) → has_found s.view (Big f) ≡ true → 1 ≤ span s.view.fixed.shape s.view.claims f
+  pub sizes : SizesFit s.view
   pub sealed : value_in s.view (word_of_seal s.view.fixed.shape s.view.fixed.lane) ≡ Some 0
   pub number : MayTakeNumber s.view
   pub held : AreHeld s.view s.locks

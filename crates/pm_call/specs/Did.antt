@@ -1,5 +1,5 @@
 -- WHAT AN OPERATION OF A TRANSACTION DID to a lane, in one word for each kind of function, by cases of what it answers.
-use Rattle.std.specs.Prelude.{◌≡◌, ◌⊎◌, ℕ, ◌==◌, Bool, true, false, if◌then◌else◌, [], Option, Some, None, Result, Ok, Err}
+use Rattle.std.specs.Prelude.{◌≡◌, ◌⊎◌, ℕ, ◌==◌, Bool, true, false, if◌then◌else◌, List, [], Option, Some, None, Result, Ok, Err}
 use Rattle.pm_memory.specs.Runs.{Stops}
 use Rattle.pm_model.specs.Refusals.{Seen}
 use Rattle.pm_model.specs.declared.stage.Stage.{Stage}
@@ -15,7 +15,7 @@ use Rattle.pm_view.specs.Log.{Idle, new_log}
 use Rattle.pm_view.specs.View.{View}
 use Rattle.pm_view.specs.Views.{after_all, value_in}
 use Rattle.pm_world.specs.InWorld.{IsSound}
-use Rattle.pm_world.specs.LaneFields.{Fields, IsSeenAs, Standing, Works, fields_at, fields_of, moved}
+use Rattle.pm_world.specs.LaneFields.{Fields, IsSeenAs, Rests, Standing, Works, fields_at, fields_of, moved}
 use Rattle.pm_world.specs.declared.lane.Lane.{Lane}
 use Rattle.pm_crash.specs.Facts.{HaveFacts}
 use Rattle.pm_crash.specs.Looked.{refusal_by}

@@ -1,17 +1,18 @@
 -- WHICH OBJECTS A LANE HOLDS, by its list of locks and by its claims; and what it looks at under these locks.
-use Rattle.std.specs.Prelude.{◌≡◌, ◌⊎◌, ℕ, zero, suc, ◌-◌, ◌/◌, ◌%◌, ◌^◌, ◌<◌, ◌≤◌, nat_le, Bool, true, ◌==◌, ◌&&◌, ◌||◌, not, List}
+use Rattle.std.specs.Prelude.{◌≡◌, ◌⊎◌, ℕ, zero, suc, ◌+◌, ◌-◌, ◌*◌, ◌/◌, ◌%◌, ◌^◌, ◌<◌, ◌≤◌, nat_le, Bool, true, Option, Some, ◌==◌, ◌&&◌, ◌||◌, not, List}
 use Rattle.std.specs.List.{AllByRecursion, list_any}
 use Rattle.pm_view.specs.Claims.{header_in}
 use Rattle.pm_view.specs.Founds.{FindsKnown}
-use Rattle.pm_view.specs.Places.{Block, word_of}
+use Rattle.pm_view.specs.Places.{Block, Place, word_of}
 use Rattle.pm_view.specs.Steps.Step.{Load}
 use Rattle.pm_view.specs.View.{View}
-use Rattle.pm_view.specs.Views.{after}
+use Rattle.pm_view.specs.Views.{after, value_in}
 use Rattle.pm_world.specs.Lanes.{is_occupancy}
 use Rattle.pm_world.specs.declared.lane.HeldLock.{HeldLock}
 use Rattle.pm_crash.specs.Footprints.{has_found}
 use Rattle.pm_crash.specs.Looked.{word_place, words_in}
 use Rattle.pm_lock.specs.Holding.{IsHeldAs}
+use Rattle.pm_undo.specs.Ranges.{block_bytes}
 
 -- ---- the list of locks
 
@@ -53,7 +54,12 @@ pub record IsObjectWord (v : View) (B : Block) (k : ℕ) : Type 0 where
   pub within : k < words_in v B
   pub kind : (k ≡ 1) ⊎ (8 ≤ k)
 
--- A LOOK at such a word: what is found is what the lane knows of it, where it knows it
+-- each object whose size the lane knows fits its block
+abbrev pub SizesFit : View → Type 0
+SizesFit v = (B : Block) (x : ℕ) → has_found v B ≡ true → is_occupancy v.fixed.shape B ≡ true → value_in v (8 * header_in v.fixed.shape v.claims B + 1) ≡ Some x
+    → 64 + x ≤ block_bytes v B
+
+-- A LOOK at such a word: what is found is what the lane knows of it, where it knows it; and a size fits the block
 pub record LooksAt (v next : View) : Type 0 where
   pub block : Block
   pub index : ℕ
@@ -61,6 +67,7 @@ pub record LooksAt (v next : View) : Type 0 where
   pub value : ℕ
   pub small : value < 2 ^ 64
   pub agrees : FindsKnown v (word_of v.fixed.shape (word_place v block index)) value
+  pub fits : index ≡ 1 → 64 + value ≤ block_bytes v block
   pub then : next ≡ after v (Load (word_of v.fixed.shape (word_place v block index)) value)
 
 -- so many looks

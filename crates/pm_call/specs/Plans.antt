@@ -1,15 +1,17 @@
 -- THE PLANS OF A TRANSACTION'S OPERATIONS on objects that it found, as functions of the lane's view before them: docs/FORMAT.md, "Sequences".
-use Rattle.std.specs.Prelude.{ℕ, ◌+◌, if◌then◌else◌, ◌==◌, List, [], ◌∷◌, length, Option, Some, None}
+use Rattle.std.specs.Prelude.{ℕ, zero, suc, ◌+◌, ◌/◌, if◌then◌else◌, ◌==◌, List, [], ◌∷◌, length, Option, Some, None}
 use Rattle.pm_objects.specs.declared.calls.Operation.{Operation}
 use Rattle.pm_objects.specs.declared.calls.Operation.TheVariants.{AddRange, Write, Read}
 use Rattle.pm_objects.specs.declared.history.Value.{Value}
-use Rattle.pm_objects.specs.declared.history.Value.TheVariants.{Bytes}
+use Rattle.pm_objects.specs.declared.history.Value.TheVariants.{Bytes, Refused}
 use Rattle.pm_objects.specs.declared.ids.Oid.{Oid}
+use Rattle.pm_objects.specs.declared.refusal.Refusal.{Refusal}
 use Rattle.pm_model.specs.Transaction.{covered_words}
 use Rattle.pm_view.specs.Steps.Step.{Draw, Tell}
+use Rattle.pm_view.specs.View.{View}
 use Rattle.pm_crash.specs.Looked.{bytes_seen}
 use Rattle.pm_crash.specs.Writes.{written_word}
-use Rattle.pm_plan.specs.Plans.{Plan, in_turn, known_word, nothing, one, persists_all, stores}
+use Rattle.pm_plan.specs.Plans.{Plan, by_view, in_turn, known_word, looks, nothing, one, persists_all, stores}
 use Rattle.pm_undo.specs.Plans.{restores, retires, snapshots}
 
 -- an operation is told, with its reply

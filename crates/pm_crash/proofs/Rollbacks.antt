@@ -1,25 +1,32 @@
--- A transaction that put back what it recorded knows no less without its records.
-use Rattle.std.proofs.Common.{◌≡◌, ⊎_elim, ℕ, ◌<◌, Bool, true, false, List, [], Option, Some, refl, sym, ◌∙◌, ap, subst, arith}
+-- A transaction that put back what it recorded knows no less without its records; and its call has its fact,
+-- as has one that is committed without entries.
+use Rattle.std.proofs.Common.{◌≡◌, ⊎_elim, inl, inr, ℕ, ◌<◌, ◌&&◌, not, Bool, true, false, List, [], Option, Some, refl, sym, ◌∙◌, ap, subst, arith}
 use Rattle.std.specs.Option.{option_map}
-use Rattle.std.proofs.lemmas.Bool.{both_ways, cases_Bool, or_cases, or_right}
+use Rattle.std.proofs.lemmas.Bool.{and_from, both_ways, cases_Bool, or_cases, or_left, or_right}
 use Rattle.pm_header.specs.declared.header.Header.{Header}
 use Rattle.pm_objects.specs.declared.pool.PoolView.{PoolView}
-use Rattle.pm_model.specs.Inside.{is_kept_by}
-use Rattle.pm_view.specs.Entries.{first_of_two}
+use Rattle.pm_model.specs.Inside.{Ran, is_action, is_kept_by, is_refusal}
+use Rattle.pm_model.specs.Shown.{aborts, is_abort}
+use Rattle.pm_model.specs.Transaction.{idle}
+use Rattle.pm_view.specs.Entries.{Entry, first_of_two}
 use Rattle.pm_view.specs.Log.{Recorded, old_of}
 use Rattle.pm_view.specs.Places.{Place, Block, Small, Big, Root}
-use Rattle.pm_view.specs.View.{View}
+use Rattle.pm_view.specs.View.{Numbered, View}
 use Rattle.pm_world.specs.Lanes.{sees}
 use Rattle.pm_world.specs.Memory.{bit}
 use Rattle.pm_world.specs.Sights.{is_recorded, picture, sight_of}
 use Rattle.pm_world.specs.States.{State, live}
+use Rattle.pm_crash.specs.Calls.{pending_of}
 use Rattle.pm_crash.specs.Footprints.{bit_before, geometry_of, is_of_object, is_run_to}
 use Rattle.pm_crash.specs.Looked.{Enters, words_in}
-use Rattle.pm_crash.specs.Sim.{Agrees, KeepsEntries}
-use Rattle.pm_crash.specs.SimOps.{IsAborted, KnowsWithoutRecords, IsRefusedBy, SimRollsBack, with_records}
+use Rattle.pm_crash.specs.OpenRuns.{after_told, no_pool}
+use Rattle.pm_crash.specs.Sim.{Agrees, KeepsEntries, lists_of}
+use Rattle.pm_crash.specs.SimFacts.{CommittedCallsHaveFacts, RolledBackCallsHaveFacts, lists_after}
+use Rattle.pm_crash.specs.SimOps.{IsAborted, IsRefusedBy, IsRolledBack, KnowsWithoutRecords, SimRollsBack, with_records}
 use Rattle.pm_crash.specs.Spelled.{Holds}
 use Rattle.pm_crash.proofs.KnownWords.{found_alive, none_of}
-use Rattle.pm_crash.proofs.SimFacts.{no_block, no_entries}
+use Rattle.pm_crash.proofs.SimCommits.{sim_commits}
+use Rattle.pm_crash.proofs.SimFacts.{calls_without_entries, calls_without_log, no_block, no_entries, without_entries_have_facts}
 use Rattle.pm_crash.proofs.SimOps.{aborted_so, refused_by}
 use Rattle.pm_crash.proofs.Simulation.{agrees_back, sim_goes_back}
 
@@ -76,7 +83,8 @@ pub sim_rolls_back : SimRollsBack
 sim_rolls_back v next entries root ran sim tells may rolls by = sim_goes_back v next entries [] ran sim tells may before
     (λ kept classes s header pool x holds id c. ⊎_elim
     (λ (a : IsAborted v entries next root ran). aborted_so v next entries [] root ran tells a.looks kept classes s header pool x (before kept classes s header pool x holds) holds id c a refl)
-    (λ (r : IsRefusedBy v entries next [] root ran). refused_by v next entries [] root ran tells r.looks kept classes s header pool x (before kept classes s header pool x holds) holds id c r)
+    (λ (r : (is_action ran.operation ≡ false) × IsRefusedBy v entries next [] root ran).
+    refused_by v next entries [] root ran tells r.1.looks kept classes s header pool x (before kept classes s header pool x holds) holds id c r.1)
     by)
   where
     keeps : KeepsEntries v (with_records v.log.records next)
@@ -86,3 +94,24 @@ sim_rolls_back v next entries root ran sim tells may rolls by = sim_goes_back v 
         → Agrees classes v (is_kept_by ran.operation kept) s
     before kept classes s header pool x holds = agrees_back v (with_records v.log.records next) (is_kept_by ran.operation kept) kept keeps (rolls.grows kept) classes s
         (agrees_with_records next v.log.records rolls.retired rolls.put_back kept classes s header pool holds x)
+
+-- ---- THE CALL HAS ITS FACT
+
+rolled_back_aborts : (v next : View) (entries : List Entry) (root : Option ℕ) (ran : Ran) → IsRolledBack v entries next root ran → aborts ran ≡ true
+rolled_back_aborts v next entries root ran by = ⊎_elim
+    (λ (a : IsAborted v entries next root ran). or_right (not (is_action ran.operation) && is_refusal ran.reply) (is_abort ran.operation) (ap is_abort a.aborts))
+    (λ (r : (is_action ran.operation ≡ false) × IsRefusedBy v entries next [] root ran).
+    or_left (not (is_action ran.operation) && is_refusal ran.reply) (is_abort ran.operation)
+    (and_from (not (is_action ran.operation)) (is_refusal ran.reply) (ap not r.0) (ap is_refusal r.1.replied)))
+    by
+
+pub rolled_back_calls : RolledBackCallsHaveFacts
+rolled_back_calls v next entries root ran sim tells may rolls by begun none =
+    without_entries_have_facts next none (sim_rolls_back v next entries root ran sim tells may rolls by)
+    (calls_without_log next v.call ran (record { begun = begun; call = tells.call; ends = inl (rolled_back_aborts v next entries root ran by) }) none rolls.retired)
+
+pub committed_calls : CommittedCallsHaveFacts
+committed_calls v next root ran sim tells may grows by level begun none known =
+    let same : (lists_after next v.call).level ≡ (lists_of v).level = ap (λ (entries : List Numbered). (after_told v.call (idle no_pool (pending_of entries))).level) tells.keeps.entries in
+    without_entries_have_facts next none (sim_commits v next [] [] root ran sim tells may grows by)
+    (calls_without_entries next v.call ran (record { begun = begun; call = tells.call; ends = inr (by.commits, by.replied, same ∙ level) }) none known)

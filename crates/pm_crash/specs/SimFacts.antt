@@ -1,9 +1,9 @@
 -- A CALL THAT ENDS has its fact, by the simulation: as a transaction takes its number.
-use Rattle.std.specs.Prelude.{◌≡◌, ◌⊎◌, ℕ, ◌*◌, ◌<◌, ◌≤◌, Bool, true, false, List, [], ◌∷◌, ◌++◌, None}
+use Rattle.std.specs.Prelude.{◌≡◌, ◌⊎◌, ℕ, ◌*◌, ◌<◌, ◌≤◌, Bool, true, false, List, [], ◌∷◌, ◌++◌, Option, None}
 use Rattle.pm_layout.specs.Sizes.{class_of}
 use Rattle.pm_objects.specs.Pool.{block_lines}
 use Rattle.pm_objects.specs.declared.calls.Operation.TheVariants.{Commit}
-use Rattle.pm_model.specs.Inside.{Ran, is_begin}
+use Rattle.pm_model.specs.Inside.{Ran, is_begin, is_kept_by}
 use Rattle.pm_model.specs.Shown.{aborts}
 use Rattle.pm_model.specs.Transaction.{Transaction, idle, is_working}
 use Rattle.pm_view.specs.Entries.{Entry}
@@ -14,7 +14,9 @@ use Rattle.pm_crash.specs.Calls.{Fact, pending_of, told_by}
 use Rattle.pm_crash.specs.HeapChanges.{Makes}
 use Rattle.pm_crash.specs.Looked.{Enters, IsChanged, IsObject, KnowsWord, words_in}
 use Rattle.pm_crash.specs.OpenRuns.{after_told, no_pool}
-use Rattle.pm_crash.specs.Sim.{Sim, change_so_far, lists_of}
+use Rattle.pm_crash.specs.Sim.{Grows, MayTell, Sim, Tells, change_so_far, lists_of}
+use Rattle.pm_crash.specs.SimCommits.{IsCommit}
+use Rattle.pm_crash.specs.SimOps.{IsRolledBack, RollsBack}
 
 -- a block that the call makes has an object of its size, and its other header words are 0
 pub record IsSized (v : View) (entries : List Entry) (B : Block) : Type 0 where
@@ -79,3 +81,19 @@ CallsWithoutLogAreOver = (v : View) (earlier : List Told) (ran : Ran) → EndsCa
 -- SO THIS CALL HAS ITS FACT
 abbrev pub CallsWithoutEntriesHaveFacts : Type 0
 CallsWithoutEntriesHaveFacts = (v : View) → v.log.entries ≡ [] → Sim v [] → IsOver v → Fact v
+
+-- so has a call that is rolled back
+abbrev pub RolledBackCallsHaveFacts : Type 0
+RolledBackCallsHaveFacts = (v next : View) (entries : List Entry) (root : Option ℕ) (ran : Ran)
+    → Sim v entries → Tells v next ran → MayTell v → RollsBack v next ran.operation
+    → IsRolledBack v entries next root ran
+    → is_begun next.call ≡ true → next.log.entries ≡ [] → Fact next
+
+-- and one whose outermost level is committed, without entries
+abbrev pub CommittedCallsHaveFacts : Type 0
+CommittedCallsHaveFacts = (v next : View) (root : Option ℕ) (ran : Ran)
+    → Sim v [] → Tells v next ran → MayTell v
+    → ((kept : Bool) → Grows v (is_kept_by ran.operation kept) next kept)
+    → IsCommit v [] next [] root ran → (lists_of v).level ≡ 1
+    → is_begun next.call ≡ true → next.log.entries ≡ []
+    → ((p : Place) → is_recorded next.log.records p ≡ true → IsChanged next p) → Fact next

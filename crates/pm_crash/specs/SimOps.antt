@@ -155,10 +155,15 @@ pub record RollsBack (v next : View) (op : Operation) : Type 0 where
       → KnowsWithoutRecords next v.log.records p
   pub retired : next.log.records ≡ []
 
+-- the operation is an abort, or is refused and is not on the pending list alone
+abbrev pub IsRolledBack : View → List Entry → View → Option ℕ → Ran → Type 0
+IsRolledBack v entries next root ran = IsAborted v entries next root ran
+    ⊎ ((is_action ran.operation ≡ false) × IsRefusedBy v entries next [] root ran)
+
 abbrev pub SimRollsBack : Type 0
 SimRollsBack = (v next : View) (entries : List Entry) (root : Option ℕ) (ran : Ran)
     → Sim v entries → Tells v next ran → MayTell v → RollsBack v next ran.operation
-    → IsAborted v entries next root ran ⊎ IsRefusedBy v entries next [] root ran → Sim next []
+    → IsRolledBack v entries next root ran → Sim next []
 
 -- ---- A WRITE: bytes of an object are put in, in words that the lane knows
 

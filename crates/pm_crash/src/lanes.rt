@@ -4,7 +4,8 @@ ghost use Rattle.pm_crash.specs.SimOps.{SimRollsBack, SimWrites};
 ghost use Rattle.pm_crash.specs.SimAllocs.{SimAllocates, SimFrees, SimPublishes, SimReserves};
 ghost use Rattle.pm_crash.specs.SimCommits.{SimCommits};
 ghost use Rattle.pm_crash.specs.SimFacts.{CallsWithoutEntriesAreOver, CallsWithoutEntriesHaveFacts};
-ghost use Rattle.pm_crash.specs.SimFacts.{CallsWithoutLogAreOver, SimsAreFacts, TransactionsEnd};
+ghost use Rattle.pm_crash.specs.SimFacts.{CallsWithoutLogAreOver, CommittedCallsHaveFacts};
+ghost use Rattle.pm_crash.specs.SimFacts.{RolledBackCallsHaveFacts, SimsAreFacts, TransactionsEnd};
 ghost use Rattle.pm_crash.specs.Looked.{ReadIs, RefusalIs};
 ghost use Rattle.pm_crash.specs.Looks.{RefusalsLook};
 
@@ -52,12 +53,15 @@ pub fn transactions_have_facts()
     ensures { SimsAreFacts }
 {}
 
-/// A law: a transaction that began with `begin` is over after an operation that aborts it, by the script
-/// or by a refusal, and after the commit of its outermost level. Where its log has no entries, and its
-/// records are of blocks that it found or are retired, it has the fact that its call owes. No code runs.
+/// A law: a transaction that began with `begin` is over after an operation that aborts it, by the
+/// script or by a refusal, and after the commit of its outermost level. Its call has its fact where its
+/// log has no entries: after a rollback, once its records are retired, and after a commit, where its
+/// records are of blocks that it found. No code runs.
 pub fn ended_transactions_are_over()
     ensures ends { TransactionsEnd }
     ensures entries { CallsWithoutEntriesAreOver }
     ensures log { CallsWithoutLogAreOver }
     ensures facts { CallsWithoutEntriesHaveFacts }
+    ensures rolled_back { RolledBackCallsHaveFacts }
+    ensures committed { CommittedCallsHaveFacts }
 {}

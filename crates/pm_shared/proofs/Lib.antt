@@ -11,6 +11,7 @@ pub mod PoolWords
 pub mod EntriesKept
 pub mod Sound
 pub mod MarkedChunks
+pub mod LoadsTold
 pub mod StoresFind
 pub mod StoresTold
 pub mod Crews

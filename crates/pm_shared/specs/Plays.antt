@@ -12,6 +12,7 @@ use Rattle.pm_view.specs.Steps.{Step}
 use Rattle.pm_view.specs.Steps.Step.{Load, Store, Or, And, Flush, Drain, TakeWrite, TakeRead, Raise, Give, ZoneTry, ZoneGive, Occupied, Occupy, Vacate, Draw, NumberSeen, StopSeen, SetStop, Tell}
 use Rattle.pm_view.specs.View.{View}
 use Rattle.pm_view.specs.Views.{was_in}
+use Rattle.pm_world.specs.InWorld.{InWorld}
 use Rattle.pm_shared.specs.Placing.{start_of}
 use Rattle.pm_shared.specs.Rule.{Knowledge, Lane, Bound, Made, lane_of}
 
@@ -33,8 +34,10 @@ abbrev pub zone_in : View → TableStep ℕ → Occ
 zone_in v st = Zone (number_in v 3 st)
 
 -- ---- pool words; a flush and a drain are loads of the lane's own word, a flush with its line as operand
+
+-- a load tells too that the lane's view is one of a world, in which the word has the value found
 abbrev pub loads : Told
-loads = tells (λ v st r. Load st.word r)
+loads st m r n = (v : View) → m ≡ lane_of v → Made (λ r. Load st.word r) v r n × InWorld v st.word r
 
 -- a store finds what the word was to the lane, where the lane's view keeps that
 abbrev pub FindsWas : View → ℕ → ℕ → Type 0

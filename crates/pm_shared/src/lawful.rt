@@ -32,6 +32,10 @@ impl SharedMem {
 impl<'a, N: TableName> LawfulMem for SharedLane<'a, N> {
     ghost use Rattle.pm_shared.specs.Seats.{meets_shared, grants_shared};
 
+    fn see(&mut self, word: u64) -> u64 {
+        self.memory.loads(&mut self.seat, self.lane, word)
+    }
+
     fn tell(&mut self, operation: LentOperation<'_>, reply: Option<LentValue<'_>>) {
         self.memory
             .tells::<Brand>(&mut self.seat, self.lane, operation, reply);

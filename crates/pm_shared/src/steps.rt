@@ -7,6 +7,7 @@ ghost use Rattle.pm_shared.specs.Placing.{kept_bits};
 ghost use Rattle.pm_shared.specs.Plays.{FindsWas};
 ghost use Rattle.pm_shared.specs.Rule.{SeatAsks, SeatMade, lane_of};
 ghost use Rattle.pm_view.specs.View.{View};
+ghost use Rattle.pm_world.specs.InWorld.{InWorld};
 
 use crate::mem::LaneSeat;
 use crate::{SharedMem, plays};
@@ -48,13 +49,14 @@ fn kept(lane: u64, word: u64) -> u64
 }
 
 impl SharedMem {
-    /// Loads a pool word.
+    /// Loads a pool word; the lane's view is one of a world, in which the word has that value.
     pub(crate) fn loads(&self, seat: &mut LaneSeat, lane: u64, word: u64) -> u64
         requires table { seat.old.table_id ≡ self.now.table.shared.table_id }
         requires few { lane < self.now.shape.lanes }
         requires asks { SeatAsks self.now.shape lane seat.old.me (λ r. Load word r) }
         ensures table { seat.new.table_id ≡ seat.old.table_id }
         ensures made { SeatMade seat.old.me seat.new.me (Load word result) }
+        ensures world { (v : View) → seat.old.me ≡ lane_of v → InWorld v word result }
     {
         self.load::<plays::Loads>(seat, self.word_at(word))
     }

@@ -18,3 +18,4 @@ pub mod Engines
 pub mod Kept
 pub mod Fitting
 pub mod Snapped
+pub mod Ranges

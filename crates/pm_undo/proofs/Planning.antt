@@ -124,7 +124,7 @@ not_in_range w a (suc n) out =
     ap (λ b. b || is_among (range_with_len (a + 1) n) w) here
     ∙ not_in_range w (a + 1) n (⊎_elim (λ (below : w < a). inl (omega (arith, below))) (λ (above : a + suc n ≤ w). inr (omega (arith, above))) out)
 
-in_range : (w a n : ℕ) → a ≤ w → w < a + n → is_among (range_with_len a n) w ≡ true
+pub in_range : (w a n : ℕ) → a ≤ w → w < a + n → is_among (range_with_len a n) w ≡ true
 in_range w a zero from to = absurd (omega (arith, from, to))
 in_range w a (suc n) from to = at (eqb a w) refl (λ behind. in_range w (a + 1) n (omega (arith, behind)) (omega (arith, to))) where
   at : (b : Bool) → eqb a w ≡ b → (a < w → is_among (range_with_len (a + 1) n) w ≡ true) → (eqb a w || is_among (range_with_len (a + 1) n) w) ≡ true

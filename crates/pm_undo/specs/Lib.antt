@@ -3,3 +3,4 @@ pub mod Records
 pub mod Plans
 pub mod Working
 pub mod Undoing
+pub mod Ranges

@@ -3,6 +3,7 @@ ghost use Rattle.pm_plan.specs.Plans.{Ready};
 ghost use Rattle.pm_view.specs.View.{View};
 ghost use Rattle.pm_view.specs.Views.{after_all};
 ghost use Rattle.pm_undo.specs.Plans.{restores, retires, snapshots};
+ghost use Rattle.pm_undo.specs.Ranges.{RangesMayBeSnapshot};
 ghost use Rattle.pm_undo.specs.Undoing.{needed};
 ghost use Rattle.pm_undo.specs.Working.{CanRetire, CanSnapshot, HasSlots, IsRestored, IsRetired, IsSnapshot, IsWorking};
 
@@ -24,4 +25,10 @@ pub fn recorded_words_may_be_put_back()
 /// entries, may end its generation. No code runs.
 pub fn generations_may_end()
     ensures { (v : View) → CanRetire v → Ready v (retires v) × IsRetired v (after_all v (retires v)) }
+{}
+
+/// A law: of an object that a lane at work found under its write lock, and whose size it knows, any
+/// range may be snapshot once each of its words that has no record yet was looked at. No code runs.
+pub fn ranges_of_held_objects_may_be_snapshot()
+    ensures { RangesMayBeSnapshot }
 {}

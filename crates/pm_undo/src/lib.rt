@@ -16,7 +16,10 @@ mod retiring;
 mod snapshots;
 mod spans;
 
-pub use laws::{generations_may_end, recorded_words_may_be_put_back, snapshots_are_lawful};
+pub use laws::{
+    generations_may_end, ranges_of_held_objects_may_be_snapshot, recorded_words_may_be_put_back,
+    snapshots_are_lawful,
+};
 pub use restoring::restore;
 pub use retiring::retire;
 pub use snapshots::snapshot;

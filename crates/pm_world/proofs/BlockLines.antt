@@ -60,7 +60,7 @@ all_fit = (
   ),
 )
 
-run_fits : (lines i : ℕ) → i < blocks_of lines → 1 + (lines * i + lines) ≤ 64
+pub run_fits : (lines i : ℕ) → i < blocks_of lines → 1 + (lines * i + lines) ≤ 64
 run_fits lines i q = fit_in blocks_by_class all_fit lines i q
 
 next_times : (m i : ℕ) → m * suc i ≡ m * i + m
@@ -68,7 +68,7 @@ next_times m i = mul_comm m (suc i)
     ∙ (let e : suc i * m ≡ i * m + m = omega arith in e ∙ ap (λ n. n + m) (mul_comm i m))
 
 -- line l of a run's chunk is of this block
-small_lines : (cl l i : ℕ) → 1 + cl * i ≤ l → l < 1 + cl * i + cl → (l - 1) / cl ≡ i
+pub small_lines : (cl l i : ℕ) → 1 + cl * i ≤ l → l < 1 + cl * i + cl → (l - 1) / cl ≡ i
 small_lines cl l i from to = let r = l - 1 - cl * i in let e : l - 1 ≡ cl * i + r = omega arith in
     ap (λ x. x / cl) (e ∙ ap (λ x. x + r) (mul_comm cl i))
     ∙ digits_div i {m = cl} {r = r} (omega arith)

@@ -1,5 +1,5 @@
 -- WHAT A LOOK AT A WORD TELLS A LANE OF ITS WORLD.
-use Rattle.std.proofs.Common.{inl, inr, ◌||◌, ◌≡◌, ◌≢◌, ℕ, zero, suc, ◌+◌, ◌*◌, ◌/◌, ◌%◌, ◌<◌, ◌≤◌, ◌⊎◌, ⊎_elim, nat_lt, Bool, true, false, cond, ◌==◌, ◌&&◌, refl, sym, ap, ◌∙◌, subst, arith, ne_eqb, eq-eqb}
+use Rattle.std.proofs.Common.{inl, inr, ◌||◌, ◌≡◌, ◌≢◌, ℕ, zero, suc, ◌+◌, ◌*◌, ◌/◌, ◌%◌, ◌<◌, ◌≤◌, ◌⊎◌, ⊎_elim, nat_le, nat_lt, Bool, true, false, cond, ◌==◌, ◌&&◌, refl, sym, ap, ◌∙◌, subst, arith, ne_eqb, eq-eqb}
 use Rattle.std.specs.Prelude.{eqb}
 use Rattle.std.proofs.lemmas.Bool.{both_ways, and_parts, and_from, cond-true, cases_Bool, cases_lt, eqb-true, ltb-true, lt-ltb, or_right, false_from_ne_true}
 use Rattle.pm_layout.specs.Chunks.{words_of, chunks_of, word_of_descriptor}
@@ -88,6 +88,8 @@ module _ (o : Opening) (mem : Memory) (views : Views) (g : Past) (k : ℕ) (x : 
   sound = record {
     small = λ c i e. let t = f.found (Small c i) e in let v = and_parts (g.runs c) (nat_lt i (blocks_at c)) t.1 in let same = f.class c i (has_found (Small c i) e) in let some = (x.bits.geo.classes c v.0).0 in
         ((λ z. let q = same in omega arith), subst (λ m. i < Rattle.pm_layout.specs.Sizes.blocks_of m) (sym same) (ltb-true i (blocks_at c) v.1));
+    some = λ h e. let t = f.found (Big h) e in let z = and_parts (nat_le h h) (nat_lt h (h + (sight_of (views k)).hold.span h)) (sym (f.span h (has_found (Big h) e) h) ∙ t.1) in
+        let l = ltb-true h (h + (sight_of (views k)).hold.span h) z.1 in omega (arith, l);
     zone = λ h e. f.zone h (has_found (Big h) e);
     huge = huge;
   }

@@ -97,3 +97,6 @@ pub mod OccupancyShown
 pub mod SoloStands
 pub mod InWorlds
 pub mod FirstLooks
+pub mod Bare
+pub mod SoloSteps
+pub mod TestLanes

@@ -1,6 +1,8 @@
 -- A memory that stands in its world stands in the world after each call that lane 0's view allows.
-use Rattle.std.proofs.Common.{◌≡◌, ℕ, zero, suc, ◌<◌, ◌≤◌, false, cond, eqb, List, [], ◌∷◌, length, get_or, refl, sym, ap, ◌∙◌, subst, arith, ne_eqb}
+use Rattle.std.proofs.Common.{◌≡◌, ℕ, zero, suc, ◌/◌, ◌<◌, ◌≤◌, ⊎_elim, replicate, slice_index, false, cond, eqb, List, [], ◌∷◌, length, get_or, refl, sym, ap, ◌∙◌, subst, arith, ne_eqb}
 use Rattle.std.specs.List.{All}
+use Rattle.std.proofs.lemmas.Bool.{cases_lt}
+use Rattle.std.proofs.lemmas.List.{get_or-replicate, get_or_past, length-replicate}
 use Rattle.std.proofs.lemmas.List.Elements.{All-nil}
 use Rattle.pm_layout.specs.Chunks.{words_of}
 use Rattle.pm_view.specs.declared.change.Change.{Change}
@@ -15,7 +17,7 @@ use Rattle.pm_world.specs.Course.{past_after}
 use Rattle.pm_world.specs.Histories.{was_after, ghosts_after}
 use Rattle.pm_world.specs.Lawful.{IsLawful}
 use Rattle.pm_world.specs.Laws.{Turn}
-use Rattle.pm_world.specs.SoloLanes.{OpenedStands, StandsAfter, StandingSurvives}
+use Rattle.pm_world.specs.SoloLanes.{OpenedStarts, OpenedStands, StandsAfter, StandingSurvives}
 use Rattle.pm_world.specs.SoloWorld.{memory_of}
 use Rattle.pm_world.specs.World.{Views, ghost_of}
 use Rattle.pm_world.proofs.Histories as histories
@@ -48,6 +50,27 @@ stands_after s o old new v st lawful is sees =
 
 -- ---- the opening, and survivors
 
+pub opened_starts : OpenedStarts
+opened_starts o fixed stop runs zones one lane shape lanes = record {
+  some_lanes = omega (arith, one);
+  most_lanes = let l = o.shape.lanes_from in omega (arith, one, l);
+  few_lanes = omega (arith, one);
+  words = λ w. refl;
+  locks = λ l. zeros (length o.words / 8) l;
+  zone_locks = λ z. ap (λ b. cond b 1 0) (open_ z);
+  counter = refl;
+  stop = refl;
+  lane = lane;
+  shape = shape;
+  lanes = λ k. lanes k ∙ sym one;
+}
+  where
+    zeros : (n i : ℕ) → slice_index (replicate n 0) i ≡ 0
+    zeros n i = ⊎_elim (λ (l : i < n). get_or-replicate n i 0 0 l) (λ (l : n ≤ i). get_or_past (replicate n 0) i 0 (let q = length-replicate {A = ℕ} n 0 in omega (arith, q, l))) (cases_lt i n)
+
+    open_ : (z : ℕ) → get_or (replicate 32 false) z false ≡ false
+    open_ z = ⊎_elim (λ (l : z < 32). get_or-replicate 32 z false false l) (λ (l : 32 ≤ z). get_or_past (replicate 32 false) z false (let q = length-replicate 32 false in omega (arith, q, l))) (cases_lt z 32)
+
 pub opened_stands : OpenedStands
 opened_stands o fixed generation runs zones first one shape pages count opens = record {
   views = _;
@@ -62,7 +85,7 @@ opened_stands o fixed generation runs zones first one shape pages count opens = 
 }
 
 pub standing_survives : StandingSurvives
-standing_survives o m v s image left =
+standing_survives m image left o v s =
     let some : length (m.changes ∷ []) ≤ o.lanes = let l = s.world.some_lanes in omega arith in
     let size : length m.words ≡ length o.words = s.sees.fixed.size ∙ (ap (λ (w : View). words_of w.fixed.shape) (sym s.here) ∙ (ap words_of (s.world.each_lane 0 some).shape ∙ sym s.world.size)) in
     survivors_are o (memory_of m) s.views m.words image (m.changes ∷ []) size some (λ w l. refl) (record { each = each; formed = formed }) left

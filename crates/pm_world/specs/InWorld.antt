@@ -43,6 +43,7 @@ SeenAgrees = (v : View) (w x : ℕ) → InWorld v w x → AgreesAt v (part_in v 
 -- as its, and as no run
 pub record IsSound (v : View) : Type 0 where
   pub small : (c i : ℕ) → found v.fixed.shape v.claims (Small c i) ≡ true → (class v.claims c ≢ 0) × (i < blocks_of (class v.claims c))
+  pub some : (f : ℕ) → found v.fixed.shape v.claims (Big f) ≡ true → 1 ≤ span v.fixed.shape v.claims f
   pub zone : (f : ℕ) → found v.fixed.shape v.claims (Big f) ≡ true → f % 64 + span v.fixed.shape v.claims f ≤ 64
   pub huge : (f c : ℕ) → found v.fixed.shape v.claims (Big f) ≡ true → in_span f (span v.fixed.shape v.claims f) c ≡ true
       → (first v.fixed.shape v.claims c ≡ f) × (class v.claims c ≡ 0)

@@ -24,3 +24,5 @@ pub mod Causes
 pub mod CauseLaws
 pub mod SoloLanes
 pub mod InWorld
+pub mod Bare
+pub mod TestLanes

@@ -1,4 +1,4 @@
--- The memory of one lane takes each step that the lane's view allows: a value that a trait asks for.
+-- The memory of one lane takes each step that the lane's view allows, and so does lane 0 over it: values that a trait asks for.
 use Rattle.std.specs.Prelude.{ℕ, ◌/◌, ◌<◌, ◌≤◌}
 use Rattle.std.proofs.Common.{sym, subst, arith}
 use Rattle.pm_layout.specs.declared.shape.Shape.{Shape}
@@ -8,10 +8,10 @@ use Rattle.pm_view.specs.declared.occ.Occ.TheVariants.{Run, Zone}
 use Rattle.pm_view.specs.Steps.{Step}
 use Rattle.pm_view.specs.Steps.Step.{Load, Store, Or, And, Flush, Drain, TakeWrite, TakeRead, Raise, Give, ZoneTry, ZoneGive, Occupied, Occupy, Vacate, Draw, NumberSeen, StopSeen, SetStop, Tell}
 use Rattle.pm_view.specs.View.{View}
-use Rattle.pm_memory.specs.Runs.{AnyStep}
 use Rattle.pm_memory.specs.Solo.{Solo, Sees, CanStep, HasWord}
 use Rattle.pm_memory.proofs.Meeting.{word_inside, room_for, flushes_some, drains_some, line_inside, lock_free, lock_read, zone_inside, zone_free, page_inside, number_below}
 use Rattle.pm_world.specs.Lawful.{Allowed, HasOcc}
+use Rattle.pm_world.specs.SoloLanes.{StandsAs}
 
 few_zones : (sh : Shape) (zone : ℕ) → zone < sh.zones → zone < 32
 few_zones sh zone inside = let most : sh.zones ≤ 32 = sh.zones_to in omega (arith, inside, most)
@@ -45,6 +45,10 @@ meets_solo m v (StopSeen set) sees may = tt
 meets_solo m v SetStop sees may = tt
 meets_solo m v (Tell operation reply) sees may = tt
 
--- it promises what it does of every view
-pub grants_solo : (v : View) (s : Step) → Allowed v s → AnyStep v s
-grants_solo v s may = tt
+-- so does lane 0 over it, in whatever world the memory stands
+pub meets_standing : (m : Solo) (v : View) (s : Step) → StandsAs m v → Allowed v s → CanStep m s
+meets_standing m v s stands may = meets_solo m v s stands.1.sees may
+
+-- which promises what it does of the steps that the view allows
+pub grants_allowed : (v : View) (s : Step) → Allowed v s → Allowed v s
+grants_allowed v s may = may

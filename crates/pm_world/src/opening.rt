@@ -1,3 +1,4 @@
+ghost use Rattle.pm_world.specs.Bare.{BareOpens};
 ghost use Rattle.pm_world.specs.Opens.{Opens, RecoveredOpens};
 
 /// A law: recovered words of which nothing of the heap is wrong open a world, with no lane asked
@@ -12,4 +13,10 @@ pub fn recovered_words_open_a_world()
 /// pool's words take. No code runs.
 pub fn recovery_opens_a_world()
     ensures { RecoveredOpens }
+{}
+
+/// A law: the words of a pool without objects open a world of however many of its lanes, each at
+/// generation 1. No code runs.
+pub fn bare_words_open_a_world()
+    ensures { BareOpens }
 {}

@@ -1,5 +1,5 @@
 ghost use Rattle.pm_view.specs.Steps.{Step};
-ghost use Rattle.pm_world.specs.SoloLanes.{OpenedStands, StandsAfter, StandingSurvives};
+ghost use Rattle.pm_world.specs.SoloLanes.{OpenedStarts, OpenedStands, StandsAfter, StandingSurvives};
 ghost use Rattle.pm_world.specs.SoloWorld.{CallsMove, CallsKeepWorlds, CallsKeepForms, SurvivorsAreTheWorlds};
 
 /// A law: each call of one lane's memory is one step of lane 0 on the words that lanes share; of a
@@ -18,11 +18,12 @@ pub fn memory_survivors_survive_in_worlds()
     ensures { SurvivorsAreTheWorlds }
 {}
 
-/// A law: where a memory's words open a world of one lane, the memory stands in that world, with
-/// lane 0 asked nothing and an empty history; so it does after each call that lane 0's view allows;
-/// and what a power failure may leave of a memory that stands in a world, it may leave of that
-/// world. No code runs.
+/// A law: a memory before its first call is that of one lane before any step; where its words open
+/// a world, the memory stands in that world, with lane 0 asked nothing and an empty history; so it
+/// does after each call that lane 0's view allows; and what a power failure may leave of a memory
+/// that stands in a world, it may leave of that world. No code runs.
 pub fn solo_memory_stands_in_its_world()
+    ensures starts { OpenedStarts }
     ensures opened { OpenedStands }
     ensures calls { (step : Step) → StandsAfter step }
     ensures survivors { StandingSurvives }
