@@ -12,3 +12,4 @@ pub mod Looking
 pub mod RangeRefusals
 pub mod RangeWords
 pub mod RangeReads
+pub mod Calls
