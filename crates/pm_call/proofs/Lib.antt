@@ -1,4 +1,10 @@
 pub mod Frames
+pub mod RecordedWords
+pub mod TakenBack
+pub mod Ending
+pub mod RolledBack
+pub mod GivingUp
+pub mod RollbackLanes
 pub mod ObjectWords
 pub mod KnownObjects
 pub mod Noting
@@ -6,7 +12,6 @@ pub mod Looking
 pub mod RangeRefusals
 pub mod RangeWords
 pub mod RangeReads
-pub mod RecordedWords
 pub mod SmallWords
 pub mod Storing
 pub mod RangeWrites
@@ -15,3 +20,4 @@ pub mod NewRecords
 pub mod LockedRanges
 pub mod AddedRanges
 pub mod AddedLanes
+pub mod Calls

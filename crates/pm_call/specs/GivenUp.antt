@@ -2,34 +2,39 @@
 use Rattle.std.specs.Prelude.{◌≡◌, ◌⊎◌, ℕ, suc, ◌+◌, true, false, List, [], ◌∷◌, Option, Some, None, Result, Ok, Err}
 use Rattle.pm_memory.specs.Runs.{Stops}
 use Rattle.pm_memory.specs.declared.lane_mem.Stopped.{Stopped}
-use Rattle.pm_model.specs.Inside.{error_for, is_action, is_inside}
+use Rattle.pm_model.specs.Refusals.{Seen}
+use Rattle.pm_model.specs.Inside.{is_action, is_inside}
 use Rattle.pm_objects.specs.declared.calls.Operation.{Operation}
 use Rattle.pm_objects.specs.declared.calls.Operation.TheVariants.{Abort}
 use Rattle.pm_objects.specs.declared.history.TxErr.{TxErr}
 use Rattle.pm_objects.specs.declared.history.Value.{Value}
 use Rattle.pm_objects.specs.declared.history.Value.TheVariants.{Refused}
 use Rattle.pm_objects.specs.declared.refusal.Refusal.{Refusal}
-use Rattle.pm_objects.specs.declared.refusal.Refusal.TheVariants as refusal
 use Rattle.pm_view.specs.Log.{Recorded}
 use Rattle.pm_view.specs.View.{View}
 use Rattle.pm_view.specs.Views.{after_all}
 use Rattle.pm_world.specs.LaneFields.{IsSeenAs, Standing, Works, fields_of, last_number}
 use Rattle.pm_world.specs.declared.lane.Lane.{Lane}
-use Rattle.pm_plan.specs.Plans.{Ready}
+use Rattle.pm_plan.specs.Plans.{Plan, Ready}
 use Rattle.pm_undo.specs.Undoing.{KeepsLog, LogMoves}
 use Rattle.pm_undo.specs.Working.{IsWorking}
-use Rattle.pm_call.specs.At.{At}
-use Rattle.pm_call.specs.Did.{Cut, IsOver, IsRefused, given_up, next, work_refusal}
-use Rattle.pm_call.specs.Plans.{gives_up, takes_back}
+use Rattle.pm_crash.specs.Looked.{refusal_by}
+use Rattle.pm_crash.specs.SimOps.{LookedAt}
+use Rattle.pm_call.specs.At.{At, entries_so_far}
+use Rattle.pm_call.specs.Did.{Cut, IsOver, given_up, next}
+use Rattle.pm_call.specs.Plans.{ends_call, gives_up}
 
 -- ---- WHICH OPERATIONS GIVE IT UP, with their replies
 
--- one that is refused, and is none on the pending list alone
+-- one that is refused, by the lane's lists and by what it looked at and saw, and is none on the pending list alone
 pub record IsRefusedWith (s : Standing) (op : Operation) (reply : Option Value) : Type 0 where
   pub inside : is_inside op ≡ true
   pub plain : is_action op ≡ false
+  pub seen : Seen
+  pub root : Option ℕ
+  pub looks : LookedAt s.view (entries_so_far s) root op
   pub refusal : Refusal
-  pub refused : IsRefused s op refusal
+  pub first : refusal_by seen s.view root op ≡ Some refusal
   pub replied : reply ≡ Some (Refused refusal)
 
 -- an abort
@@ -60,13 +65,17 @@ TransactionsMayBeGivenUp = (s : Standing) (op : Operation) (reply : Option Value
 
 -- ---- WHAT WAS DONE TO A LANE
 
--- recorded words are what they were, and their generation is ended; or the lane stopped on the way
-abbrev pub TakenBackAs : {M : Type 0} → (M → View → Type 0) → View → Lane M → Lane M → Result (Unit {0}) Stopped → Type 0
-TakenBackAs at v old new (Ok done) = LogMoves at old new (after_all v (takes_back v))
-TakenBackAs at v old new (Err stopped) = Stops (at new.memory) v (takes_back v) × (fields_of new ≡ fields_of old)
+-- a plan of the log was carried out, so that its log is what the view says then; or the lane stopped on the way, and its fields are as they were
+abbrev pub MovesLog : {M : Type 0} → (M → View → Type 0) → Lane M → Lane M → Plan → View → Result (Unit {0}) Stopped → Type 0
+MovesLog at old new plan v (Ok done) = LogMoves at old new (after_all v (plan v))
+MovesLog at old new plan v (Err stopped) = Stops (at new.memory) v (plan v) × (fields_of new ≡ fields_of old)
 
-unfoldable pub TakenBack : {M : Type 0} → (M → View → Type 0) → Lane M → Lane M → Result (Unit {0}) Stopped → Type 0
-TakenBack at old new result = (v : View) → KeepsLog at old v → IsWorking v → TakenBackAs at v old new result
+unfoldable pub MovedLog : {M : Type 0} → (M → View → Type 0) → Lane M → Lane M → Plan → Result (Unit {0}) Stopped → Type 0
+MovedLog at old new plan result = (v : View) → KeepsLog at old v → IsWorking v → MovesLog at old new plan v result
+
+-- for each number an end of the call may be carried out
+unfoldable pub MayEnd : (View → Type 0) → Operation → Option Value → Type 0
+MayEnd old op reply = (v : View) × old v × ((n : ℕ) → Ready v (ends_call op reply n v))
 
 -- it was given up with this operation and this error
 pub record WasGivenUp {M : Type 0} (at : M → View → Type 0) (lane : Lane M) (s : Standing) (op : Operation) (reply : Option Value) (e : TxErr) : Type 0 where
@@ -81,16 +90,3 @@ GivenUpAs at lane op reply e (Err stopped) s = (n : ℕ) × Cut at lane s (gives
 
 unfoldable pub GivenUp : {M : Type 0} → (M → View → Type 0) → Lane M → Lane M → Operation → Option Value → TxErr → Result (Unit {0}) Stopped → Type 0
 GivenUp at old new op reply e result = (s : Standing) → Works at old s → At s → GivesUp s op reply → GivenUpAs at new op reply e result s
-
--- ---- AN ABORT: refused for its stage it changes nothing; else the transaction is given up with its error, or the lane stopped on the way
-abbrev pub AbortedAs : {M : Type 0} → (M → View → Type 0) → Lane M → ℕ → Result (Unit {0}) Refusal → Standing → Type 0
-AbortedAs at lane errnum (Ok done) s = WasGivenUp at lane s (Abort errnum) None (error_for errnum)
-AbortedAs at lane errnum (Err refusal.Stopped) s = (n : ℕ) × Cut at lane s (gives_up (Abort errnum) None n) true
-AbortedAs at lane errnum (Err r) s = ⊥
-
-abbrev pub AbortedSo : {M : Type 0} → Option Refusal → (M → View → Type 0) → Lane M → Lane M → ℕ → Result (Unit {0}) Refusal → Type 0
-AbortedSo (Some r) at old new errnum result = (result ≡ Err r) × (new ≡ old)
-AbortedSo None at old new errnum result = (s : Standing) → Works at old s → At s → AbortedAs at new errnum result s
-
-unfoldable pub Aborted : {M : Type 0} → (M → View → Type 0) → Lane M → Lane M → ℕ → Result (Unit {0}) Refusal → Type 0
-Aborted at old new errnum result = AbortedSo (work_refusal old) at old new errnum result

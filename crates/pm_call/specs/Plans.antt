@@ -38,5 +38,8 @@ gets id off len v = tells (Read id off len) (Some (Bytes (bytes_seen (known_word
 abbrev pub takes_back : Plan
 takes_back v = if length v.log.records == 0 then persists_all v else in_turn restores retires v
 
+abbrev pub ends_call : Operation → Option Value → ℕ → Plan
+ends_call op reply n = in_turn (tells op reply) (one (Draw n))
+
 abbrev pub gives_up : Operation → Option Value → ℕ → Plan
-gives_up op reply n = in_turn takes_back (in_turn (tells op reply) (one (Draw n)))
+gives_up op reply n = in_turn takes_back (ends_call op reply n)

@@ -1,13 +1,25 @@
 //! What the calls of a transaction share: a lane at work as plain data, what an operation did to it,
-//! and the laws of both.
+//! and the laws of both; and how a transaction is given up.
+//!
+//! Promises, over any lawful memory and whatever other lanes do, that a transaction that is given up
+//! makes exactly the memory calls of its plan, or the first of them up to the lane's stop; and a law
+//! of data: from which views it may be, and that the call is over then. It stands on `pm_undo` for
+//! putting words back, on `pm_crash` for what the call owes the plain model; docs/FORMAT.md,
+//! "Sequences".
 #![tactic(auto)]
 
 mod adding;
+mod laws;
 mod ranges;
+mod rollback;
+mod stages;
 mod writing;
 
 pub use adding::{do_add, ranges_may_be_added};
+pub use laws::transactions_may_be_given_up;
 pub use ranges::{ranges_are_looked_at, refusals_of_ranges_are_the_models};
+pub use rollback::{give_up, refuse, stop, take_back};
+pub use stages::work_refusal;
 pub use writing::{count_words, do_write, ranges_may_be_written};
 
 #[cfg(test)]

@@ -227,7 +227,7 @@ module _ (v : View) where
   freed_none B m = absurd (both_ways (given (turn (change_so_far v []) B)) (no_block B) (ap given m))
 
   -- what is changed was recorded
-  was_recorded : (p : Place) (b : ℕ) → given (change_so_far v [] p b) ≡ true → is_recorded v.log.records p ≡ true
+  pub was_recorded : (p : Place) (b : ℕ) → given (change_so_far v [] p b) ≡ true → is_recorded v.log.records p ≡ true
   was_recorded p b t =
       let B = block_of (geometry_of v) p b in
       given_second (is_data p) (is_made (turn (latest []) B)) (is_recorded v.log.records p) (picture v.fixed.shape v.claims p b)

@@ -22,7 +22,7 @@ module _ (v : View) (t : List Claim) where
 
   took_one : (m : ℕ) (w : Bool) → KeepsBlocks (at t) (at (Took m w ∷ t))
   took_one m w = record {
-    sound = λ s. record { small = s.small; zone = s.zone; huge = s.huge };
+    sound = λ s. record { small = s.small; some = s.some; zone = s.zone; huge = s.huge };
     stands = λ line s. record { block = s.block; inside = s.inside; known = known (Took m w ∷ t) (λ c. refl) s.block s.known; begins = begins s.block ∙ s.begins; found = s.found };
     missed = λ B. refl;
   }
@@ -34,7 +34,7 @@ module _ (v : View) (t : List Claim) where
 
   rose_one : (m : ℕ) → KeepsBlocks (at t) (at (Raised m ∷ t))
   rose_one m = record {
-    sound = λ s. record { small = s.small; zone = s.zone; huge = s.huge };
+    sound = λ s. record { small = s.small; some = s.some; zone = s.zone; huge = s.huge };
     stands = λ line s. record { block = s.block; inside = s.inside; known = known (Raised m ∷ t) (λ c. refl) s.block s.known; begins = begins s.block ∙ s.begins; found = s.found };
     missed = λ B. refl;
   }
@@ -49,7 +49,7 @@ keeps_on v u w a b = record { sound = λ s. b.sound (a.sound s); stands = λ lin
 
 keeps_here : (v : View) (seen : List Step) → KeepsBlocks v (record v { seen = seen })
 keeps_here v seen = record {
-  sound = λ s. record { small = s.small; zone = s.zone; huge = s.huge };
+  sound = λ s. record { small = s.small; some = s.some; zone = s.zone; huge = s.huge };
   stands = λ line s. record { block = s.block; inside = s.inside; known = same s.block s.known; begins = s.begins; found = s.found };
   missed = λ B. refl;
 }

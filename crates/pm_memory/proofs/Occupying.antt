@@ -1,6 +1,6 @@
 -- How the view of lane 0 follows its memory, a call on an occupancy word, the commit counter or
 -- the stop word at a time: `m` is the memory before, `n` the memory after.
-use Rattle.std.proofs.Common.{IsTrue, ◌≡◌, ◌≢◌, ◌↔◌, ℕ, suc, ◌+◌, ◌/◌, ◌%◌, ◌<◌, ◌≤◌, bit_and, bit_or, Bool, true, false, cond, eqb, List, [], ◌∷◌, length, slice_index, set, Option, Some, None, IfSome, refl, sym, ap, ◌∙◌, subst, arith, eq-eqb, length-set, get_or-set_same, get_or-set_other}
+use Rattle.std.proofs.Common.{IsTrue, ◌≡◌, ◌≢◌, ◌↔◌, ℕ, suc, ◌+◌, ◌/◌, ◌%◌, ◌<◌, ◌≤◌, bit_and, bit_or, Bool, true, false, cond, eqb, List, [], ◌∷◌, length, slice_index, set, Option, Some, None, IfSome, refl, sym, ap, ◌∙◌, subst, arith, eq-eqb, length-set, get_or-set_same, get_or-set_other, ◌^◌}
 use Rattle.std.specs.Int.{bit_not, w64}
 use Rattle.std.specs.List.{All}
 use Rattle.std.specs.Option.{option_map}
@@ -174,8 +174,8 @@ counter_drawn m v n e number is sees = let count = sees.counter.count in record 
   still = λ none k among. cc;
 }
 
-pub draw_made : (m n : Solo) (before : ℕ) → before ≡ m.number → n ≡ record m { number = m.number + 1 } → (v : View) → Sees m v → Sees n (after v (Draw before)) × Found v (Draw before)
-draw_made m n before was is v sees = (
+pub draw_made : (m n : Solo) (before : ℕ) → m.number < 2 ^ 62 + 32 → before ≡ m.number → n ≡ record m { number = m.number + 1 } → (v : View) → Sees m v → Sees n (after v (Draw before)) × Found v (Draw before)
+draw_made m n before few was is v sees = (
   subst (λ (k : Solo). Sees k (after v (Draw before))) (sym is) record {
     fixed = sees.fixed;
     words = sees.words;
@@ -187,7 +187,7 @@ draw_made m n before was is v sees = (
     zone_locks = sees.zone_locks;
     sizes = sees.sizes;
   },
-  (own_within m v before sees was, λ one. was ∙ sees.counter.count),
+  (own_within m v before sees was, λ one. was ∙ sees.counter.count, omega (arith, few, was)),
 )
 
 sees_begun : (m : Solo) (phase : Phase) (v : View) → Sees m v → Sees m (begun phase v)

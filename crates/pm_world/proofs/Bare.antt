@@ -4,14 +4,14 @@ use Rattle.std.proofs.lemmas.Bool.{both_ways, and_parts, ltb-true}
 use Rattle.std.proofs.lemmas.List.Concat.{flat_map-cons}
 use Rattle.std.proofs.lemmas.List.Folds.{list_any_none}
 use Rattle.std.proofs.lemmas.Nat.Bits.{bit_at-zero, bit_at_ones}
-use Rattle.std.specs.List.{flat_map, list_any, range_with_len}
+use Rattle.std.specs.List.{flat_map, range_with_len}
 use Rattle.std.specs.Option.{option_map, option_or}
 use Rattle.pm_image.proofs.Firsts.{none_passes}
 use Rattle.pm_image.specs.Blocks.{blocks, chunk_blocks, blocks_in, class_in, descriptor_word, chunk_word}
 use Rattle.pm_image.specs.declared.fault.ImageFault.TheVariants as fault
 use Rattle.pm_image.specs.HeapFaults.{bad_chunk, is_described, chunk_fault, bad_bitmap, is_bad_bitmap, bitmap_fault, block_fault, link_fault, bad_root, root_fault, heap_fault}
 use Rattle.pm_layout.specs.Areas.{word_of_generation, word_of_seal, line_of_slot}
-use Rattle.pm_layout.specs.Chunks.{words_of, chunks_of, page_of_chunk, word_of_chunk, word_of_descriptor}
+use Rattle.pm_layout.specs.Chunks.{chunks_of, page_of_chunk, word_of_chunk, word_of_descriptor}
 use Rattle.pm_layout.specs.Sizes.{blocks_of}
 use Rattle.pm_record.specs.Undo.{undo_of, is_record, undo_in}
 use Rattle.pm_record.specs.declared.undo.Undo.{Undo}

@@ -1,5 +1,5 @@
 -- A LANE'S FIRST LOOKS, at its generation and its seal.
-use Rattle.std.proofs.Common.{◌==◌, ◌≡◌, ℕ, suc, ◌+◌, ◌*◌, ◌<◌, true, false, refl, sym, ap, ◌∙◌, subst, arith, ne_eqb, eq-eqb, []}
+use Rattle.std.proofs.Common.{◌==◌, ◌≡◌, ℕ, ◌<◌, refl, sym, ap, ◌∙◌, subst, arith, ne_eqb, eq-eqb}
 use Rattle.std.proofs.lemmas.Bool.{cond-true, cond-false}
 use Rattle.pm_layout.specs.declared.shape.Shape.{Shape}
 use Rattle.pm_layout.specs.Areas.{word_of_generation, word_of_seal}
@@ -9,7 +9,7 @@ use Rattle.pm_view.specs.Founds.{Found}
 use Rattle.pm_view.specs.Steps.{Step}
 use Rattle.pm_view.specs.Steps.Step.{Load}
 use Rattle.pm_view.specs.View.{View, Constants, idle}
-use Rattle.pm_view.specs.Views.{after, part_in}
+use Rattle.pm_view.specs.Views.{after}
 use Rattle.pm_world.specs.InWorld.{InWorld, AgreesAt}
 use Rattle.pm_world.specs.LaneFields.{IsUnused, opened}
 use Rattle.pm_world.specs.Lawful.{Allowed}

@@ -1,9 +1,9 @@
 -- WHAT A LOOK AT A WORD TELLS A LANE OF ITS WORLD.
-use Rattle.std.proofs.Common.{inl, inr, ◌||◌, ◌≡◌, ◌≢◌, ℕ, zero, suc, ◌+◌, ◌*◌, ◌/◌, ◌%◌, ◌<◌, ◌≤◌, ◌⊎◌, ⊎_elim, nat_le, nat_lt, Bool, true, false, cond, ◌==◌, ◌&&◌, refl, sym, ap, ◌∙◌, subst, arith, ne_eqb, eq-eqb}
+use Rattle.std.proofs.Common.{inl, inr, ◌≡◌, ℕ, zero, suc, ◌+◌, ◌*◌, ◌/◌, ◌%◌, ◌<◌, ◌≤◌, ◌⊎◌, ⊎_elim, nat_le, nat_lt, Bool, true, false, cond, refl, sym, ap, ◌∙◌, subst, arith, ne_eqb, eq-eqb}
 use Rattle.std.specs.Prelude.{eqb}
-use Rattle.std.proofs.lemmas.Bool.{both_ways, and_parts, and_from, cond-true, cases_Bool, cases_lt, eqb-true, ltb-true, lt-ltb, or_right, false_from_ne_true}
-use Rattle.pm_layout.specs.Chunks.{words_of, chunks_of, word_of_descriptor}
-use Rattle.pm_view.specs.Claims.{class, first, found, is_run, span}
+use Rattle.std.proofs.lemmas.Bool.{both_ways, and_parts, cond-true, cases_lt, eqb-true, ltb-true, lt-ltb, or_right}
+use Rattle.pm_layout.specs.Chunks.{chunks_of, word_of_descriptor}
+use Rattle.pm_view.specs.Claims.{is_run}
 use Rattle.pm_view.specs.Parts.{Part, GenerationPart, SealPart, EntryPart, SlotPart, RootPart, DescriptorPart, ChunkPart, OtherPart, part_of}
 use Rattle.pm_view.specs.Places.{Block, Small, Big, Descr, in_span, is_place}
 use Rattle.pm_view.specs.Steps.Step.{Load}
@@ -16,7 +16,7 @@ use Rattle.pm_world.specs.Lawful.{IsLawful}
 use Rattle.pm_world.specs.Laws.{Turn}
 use Rattle.pm_world.specs.Memory.{Memory, PoolWord, run_told, cells_of}
 use Rattle.pm_world.specs.Sights.{sight_of}
-use Rattle.pm_world.specs.World.{Opening, Views, Past, LaneFits, World, ghost_of, origin, settled_words}
+use Rattle.pm_world.specs.World.{Opening, Views, Past, LaneFits, World, ghost_of, settled_words}
 use Rattle.pm_world.proofs.EveryStep.{every_step}
 use Rattle.pm_world.proofs.CrashDescriptors.{some_below}
 use Rattle.pm_world.proofs.Frame.{not_making}

@@ -307,5 +307,6 @@ draw n o mem new views views' g k x ink law moves t = let a = law.allowed in let
   (
     subst (λ l. All (λ (y : Numbered). y.number ≤ n) l) (sym f.entries) (numbers_below k g.drew g.length n (omega arith)),
     λ one. let l : o.lanes ≡ 1 = sym f.lanes ∙ eqb-true (views k).fixed.lanes 1 one in e ∙ (sym (all_numbered k g.drew g.length (λ m q. let z = x.of_lanes m q in omega arith)) ∙ sym (ap length f.entries)),
+    (let room = x.counter_room in let c = moves.1 in omega (arith, room, c)),
   ),
 )

@@ -1,7 +1,4 @@
-use Rattle.std.proofs.Common.{◌≡◌, ℕ}
 use Rattle.pm_view.specs.Steps.Step.{Load}
-use Rattle.pm_view.specs.View.{Constants}
-use Rattle.pm_world.specs.LaneFields.{IsUnused}
 use Rattle.pm_world.proofs.FirstLooks.{looked, looks_first, looks_second, seal_within}
 use Rattle.pm_world.proofs.lane.look_at_log.Goals as goal
 

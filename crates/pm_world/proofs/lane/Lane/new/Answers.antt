@@ -1,8 +1,7 @@
-use Rattle.std.proofs.Common.{◌≡◌, ℕ, ◌+◌, ◌*◌, ◌/◌, sym, ap, ◌∙◌, arith, [], false, None}
+use Rattle.std.proofs.Common.{◌≡◌, ◌/◌, sym, ap, ◌∙◌, arith, false, None}
 use Rattle.pm_layout.specs.Chunks.{words_of}
 use Rattle.pm_model.specs.declared.stage.Stage.TheVariants as stage
 use Rattle.pm_objects.specs.declared.history.TxErr.TheVariants as error
-use Rattle.pm_world.specs.LaneFields.{IsUnused}
 use Rattle.pm_world.specs.OwnedBits.{none_owned}
 use Rattle.pm_world.proofs.lane.Lane.new.Goals as goal
 

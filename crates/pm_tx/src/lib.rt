@@ -1,0 +1,12 @@
+//! The calls of a transaction: pmemobj_tx_begin(3) and its kin, over any lawful memory of a lane and
+//! whatever other lanes do.
+//!
+//! Promises of each call, in one clause by cases of what it answers, that it makes exactly the memory
+//! calls of its plan, or the first of them up to the lane's stop; what it tells is the plain model's
+//! operation, and what it leaves is the lane at work, or a call that is over and has the fact that it
+//! owes. It stands on `pm_call` for the parts that calls share; docs/BEHAVIOUR.md.
+#![tactic(auto)]
+
+mod outcome;
+
+pub use outcome::abort;
