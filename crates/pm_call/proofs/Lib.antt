@@ -16,3 +16,4 @@ pub mod NewRecords
 pub mod LockedRanges
 pub mod AddedRanges
 pub mod AddedLanes
+pub mod WriteChecks

@@ -8,7 +8,7 @@ mod writing;
 
 pub use adding::{do_add, ranges_may_be_added};
 pub use ranges::{ranges_are_looked_at, refusals_of_ranges_are_the_models};
-pub use writing::{count_words, do_write, ranges_may_be_written};
+pub use writing::{check_recorded, count_words, do_write, ranges_may_be_written};
 
 #[cfg(test)]
 mod tests;
