@@ -17,3 +17,4 @@ pub mod LockedRanges
 pub mod AddedRanges
 pub mod AddedLanes
 pub mod WriteChecks
+pub mod Doing
