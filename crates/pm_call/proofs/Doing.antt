@@ -1,15 +1,15 @@
 -- HOW THE FUNCTIONS OF AN OPERATION are put together: what is checked is done; what is refused is given up.
-use Rattle.std.proofs.Common.{◌≡◌, ◌≢◌, ℕ, zero, suc, ◌+◌, Bool, true, false, inl, inr, arith, refl, sym, ap, ◌∙◌, subst, Option, None, Some, Result, Ok, Err}
+use Rattle.std.proofs.Common.{◌≡◌, ◌≢◌, ℕ, zero, suc, ◌+◌, true, false, inl, inr, arith, refl, sym, ap, subst, None, Some, Result, Ok, Err}
 use Rattle.pm_objects.specs.declared.calls.Operation.{Operation}
 use Rattle.pm_objects.specs.declared.refusal.Refusal.{Refusal}
 use Rattle.pm_objects.specs.declared.refusal.Refusal.TheVariants as refusal
 use Rattle.pm_view.specs.View.{View}
-use Rattle.pm_world.specs.LaneFields.{Fields, Standing, Works, fields_of, moved}
+use Rattle.pm_world.specs.LaneFields.{Fields, Standing, Works, moved}
 use Rattle.pm_world.specs.declared.lane.Lane.{Lane}
 use Rattle.pm_plan.specs.Plans.{Plan}
 use Rattle.pm_call.specs.At.{At}
-use Rattle.pm_call.specs.Did.{Acted, After, Came, Checked, Cut, Did, DidSo, Ends, Found, GaveUp, GivesUpFor, IsAt, IsAtSo, IsRefused, IsUnrefused, Refuses, Stopped, Tried, work_refusal}
-use Rattle.pm_call.specs.Held.{Looks, LooksAt}
+use Rattle.pm_call.specs.Did.{Acted, After, Came, Checked, Cut, Did, DidSo, Ends, Found, GaveUp, GivesUpFor, IsAt, IsAtSo, IsRefused, Refuses, Stopped, Tried, work_refusal}
+use Rattle.pm_call.specs.Held.{Looks}
 
 -- ---- looks, and more looks
 looks_then : (n m : ℕ) (v w z : View) → Looks n v w → Looks m w z → Looks (n + m) v z

@@ -1,6 +1,5 @@
 -- A WRITE, on a lane: what its function asks of the lane, and what it leaves.
-use Rattle.std.proofs.Common.{◌≡◌, ℕ, ◌+◌, ◌-◌, ◌*◌, ◌/◌, ◌%◌, ◌^◌, ◌<◌, ◌≤◌, ⊎_elim, inr, Bool, true, false, nat_le, ◌==◌, List, length, refl, sym, ap, ◌∙◌, subst, arith, rules, None, Result, Ok, Err}
-use Rattle.std.proofs.lemmas.Bool.{and_parts, cases_lt, eqb-true, leb-true}
+use Rattle.std.proofs.Common.{◌≡◌, ℕ, ◌+◌, ◌*◌, ◌/◌, ◌^◌, ◌<◌, true, false, List, length, refl, sym, ap, ◌∙◌, subst, rules, None, Result, Ok, Err}
 use Rattle.pm_memory.specs.Runs.{Made}
 use Rattle.pm_memory.specs.declared.lane_mem.Stopped.{Stopped}
 use Rattle.pm_model.specs.declared.stage.Stage.TheVariants as stage
@@ -8,8 +7,6 @@ use Rattle.pm_model.specs.Transaction.{covered_words}
 use Rattle.pm_objects.specs.declared.calls.Operation.TheVariants.{Write}
 use Rattle.pm_objects.specs.declared.ids.Oid.{Oid}
 use Rattle.pm_objects.specs.declared.refusal.Refusal.TheVariants as refusal
-use Rattle.pm_layout.specs.Chunks.{words_of}
-use Rattle.pm_view.specs.Claims.{header_in}
 use Rattle.pm_view.specs.Steps.{Step}
 use Rattle.pm_view.specs.Steps.Step.{Tell}
 use Rattle.pm_view.specs.View.{View}
@@ -17,20 +14,15 @@ use Rattle.pm_view.specs.Views.{after_all}
 use Rattle.pm_world.specs.LaneFields.{Fields, Standing, fields_at}
 use Rattle.pm_world.specs.Lawful.{Allowed}
 use Rattle.pm_world.specs.declared.lane.Lane.{Lane}
-use Rattle.pm_crash.specs.Looked.{word_place, words_in}
 use Rattle.pm_crash.specs.Writes.{written_word}
 use Rattle.pm_crash.proofs.Covered.{covered_has_byte}
 use Rattle.pm_plan.specs.Plans.{IsMade, IsReady, Ready, Runs, in_turn, known_word, looks, one, stores}
 use Rattle.pm_plan.proofs.Plans.{after_all-append, ready_left, ready_right, runs_err, runs_then}
-use Rattle.pm_undo.proofs.AreaParts.{in_pool}
 use Rattle.pm_call.specs.At.{At}
 use Rattle.pm_call.specs.Did.{Acted, IsAtSo}
-use Rattle.pm_call.specs.Held.{HasObject, IsObjectWord, Looks, line_of}
+use Rattle.pm_call.specs.Held.{Looks}
 use Rattle.pm_call.specs.Plans.{puts, tells, writes_word, writes_words}
-use Rattle.pm_call.specs.Ranges.{HasRange}
 use Rattle.pm_call.specs.Writing.{LeadsWrite, MayPut}
-use Rattle.pm_call.proofs.KnownObjects.{size_word, word_number}
-use Rattle.pm_call.proofs.ObjectWords.{object_place}
 use Rattle.pm_call.proofs.LockedRanges.{range_low}
 use Rattle.pm_call.proofs.RangeWrites.{leads_write, one_covered}
 

@@ -2,7 +2,6 @@ use Rattle.std.proofs.Common.{◌≡◌, ◌+◌, length, arith, rules, true, fa
 use Rattle.std.specs.List.{list_all}
 use Rattle.pm_model.specs.Items.{is_among}
 use Rattle.pm_model.specs.Transaction.{covered_words}
-use Rattle.pm_words.specs.Words.{AreBytes}
 use Rattle.pm_undo.specs.Spans.{words_in}
 use Rattle.pm_call.proofs.LockedRanges.{range_low}
 use Rattle.pm_call.proofs.WriteChecks.{recorded_none, recorded_ok}
