@@ -49,6 +49,23 @@ module _ {M : Type 0} (at : M → View → Type 0) (old mid new : Lane M) (op : 
   tried_then Q plan Is x result checked acted s works is =
       after_then s (Came at new op plan Is result) (after_so s (Found at mid Q op (Ok x)) (λ t. After t (Came at new op plan Is result)) (λ t f. acted t f.1 f.2 f.0) (checked s works is))
 
+  -- two checks, one after the other
+  pub checked_then : {S T : Type 0} (Q : Standing → S → Type 0) (R : Standing → T → Type 0) (x : S) (result : Result T Refusal) → Checked at old mid Q op (Ok x)
+      → ((s : Standing) → Works at mid s → At s → Q s x → After s (Found at new R op result)) → Checked at old new R op result
+  unfolding Checked
+  checked_then Q R x result checked more s works is =
+      after_then s (Found at new R op result) (after_so s (Found at mid Q op (Ok x)) (λ t. After t (Found at new R op result)) (λ t f. more t f.1 f.2 f.0) (checked s works is))
+
+  pub checked_err : {S T : Type 0} (Q : Standing → S → Type 0) (R : Standing → T → Type 0) (r : Refusal) → Checked at old mid Q op (Err r) → Checked at old mid R op (Err r)
+  unfolding Checked
+  checked_err Q R r checked = checked
+
+  -- the lane is at work still after a check
+  pub checked_at : {S : Type 0} (Q : Standing → S → Type 0) (result : Result S Refusal) → IsAt at old → Checked at old mid Q op result → IsAt at mid
+  unfolding Checked
+  checked_at Q (Ok x) is checked = let t = checked is.standing is.works is.stands in record { standing = moved is.standing t.view; works = t.holds.1; stands = t.holds.2 }
+  checked_at Q (Err r) is checked = let t = checked is.standing is.works is.stands in record { standing = moved is.standing t.view; works = t.holds.1; stands = t.holds.2 }
+
   -- what passed a check may be made
   pub checked_so : {S : Type 0} (Q : Standing → S → Type 0) (x : S) → IsAt at old → Checked at old mid Q op (Ok x) → IsAtSo at mid (λ s. Q s x)
   unfolding Checked

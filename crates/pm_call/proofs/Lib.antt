@@ -21,3 +21,4 @@ pub mod LockedRanges
 pub mod AddedRanges
 pub mod AddedLanes
 pub mod Calls
+pub mod WriteChecks

@@ -20,7 +20,7 @@ pub use laws::transactions_may_be_given_up;
 pub use ranges::{ranges_are_looked_at, refusals_of_ranges_are_the_models};
 pub use rollback::{give_up, refuse, stop, take_back};
 pub use stages::work_refusal;
-pub use writing::{count_words, do_write, ranges_may_be_written};
+pub use writing::{check_recorded, count_words, do_write, ranges_may_be_written};
 
 #[cfg(test)]
 mod tests;

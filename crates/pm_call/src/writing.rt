@@ -1,16 +1,20 @@
-ghost use Rattle.std.specs.Prelude.{◌≡◌, ◌+◌, ◌*◌, ◌^◌, ◌<◌, length};
+ghost use Rattle.std.specs.Prelude.{◌≡◌, ◌+◌, ◌*◌, ◌^◌, ◌<◌, length, true};
 ghost use Rattle.pm_crash.specs.Writes.{written_word};
 ghost use Rattle.pm_model.specs.Transaction.{covered_words};
 ghost use Rattle.pm_objects.specs.declared.calls.Operation.TheVariants.{Write};
 ghost use Rattle.pm_plan.specs.Plans.{IsReady, Runs};
-ghost use Rattle.pm_call.specs.Did.{Acted, IsAtSo};
+ghost use Rattle.pm_world.specs.LaneFields.{Standing, Works};
+ghost use Rattle.pm_call.specs.At.{At};
+ghost use Rattle.pm_call.specs.Did.{Acted, Found, IsAtSo};
 ghost use Rattle.pm_call.specs.Plans.{puts, writes_word, writes_words};
+ghost use Rattle.pm_call.specs.Ranges.{HasRange};
 ghost use Rattle.pm_call.specs.Writing.{MayPut, RangesMayBeWritten};
 
 use pm_layout::WORD_BYTES;
 use pm_memory::Stopped;
 use pm_objects::{Oid, Refusal};
 use pm_plan::{look, store};
+use pm_undo::are_recorded;
 use pm_words::patch;
 use pm_world::{Lane, LawfulMem, LentOperation};
 
@@ -62,6 +66,33 @@ fn write_words<M: LawfulMem>(mem: &mut M, place: u64, bytes: &[u8]) -> Result<()
         write_word(mem, place, bytes, place / WORD_BYTES + i)?;
     }
     Ok(())
+}
+
+/// Checks that bytes may be written into a range that is the lane's to write: each word of it has a
+/// record.
+///
+/// # Errors
+///
+/// `NotAdded`: a word has none; nothing is done.
+pub fn check_recorded<M: LawfulMem>(
+    lane: &Lane<M>,
+    id: Oid,
+    off: u64,
+    bytes: &[u8],
+) -> Result<(), Refusal>
+    requires { IsAtSo M.at lane.now (λ s. HasRange s id off (length bytes.now) true) }
+    ensures { (s : Standing) → Works M.at lane.now s → At s → HasRange s id off (length bytes.now) true
+        → Found M.at lane.now (λ s done. MayPut s id off bytes.now) (Write id off bytes.now) result s }
+{
+    if are_recorded(
+        lane.log.records.as_slice(),
+        id.off + off,
+        bytes.len() as u64,
+    ) {
+        Ok(())
+    } else {
+        Err(Refusal::NotAdded)
+    }
 }
 
 /// Writes bytes into an object from byte `off` on, where the range is the lane's to write and

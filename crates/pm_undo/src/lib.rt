@@ -26,7 +26,7 @@ pub use laws::{
 pub use restoring::restore;
 pub use retiring::retire;
 pub use snapshots::snapshot;
-pub use spans::Span;
+pub use spans::{Span, are_recorded};
 pub use writing::write;
 
 #[cfg(test)]

@@ -1,6 +1,6 @@
 ghost use Rattle.std.specs.Prelude.{◌≡◌, ◌+◌, ◌-◌, ◌^◌, ◌<◌, ◌≤◌, false, ℕ, List, ◌∷◌, [], ◌++◌, length, IsTrue, IsNone, IfSome};
-ghost use Rattle.std.specs.List.{range_with_len};
-ghost use Rattle.pm_model.specs.Transaction.{records_of};
+ghost use Rattle.std.specs.List.{list_all, range_with_len};
+ghost use Rattle.pm_model.specs.Transaction.{covered_words, records_of};
 ghost use Rattle.pm_model.specs.Items.{is_among};
 ghost use Rattle.pm_undo.specs.Spans.{words_in, spans_for, plan_of, AreSpansOf};
 
@@ -73,6 +73,26 @@ fn is_recorded(records: &[KeptRecord], word: u64) -> bool
         }
     }
     false
+}
+
+/// Whether each word from `first` on up to `end` has a record.
+fn all_recorded(records: &[KeptRecord], first: u64, end: u64) -> bool
+    ensures { result ≡ list_all (is_among (words_in records.now)) (range_with_len first (end - first)) }
+{
+    (first..end).all(|word| is_recorded(records, word))
+}
+
+/// Whether each word that has some of `len` bytes from byte `place` of the pool on has a record.
+pub fn are_recorded(records: &[KeptRecord], place: u64, len: u64) -> bool
+    requires { place + len < 2 ^ 64 }
+    ensures { result ≡ list_all (is_among (words_in records.now)) (covered_words place len) }
+{
+    if len == 0 {
+        return true;
+    }
+    let first = place / WORD_BYTES;
+    let last = (place + len - 1) / WORD_BYTES;
+    all_recorded(records, first, last + 1)
 }
 
 /// Whether the word follows on the record, and there is room for it.
