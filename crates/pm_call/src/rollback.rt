@@ -65,7 +65,8 @@ pub fn take_back<M: LawfulMem>(lane: &mut Lane<M>) -> Result<(), Stopped>
 fn draw_number<M: LawfulMem>(lane: &mut Lane<M>, error: TxErr) -> u64
     requires may { (v : View) × M.at lane.old.memory v × ((n : ℕ) → Allowed v (Draw n)) }
     ensures made { Made M.may (M.at lane.old.memory) (M.at lane.new.memory) (Draw result) }
-    ensures fields { fields_of lane.new ≡ record (fields_of lane.old) { entries = []; stage = stage.OnAbort; error = error; last = result + 1 } }
+    ensures fields { fields_of lane.new ≡ record (fields_of lane.old)
+        { entries = []; stage = stage.OnAbort; error = error; last = result + 1 } }
 {
     let number = lane.memory.draw();
     lane.last = number + 1;
@@ -83,8 +84,10 @@ fn end_call<M: LawfulMem>(
     error: TxErr,
 ) -> u64
     requires { MayEnd (M.at lane.old.memory) (operation_of told) (option_map value_of reply) }
-    ensures made { IsMade (M.at lane.old.memory) (M.at lane.new.memory) (ends_call (operation_of told.entry) (option_map value_of reply.entry) result) }
-    ensures fields { fields_of lane.new ≡ record (fields_of lane.old) { entries = []; stage = stage.OnAbort; error = error; last = result + 1 } }
+    ensures made { IsMade (M.at lane.old.memory) (M.at lane.new.memory)
+        (ends_call (operation_of told.entry) (option_map value_of reply.entry) result) }
+    ensures fields { fields_of lane.new ≡ record (fields_of lane.old)
+        { entries = []; stage = stage.OnAbort; error = error; last = result + 1 } }
 {
     lane.memory.tell(told, reply);
     draw_number(lane, error)
@@ -103,8 +106,10 @@ pub fn give_up<M: LawfulMem>(
     reply: Option<LentValue<'_>>,
     error: TxErr,
 ) -> Result<(), Stopped>
-    requires { IsAtSo M.at lane.old (λ s. GivesUp s (operation_of told) (option_map value_of reply)) }
-    ensures { GivenUp M.at lane.old lane.new (operation_of told.entry) (option_map value_of reply.entry) error result }
+    requires { IsAtSo M.at lane.old
+        (λ s. GivesUp s (operation_of told) (option_map value_of reply)) }
+    ensures { GivenUp M.at lane.old lane.new (operation_of told.entry)
+        (option_map value_of reply.entry) error result }
 {
     take_back(lane)?;
     end_call(lane, told, reply, error);
@@ -120,7 +125,8 @@ pub fn refuse<M: LawfulMem>(
 ) -> Refusal
     requires inside { is_inside (operation_of operation) ≡ true }
     requires plain { is_action (operation_of operation) ≡ false }
-    requires refused { why ≢ refusal.Stopped → IsAtSo M.at lane.old (λ s. IsRefused s (operation_of operation) why) }
+    requires refused { why ≢ refusal.Stopped
+        → IsAtSo M.at lane.old (λ s. IsRefused s (operation_of operation) why) }
     ensures { Refuses M.at lane.old lane.new (operation_of operation.entry) why result }
 {
     if why == Refusal::Stopped {

@@ -10,3 +10,6 @@
 mod outcome;
 
 pub use outcome::abort;
+
+#[cfg(test)]
+mod tests;

@@ -1,0 +1,50 @@
+ghost use Rattle.std.specs.Prelude.{◌≡◌, ◌^◌, ◌<◌, IfOk};
+ghost use Rattle.pm_call.specs.Did.{stage_refusal, work_refusal};
+
+use super::*;
+use arrayvec::ArrayVec;
+use pm_layout::Shape;
+use pm_memory::SoloMem;
+use pm_model::Stage;
+use pm_objects::{Refusal, TxErr};
+use pm_world::{Lane, OwnedBits, SoloLane, UndoLog};
+use std::alloc::Global;
+use std::test::Fail;
+
+/// Lane 0 of a pool of one lane and one zone, at a level and a stage of a transaction.
+fn lane_at(alloc: Global, level: u64, stage: Stage) -> Result<Lane<SoloLane>, Fail>
+    ensures { IfOk result (λ lane. work_refusal lane ≡ stage_refusal stage level) }
+{
+    let words = vec![in alloc; 0; 34816]?;
+    Ok(Lane {
+        memory: SoloLane::new(SoloMem::new(alloc, words, None)?),
+        pool: 7,
+        shape: Shape::new(1, 1)?,
+        locks: ArrayVec::new(),
+        log: UndoLog {
+            generation: 1,
+            records: ArrayVec::new(),
+        },
+        entries: ArrayVec::new(),
+        pending: ArrayVec::new(),
+        reserved: OwnedBits::new(alloc, 68)?,
+        freed: OwnedBits::new(alloc, 68)?,
+        level,
+        stage,
+        error: TxErr::None,
+        drawn: None,
+        last: 0,
+        stopped: false,
+    })
+}
+
+/// Where no transaction is open, and past its work, an abort is refused.
+#[test]
+fn aborts_are_refused(rt: HostRuntime) -> Result<(), Fail> {
+    let mut idle = lane_at(rt.alloc(), 0, Stage::None)?;
+    assert_eq!(rt; abort(&mut idle, 3), Err(Refusal::NoTx));
+    let mut late = lane_at(rt.alloc(), 1, Stage::OnAbort)?;
+    assert_eq!(rt; abort(&mut late, 3), Err(Refusal::NotWork));
+    assert_eq!(rt; late.error, TxErr::None);
+    Ok(())
+}
