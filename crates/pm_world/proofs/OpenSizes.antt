@@ -18,7 +18,7 @@ use Rattle.pm_view.specs.Claims.{is_run}
 use Rattle.pm_view.specs.Places.{InRun, InHuge, Descr, Block, Small, Big, Root, is_place, word_of}
 use Rattle.pm_world.specs.Memory.{bit}
 use Rattle.pm_world.specs.Opens.{descriptor}
-use Rattle.pm_world.specs.Sizes.{HasBytes, ObjectsFit, stored_size}
+use Rattle.pm_world.specs.Sizes.{HasRoomFor, ObjectsFit, stored_size}
 use Rattle.pm_world.specs.States.{there, val}
 use Rattle.pm_world.specs.World.{Opening, Views, origin, was_run}
 use Rattle.pm_world.proofs.BlockLines.{run_fits}
@@ -107,9 +107,9 @@ module _ (o : Opening) (views : Views) (small : (w : ℕ) → slice_index o.word
 
   -- EACH OBJECT FITS ITS BLOCK
   pub open_fits : ObjectsFit o (opened o views (first_of o))
-  open_fits = record { settled = each; drawn = λ n l. absurd (omega arith) }
+  open_fits = record { settled = each; flying = λ n l. absurd (omega arith) }
     where
-      each : (B : Block) → there (origin o) B ≡ true → HasBytes (opened o views (first_of o)).geo B (stored_size (opened o views (first_of o)).geo (origin o) B)
+      each : (B : Block) → there (origin o) B ≡ true → HasRoomFor (opened o views (first_of o)).geo B (stored_size (opened o views (first_of o)).geo (origin o) B)
       each (Small c i) t = small_fits c i t
       each (Big f) t = λ n l. let held = huge_fits f t in let many = descriptor o f / 256 in
           eqb-true (first_of o (f + n)) f (has_chunk o views small table f t (f + n) ∙ and_from (nat_le f (f + n)) (nat_lt (f + n) (f + many)) (le-leb f (f + n) (omega arith)) (lt-ltb (f + n) (f + many) (omega arith)))

@@ -21,8 +21,9 @@ use Rattle.pm_world.specs.Lawful.{IsLawful, MayDraw, StoreFits}
 use Rattle.pm_world.specs.Laws.{Turn}
 use Rattle.pm_world.specs.Memory.{Memory, bit, cells_of}
 use Rattle.pm_world.specs.Moves.{Moves}
+use Rattle.pm_world.specs.Runs.{IsRun, Leads, Moment}
 use Rattle.pm_world.specs.Sights.{call_in, is_pictured, sight_of}
-use Rattle.pm_world.specs.Sizes.{size_place, stored_size, HasBytes, AreFitting, ObjectsFit, KeepsSizes}
+use Rattle.pm_world.specs.Sizes.{size_place, stored_size, HasRoomFor, AreFitting, ObjectsFit, KeepsSizes, RunsKeepSizes}
 use Rattle.pm_world.specs.States.{State, Diff, diff, given, over, after_diff, there, val, size_at, put1}
 use Rattle.pm_world.specs.World.{Opening, Views, Past, World, origin, ghost_of, settled_words}
 use Rattle.pm_world.proofs.Basics.{first_none, given_cases, none_of, val_alike}
@@ -32,6 +33,7 @@ use Rattle.pm_world.proofs.EveryStep.{every_step}
 use Rattle.pm_world.proofs.Frame.{mine_own, own_has}
 use Rattle.pm_world.proofs.Geometry.{size_part}
 use Rattle.pm_world.proofs.Replays.{over_none, put1_here, put1_else, replay_last, replay_same}
+use Rattle.pm_world.proofs.RunsKept.{next_world}
 use Rattle.pm_world.proofs.StepDraw.{drawn_settled}
 use Rattle.pm_world.proofs.Values.{val_word}
 
@@ -154,10 +156,10 @@ module _ (o : Opening) (mem : Memory) (views : Views) (g : Past) (k : ℕ) (x : 
       → AreFitting G (settled_words o g) g.drew g.length g.decided
   moved G early classes firsts = record {
     settled = λ B t. moves B (settled_words o g) (inl t) (h.settled B t);
-    drawn = λ n l u B t s. moves B (after_diff (diff (call_in (g.drew n))) s) (inr ((g.drew n).fixed.lane, λ e. grounded (views k).log.phase n early (subst (λ j. flies_at (sight_of (views j)).phase n) e (x.bits.flying n l u)), allocates_own n l u B t)) (h.drawn n l u B t s);
+    flying = λ n l u B t s. moves B (after_diff (diff (call_in (g.drew n))) s) (inr ((g.drew n).fixed.lane, λ e. grounded (views k).log.phase n early (subst (λ j. flies_at (sight_of (views j)).phase n) e (x.bits.flying n l u)), allocates_own n l u B t)) (h.flying n l u B t s);
   }
     where
-      moves : (B : Block) (s : State) → Stays B → HasBytes g.geo B (stored_size g.geo s B) → HasBytes G B (stored_size G s B)
+      moves : (B : Block) (s : State) → Stays B → HasRoomFor g.geo B (stored_size g.geo s B) → HasRoomFor G B (stored_size G s B)
       moves (Small c i) s st y = subst (λ m. 64 + val (s (size_at m c i)) 0 64 ≤ 64 * m) (sym (classes c (small_run c i (stays_valid (Small c i) st)).0)) y
       moves (Big f) s st y = λ n l. firsts f (f + n) st (y n l)
       moves Root s st y = tt
@@ -232,21 +234,21 @@ module _ (o : Opening) (mem : Memory) (views : Views) (g : Past) (k : ℕ) (x : 
         (λ (a : given ((sight_of (views k)).call.fresh p b) ≡ true). some_true (turn call B) e (plain_turn (views k) B ∙ (ap (turn (latest (redos (views k).log.entries))) (sym (size_block B ok b)) ∙ y.1 a)))
         (given_cases (latest (redos (views k).log.entries) p b) ((sight_of (views k)).call.fresh p b) q)))
 
-    fits_now : (B : Block) → (B ≢ Root) → there S' B ≡ true → (a : Option Bool) → turn call B ≡ a → HasBytes g.geo B (stored_size g.geo S' B)
+    fits_now : (B : Block) → (B ≢ Root) → there S' B ≡ true → (a : Option Bool) → turn call B ≡ a → HasRoomFor g.geo B (stored_size g.geo S' B)
     fits_now B ne t None e = let before = sym (there_now B ∙ ap (λ a. over a (there (settled_words o g) B)) e) ∙ t in
-        subst (HasBytes g.geo B) (sym (val_alike (S' (size_place g.geo B)) (settled_words o g (size_place g.geo B)) 0 64 (λ b _. size_kept B ne before e b))) (h.settled B before)
+        subst (HasRoomFor g.geo B) (sym (val_alike (S' (size_place g.geo B)) (settled_words o g (size_place g.geo B)) 0 64 (λ b _. size_kept B ne before e b))) (h.settled B before)
     fits_now B ne t (Some false) e = absurd (both_ways (there S' B) (there_now B ∙ ap (λ a. over a (there (settled_words o g) B)) e) t)
     fits_now B ne t (Some true) e = let p = size_place g.geo B in let d = diff (call_in (g.drew n)) in
-        subst (HasBytes g.geo B) (val_alike (after_diff d (settled_words o g) p) (S' p) 0 64 (λ b _. ap (λ a. over a (settled_words o g p b)) (fl.1 p b) ∙ sym (now p b)))
-        (h.drawn n fl.0 fl.3 B (turn_alike d call fl.1 B ∙ e) (settled_words o g))
+        subst (HasRoomFor g.geo B) (val_alike (after_diff d (settled_words o g) p) (S' p) 0 64 (λ b _. ap (λ a. over a (settled_words o g p b)) (fl.1 p b) ∙ sym (now p b)))
+        (h.flying n fl.0 fl.3 B (turn_alike d call fl.1 B ∙ e) (settled_words o g))
 
     decides : AreFitting g.geo S' g.drew g.length (put1 g.decided n true)
     decides = record {
       settled = each;
-      drawn = λ m l u. h.drawn m l (sym (put1_else g.decided n true m (λ e. both_ways (put1 g.decided n true m) u (ap (put1 g.decided n true) e ∙ put1_here g.decided n true))) ∙ u);
+      flying = λ m l u. h.flying m l (sym (put1_else g.decided n true m (λ e. both_ways (put1 g.decided n true m) u (ap (put1 g.decided n true) e ∙ put1_here g.decided n true))) ∙ u);
     }
       where
-        each : (B : Block) → there S' B ≡ true → HasBytes g.geo B (stored_size g.geo S' B)
+        each : (B : Block) → there S' B ≡ true → HasRoomFor g.geo B (stored_size g.geo S' B)
         each (Small c i) t = fits_now (Small c i) (not_root (Small c i) refl) t (turn call (Small c i)) refl
         each (Big f) t = fits_now (Big f) (not_root (Big f) refl) t (turn call (Big f)) refl
         each Root t = tt
@@ -276,7 +278,7 @@ module _ (o : Opening) (mem : Memory) (views : Views) (g : Past) (k : ℕ) (x : 
         given_here b = ap (λ d. first_of_two d ((call_in (views k)).fresh (size_place g.geo B) b)) (none_of (latest (redos (views k).log.entries) (size_place g.geo B) b) ((fit k).sizes (size_place g.geo B) b (size_is B ne ok)).0)
             ∙ stored_at o.shape (cells_of o.shape mem) (settled_words o g) (Flies (ghost_of g) k) (ghost_of g) x.bits.geo k (views k) (fit k) a.new_blocks (size_place g.geo B) b user pictured (ap (turn (latest (redos (views k).log.entries))) (of b) ∙ t) size at
 
-    new_fits : (B : Block) → turn (latest (redos (views k).log.entries)) B ≡ Some true → (s : State) → HasBytes g.geo B (stored_size g.geo (after_diff (diff (call_in (views k))) s) B)
+    new_fits : (B : Block) → turn (latest (redos (views k).log.entries)) B ≡ Some true → (s : State) → HasRoomFor g.geo B (stored_size g.geo (after_diff (diff (call_in (views k))) s) B)
     new_fits (Small c i) t s = let m = a.new_blocks (Small c i) t in let hd = (sight_of (views k)).hold in let mi = own_new (Small c i) t in let ok = ((fit k).hold.mine (Small c i) mi).1 in let run = small_run c i ok in let cl = g.geo.class c in
         let known : class (views k).claims c ≡ cl = (fit k).hold.class c i (own_has hd (Small c i) (mine_own hd (Small c i) mi)) in
         let row = run_fits cl i run.1 in let w = 8 * (1 + cl * i) + 1 in let user = le-leb 8 w (omega arith) in
@@ -297,12 +299,12 @@ module _ (o : Opening) (mem : Memory) (views : Views) (g : Past) (k : ℕ) (x : 
 
     draws : settled_words o (past_drawn g (views k)) ≡ settled_words o g → ObjectsFit o (past_drawn g (views k))
     draws same = record {
-      settled = subst (λ s. (B : Block) → there s B ≡ true → HasBytes g.geo B (stored_size g.geo s B)) (sym same) h.settled;
-      drawn = λ n l u. ⊎_elim
-          (λ (e : n ≡ g.length). subst (λ (w : View). (B : Block) → turn (diff (call_in w)) B ≡ Some true → (s : State) → HasBytes g.geo B (stored_size g.geo (after_diff (diff (call_in w)) s) B))
+      settled = subst (λ s. (B : Block) → there s B ≡ true → HasRoomFor g.geo B (stored_size g.geo s B)) (sym same) h.settled;
+      flying = λ n l u. ⊎_elim
+          (λ (e : n ≡ g.length). subst (λ (w : View). (B : Block) → turn (diff (call_in w)) B ≡ Some true → (s : State) → HasRoomFor g.geo B (stored_size g.geo (after_diff (diff (call_in w)) s) B))
           (sym (ap (put1 g.drew g.length (views k)) e ∙ put1_here g.drew g.length (views k))) (λ B t. new_fits B (sym (plain_turn (views k) B) ∙ t)))
-          (λ (ne : n ≢ g.length). subst (λ (w : View). (B : Block) → turn (diff (call_in w)) B ≡ Some true → (s : State) → HasBytes g.geo B (stored_size g.geo (after_diff (diff (call_in w)) s) B))
-          (sym (put1_else g.drew g.length (views k) n ne)) (h.drawn n (omega arith) (sym (put1_else g.decided g.length _ n ne) ∙ u))) (cases_eq n g.length);
+          (λ (ne : n ≢ g.length). subst (λ (w : View). (B : Block) → turn (diff (call_in w)) B ≡ Some true → (s : State) → HasRoomFor g.geo B (stored_size g.geo (after_diff (diff (call_in w)) s) B))
+          (sym (put1_else g.drew g.length (views k) n ne)) (h.flying n (omega arith) (sym (put1_else g.decided g.length _ n ne) ∙ u))) (cases_eq n g.length);
     }
 
 -- EVERY LAWFUL STEP KEEPS IT
@@ -334,3 +336,11 @@ keeps (NumberSeen n) o old mem views g k x ink law m h = h
 keeps (StopSeen set) o old mem views g k x ink law m h = h
 keeps SetStop o old mem views g k x ink law m h = h
 keeps (Tell operation reply) o old mem views g k x ink law m h = h
+
+pub runs_keep_sizes : RunsKeepSizes
+unfolding IsRun
+runs_keep_sizes o [] old new x run h = subst (λ (m : Moment). ObjectsFit o m.past) (sym run) h
+runs_keep_sizes o (t ∷ rest) old new x run h =
+    let l : Leads o old t run.0 = run.1 in
+    runs_keep_sizes o rest run.0 new (next_world o t old run.0 x l) run.2
+    (subst (ObjectsFit o) (sym l.past) (keeps t.step o old.mem run.0.mem old.views old.past t.lane x l.runs l.lawful l.moves h))

@@ -69,3 +69,8 @@ SizesFit v = (B : Block) (x : ℕ) → found v.fixed.shape v.claims B ≡ true �
 -- so it does, before the look and after it
 abbrev pub SizesSeen : Type 0
 SizesSeen = (v : View) (w x : ℕ) → InWorld v w x → SizesFit v × SizesFit (after v (Load w x))
+
+-- and so does a size that it finds
+abbrev pub SizeFound : Type 0
+SizeFound = (v : View) (B : Block) (x : ℕ) → found v.fixed.shape v.claims B ≡ true → is_occupancy v.fixed.shape B ≡ true → InWorld v (8 * header_in v.fixed.shape v.claims B + 1) x
+    → 64 + x ≤ block_bytes v B

@@ -3,7 +3,8 @@ ghost use Rattle.pm_world.specs.Opens.{Opens, RecoveredOpens};
 
 /// A law: recovered words of which nothing of the heap is wrong open a world, with no lane asked
 /// anything, where each lane's log is retired, no lock is held, no number is drawn, and the
-/// occupancy words are what the pool's words take. Its history is empty. No code runs.
+/// occupancy words are what the pool's words take. Its history is empty, and each object fits its
+/// block. No code runs.
 pub fn recovered_words_open_a_world()
     ensures { Opens }
 {}
