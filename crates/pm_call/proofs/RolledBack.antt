@@ -13,7 +13,7 @@ use Rattle.pm_model.specs.Inside.{is_kept_by}
 use Rattle.pm_view.specs.Claims.{Claim, making, pictured, span}
 use Rattle.pm_view.specs.Entries.{first_of_two, turn}
 use Rattle.pm_view.specs.Log.{Open, Recorded, new_log, old_of}
-use Rattle.pm_view.specs.Places.{Place, InRun, InHuge, Descr, RootWord, Big, word_of, Block, Root, Small}
+use Rattle.pm_view.specs.Places.{Place, Big, word_of, Block, Root, Small}
 use Rattle.pm_view.specs.Steps.Step.{Tell}
 use Rattle.pm_view.specs.View.{View}
 use Rattle.pm_view.specs.Views.{after, value_in}
@@ -24,10 +24,11 @@ use Rattle.pm_world.specs.Sights.{is_pictured, is_recorded, picture}
 use Rattle.pm_world.specs.States.{given}
 use Rattle.pm_crash.specs.Footprints.{bit_before, has_found}
 use Rattle.pm_crash.specs.Looked.{size_seen, IsChanged, word_place, KnowsSize, words_in}
-use Rattle.pm_crash.specs.Sim.{Grows, IsSamePlace, sees_at, change_so_far}
+use Rattle.pm_crash.specs.Sim.{Grows, sees_at, change_so_far}
 use Rattle.pm_crash.specs.SimOps.{KnowsWithoutRecords, RollsBack, with_records}
 use Rattle.pm_crash.proofs.Telling.{tells_grow}
 use Rattle.pm_plan.specs.Notes.{AreNotes, Note, noted}
+use Rattle.pm_crash.proofs.Composing.{growths_compose}
 use Rattle.pm_call.specs.At.{IsDataOf}
 use Rattle.pm_call.proofs.Frames.{noting, noting_grows}
 use Rattle.pm_call.proofs.Noting.{found_so, place_so, size_so, words_so}
@@ -40,25 +41,11 @@ old_some rs p e = at (old_of rs p) refl where
   at None is = absurd (both_ways false refl (ap given (sym is) ∙ e))
   at (Some x) is = (x, is)
 
--- one lane knows no less than another that knows no less than a third
-same_place_then : (u v w : View) (p : Place) → IsSamePlace u v p → IsSamePlace v w p → IsSamePlace u w p
-same_place_then u v w (InRun c i) a b = b ∙ a
-same_place_then u v w (InHuge c i) a b = b ∙ a
-same_place_then u v w (Descr c) a b = tt
-same_place_then u v w RootWord a b = tt
-
 -- a view that tells an operation knows what it knew
 grows_told : (v u : View) (op : Operation) (reply : Option Value) (kept : Bool) → Grows v (is_kept_by op kept) u (is_kept_by op kept) → Grows v (is_kept_by op kept) (after u (Tell op reply)) kept
-grows_told v u op reply kept g = let t = tells_grow u op reply kept in record {
-  found = g.found;
-  spans = g.spans;
-  class = g.class;
-  own = λ B e. t.own B (g.own B e);
-  lines = λ B line e has. t.lines B line (g.own B e) (g.lines B line e has);
-  sees = λ p b e. ((g.sees p b e).0, same_place_then v u (after u (Tell op reply)) p (g.sees p b e).1 (t.sees p b (g.sees p b e).0).1);
-  recorded = g.recorded;
-  knows = g.knows;
-}
+grows_told v u op reply kept g =
+    let was : Bool = is_kept_by op kept in
+    growths_compose v u (after u (Tell op reply)) was was kept g (tells_grow u op reply kept)
 
 -- where the lane knows the size of an object of which no header word is recorded, it saw the size
 pub size_bit : (v : View) (off : ℕ) (k : KnowsSize v [] off) → is_recorded v.log.records (word_place v k.block 1) ≡ false → (b : ℕ) → b < 64
@@ -127,6 +114,7 @@ module _ (v : View) (ns : List Note) (calls g : ℕ) (are : AreNotes v.fixed.sha
     grows op reply kept = let g_ = grows_told v (with_records v.log.records back) op reply kept
         (noting_grows v ns [] calls (record (new_log Open g) { records = v.log.records }) are unmaking (is_kept_by op kept) (λ p e. e) knows_before) in record {
           found = g_.found;
+          roots = g_.roots;
           spans = g_.spans;
           class = g_.class;
           own = g_.own;

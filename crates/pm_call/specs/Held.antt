@@ -1,5 +1,5 @@
 -- WHICH OBJECTS A LANE HOLDS, by its list of locks and by its claims; and what it looks at under these locks.
-use Rattle.std.specs.Prelude.{◌≡◌, ◌⊎◌, ℕ, zero, suc, ◌+◌, ◌-◌, ◌*◌, ◌/◌, ◌%◌, ◌^◌, ◌<◌, ◌≤◌, nat_le, Bool, true, Some, ◌==◌, ◌&&◌, ◌||◌, not, List}
+use Rattle.std.specs.Prelude.{◌≡◌, ◌⊎◌, ℕ, zero, suc, ◌+◌, ◌-◌, ◌/◌, ◌%◌, ◌^◌, ◌<◌, ◌≤◌, nat_le, Bool, true, ◌==◌, ◌&&◌, ◌||◌, not, List}
 use Rattle.std.specs.List.{AllByRecursion, list_any}
 use Rattle.pm_view.specs.Claims.{header_in}
 use Rattle.pm_view.specs.Founds.{FindsKnown}

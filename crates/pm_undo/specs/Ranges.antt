@@ -8,7 +8,7 @@ use Rattle.pm_view.specs.Changes.{Undrained}
 use Rattle.pm_view.specs.Claims.{Claim, class, first, found, header_in, locked, mine, reads, span}
 use Rattle.pm_view.specs.Founds.{knows}
 use Rattle.pm_view.specs.Log.{Log}
-use Rattle.pm_view.specs.Places.{Block, Small, Big, Root}
+use Rattle.pm_view.specs.Places.{Block}
 use Rattle.pm_view.specs.View.{View}
 use Rattle.pm_world.specs.InWorld.{IsSound, block_bytes}
 use Rattle.pm_world.specs.LaneFields.{IsSeenAs, Standing, fields_at, moved}

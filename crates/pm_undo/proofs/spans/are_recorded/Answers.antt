@@ -1,4 +1,4 @@
-use Rattle.std.proofs.Common.{◌≡◌, ◌+◌, ◌-◌, ◌/◌, ◌==◌, true, false, [], Bool, cond, sym, ap, ◌∙◌, rules, eq-eqb, ne_eqb}
+use Rattle.std.proofs.Common.{◌≡◌, ◌+◌, ◌-◌, ◌/◌, ◌==◌, false, [], Bool, cond, sym, ap, ◌∙◌, rules, eq-eqb}
 use Rattle.std.specs.List.{list_all, range_with_len}
 use Rattle.pm_model.specs.Transaction.{covered_words}
 use Rattle.pm_model.specs.Items.{is_among}
