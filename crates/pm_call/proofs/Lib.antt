@@ -9,6 +9,7 @@ pub mod ObjectWords
 pub mod KnownObjects
 pub mod Noting
 pub mod Looking
+pub mod LooksInWorlds
 pub mod RangeRefusals
 pub mod RangeWords
 pub mod RangeReads
