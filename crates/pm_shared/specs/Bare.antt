@@ -7,7 +7,7 @@ use Rattle.pm_shared.specs.declared.rule.Beginning.{Beginning}
 use Rattle.pm_shared.specs.Openings.{opening_of}
 
 pub record BeginsBare (b : Beginning) : Type 0 where
-  pub words : IsBare (opening_of b)
+  pub opening : IsBare (opening_of b)
   pub untaken : IsUntaken b.shape (slice_index b.runs.items) (slice_index b.zones.items)
   pub runs : length b.runs.items ≡ words_of b.shape / page_words
   pub zones : length b.zones.items ≡ b.shape.zones

@@ -7,7 +7,7 @@ use super::*;
 use pm_layout::Shape;
 use pm_memory::LaneSync;
 use pm_objects::Stops;
-use pm_world::Lane;
+use pm_world::{Lane, bare_words};
 use std::alloc::Global;
 use std::marker::Brand;
 use std::sync::Wait;
@@ -24,9 +24,7 @@ fn beginning(alloc: Global) -> Result<Beginning, Fail>
     ensures { IfOk result (λ b. BeginsBare b × (b.lanes ≡ 2)) }
 {
     let shape = Shape::new(2, 1)?;
-    let mut words = vec![in alloc; 0; 35840]?;
-    words[512] = 1;
-    words[1536] = 1;
+    let words = bare_words(alloc, shape)?;
     Ok(Beginning {
         shape,
         pool: 7,

@@ -1,6 +1,7 @@
 -- The words of a pool without objects open a world.
 use Rattle.std.proofs.Common.{◌≡◌, ℕ, ◌+◌, ◌*◌, ◌/◌, ◌%◌, ◌<◌, ◌≤◌, Bool, true, false, not, cond, nat_lt, ◌==◌, ◌&&◌, ◌||◌, List, [], ◌∷◌, ◌++◌, slice_index, get_or, Option, None, Some, refl, sym, ap, ◌∙◌, arith, eq-eqb}
-use Rattle.std.proofs.lemmas.Bool.{both_ways, and_parts, ltb-true}
+use Rattle.std.proofs.Common.{◌≢◌, ⊎_elim, set, length-set, get_or-set_same, get_or-set_other}
+use Rattle.std.proofs.lemmas.Bool.{both_ways, cases_eq, and_parts, ltb-true}
 use Rattle.std.proofs.lemmas.List.Concat.{flat_map-cons}
 use Rattle.std.proofs.lemmas.List.Folds.{list_any_none}
 use Rattle.std.proofs.lemmas.Nat.Bits.{bit_at-zero, bit_at_ones}
@@ -10,6 +11,7 @@ use Rattle.pm_image.proofs.Firsts.{none_passes}
 use Rattle.pm_image.specs.Blocks.{blocks, chunk_blocks, blocks_in, class_in, descriptor_word, chunk_word}
 use Rattle.pm_image.specs.declared.fault.ImageFault.TheVariants as fault
 use Rattle.pm_image.specs.HeapFaults.{bad_chunk, is_described, chunk_fault, bad_bitmap, is_bad_bitmap, bitmap_fault, block_fault, link_fault, bad_root, root_fault, heap_fault}
+use Rattle.pm_layout.specs.declared.shape.Shape.{Shape}
 use Rattle.pm_layout.specs.Areas.{word_of_generation, word_of_seal, line_of_slot}
 use Rattle.pm_layout.specs.Chunks.{chunks_of, page_of_chunk, word_of_chunk, word_of_descriptor}
 use Rattle.pm_layout.specs.Sizes.{blocks_of}
@@ -21,7 +23,7 @@ use Rattle.pm_world.specs.Lanes.{is_occupancy}
 use Rattle.pm_world.specs.Logs.{slot_list}
 use Rattle.pm_world.specs.Memory.{RunWord, ZoneWord, bit, occupancy_bit}
 use Rattle.pm_world.specs.Opens.{IsRetired, descriptor, takes, is_in_huge}
-use Rattle.pm_world.specs.Bare.{IsBare, IsUntaken, BareOpens}
+use Rattle.pm_world.specs.Bare.{AreBare, IsBare, IsUntaken, BareOpens}
 use Rattle.pm_world.specs.World.{Opening}
 use Rattle.pm_world.proofs.OpenFaults.{opens}
 
@@ -82,17 +84,39 @@ module _ (w : ℕ → ℕ) (lanes zones : ℕ) (zero_ : (c : ℕ) → w (descrip
   no_heap_fault = or_none _ _ no_chunk_fault (or_none _ _ no_bitmap_fault (or_none _ _ (ap (block_fault w) no_blocks ∙ no_block_fault)
       (or_none _ _ (ap (link_fault w) no_blocks ∙ no_link_fault) (ap (root_fault w) no_blocks ∙ no_root_fault))))
 
+-- ---- THE WORDS are made lane by lane
+pub one_more : (sh : Shape) (n : ℕ) (words : List ℕ) → n < sh.lanes → AreBare sh n words
+    → AreBare sh (n + 1) (set words (word_of_generation sh n) 1)
+one_more sh n words few bare = record {
+  size = length-set words (word_of_generation sh n) 1 ∙ bare.size;
+  small = λ w. ⊎_elim
+      (λ (e : w ≡ word_of_generation sh n). let q = ap (slice_index (set words (word_of_generation sh n) 1)) e ∙ here in omega (arith, q))
+      (λ (ne : w ≢ word_of_generation sh n). let q = there w ne in let s = bare.small w in omega (arith, q, s))
+      (cases_eq w (word_of_generation sh n));
+  first = λ lane l. ⊎_elim
+      (λ (e : lane ≡ n). ap (λ k. slice_index (set words (word_of_generation sh n) 1) (word_of_generation sh k)) e ∙ here)
+      (λ (ne : lane ≢ n). there (word_of_generation sh lane) (λ q. ne (omega (arith, q))) ∙ bare.first lane (omega (arith, l, ne)))
+      (cases_eq lane n);
+  zero_ = λ w none. there w (none n (omega arith)) ∙ bare.zero_ w (λ lane l. none lane (omega (arith, l)));
+}
+  where
+    here : slice_index (set words (word_of_generation sh n) 1) (word_of_generation sh n) ≡ 1
+    here = get_or-set_same words (word_of_generation sh n) 1 0 (let z = bare.size in omega (arith, z, few))
+
+    there : (w : ℕ) → w ≢ word_of_generation sh n → slice_index (set words (word_of_generation sh n) 1) w ≡ slice_index words w
+    there w ne = get_or-set_other words (word_of_generation sh n) w 1 0 (λ e. ne e)
+
 module _ (o : Opening) (bare : IsBare o) where
   -- words of no lane's generation
   late : (w : ℕ) → 512 + 1024 * o.shape.lanes ≤ w → slice_index o.words w ≡ 0
-  late w l = bare.zero_ w (λ lane few same. absurd (omega arith))
+  late w l = bare.words.zero_ w (λ lane few same. absurd (omega arith))
 
   root : slice_index o.words 64 ≡ 0
-  root = bare.zero_ 64 (λ lane few same. absurd (omega arith))
+  root = bare.words.zero_ 64 (λ lane few same. absurd (omega arith))
 
   in_area : (lane i : ℕ) → lane < o.shape.lanes → 1 ≤ i → i < 1024
       → slice_index o.words (word_of_generation o.shape lane + i) ≡ 0
-  in_area lane i few some most = bare.zero_ (word_of_generation o.shape lane + i) (λ other l same. absurd (omega arith))
+  in_area lane i few some most = bare.words.zero_ (word_of_generation o.shape lane + i) (λ other l same. absurd (omega arith))
 
   no_descriptor : (c : ℕ) → descriptor o c ≡ 0
   no_descriptor c = late (word_of_descriptor o.shape c) (omega arith)
@@ -120,7 +144,7 @@ module _ (o : Opening) (bare : IsBare o) where
 
   pub bare_retired : (lane : ℕ) → lane < o.shape.lanes → IsRetired o lane 1
   bare_retired lane few = record {
-    stored = bare.first lane few;
+    stored = bare.words.first lane few;
     first = omega arith;
     last = omega arith;
     unsealed = ap (slice_index o.words) (seal_at lane) ∙ in_area lane 1 few (omega arith) (omega arith);
@@ -150,5 +174,5 @@ module _ (o : Opening) (bare : IsBare o) where
 
 pub bare_opens : BareOpens
 bare_opens o mem fixed bare un start =
-    opens o mem fixed (λ k. 1) (record { start = start; size = bare.size; small = bare.small; retired = bare_retired o bare })
+    opens o mem fixed (λ k. 1) (record { start = start; size = bare.words.size; small = bare.words.small; retired = bare_retired o bare })
     (bare_whole o bare) (bare_taken o bare (λ p. mem (RunWord p)) (λ z. mem (ZoneWord z)) un)

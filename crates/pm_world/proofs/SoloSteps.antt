@@ -1,12 +1,14 @@
 -- Lane 0 over its memory: what the memory's calls are to it, in whatever world the memory stands.
 use Rattle.std.proofs.Common.{◌≡◌, ◌↔◌, ℕ, ◌<◌, Bool, true, false, IsTrue, slice_index, bit_and}
 use Rattle.std.proofs.Common.{bit_or, Option, Result, Ok, Err, IfOk, OnOk, OnErr, refl, sym, ap}
-use Rattle.std.proofs.Common.{◌∙◌, subst, arith}
-use Rattle.std.proofs.lemmas.Bool.{both_ways}
+use Rattle.std.proofs.Common.{◌∙◌, ⊎_elim, ◌/◌, ◌≤◌, List, length, replicate, subst, arith}
+use Rattle.std.proofs.lemmas.Bool.{both_ways, cases_lt}
+use Rattle.std.proofs.lemmas.List.{get_or-replicate, get_or_past, length-replicate}
 use Rattle.std.specs.Bool.{OnTrue, OnFalse}
+use Rattle.pm_layout.specs.declared.shape.Shape.{Shape}
 use Rattle.pm_layout.specs.Chunks.{words_of}
 use Rattle.pm_memory.specs.Runs.{AnyStep, Made, MadeOrStopped}
-use Rattle.pm_memory.specs.Solo.{Solo, Sees, CanStep, says_stopped, with_occ}
+use Rattle.pm_memory.specs.Solo.{Solo, Sees, CanStep, says_stopped, with_occ, opened_with}
 use Rattle.pm_memory.specs.SoloCalls.{Calls, occ_in}
 use Rattle.pm_memory.specs.declared.lane_mem.Stopped.{Stopped}
 use Rattle.pm_objects.specs.declared.calls.Operation.{Operation}
@@ -15,13 +17,17 @@ use Rattle.pm_view.specs.declared.occ.Occ.{Occ}
 use Rattle.pm_view.specs.Counts.{is_counted}
 use Rattle.pm_view.specs.Steps.{Step}
 use Rattle.pm_view.specs.Steps.Step.{Occupy, SetStop, Tell}
-use Rattle.pm_view.specs.View.{View}
+use Rattle.pm_view.specs.View.{View, Constants, idle}
 use Rattle.pm_view.specs.Views.{after}
+use Rattle.pm_world.specs.Bare.{AreBare, IsUntaken}
 use Rattle.pm_world.specs.InWorld.{InWorld}
 use Rattle.pm_world.specs.Lawful.{Allowed, IsLawful}
-use Rattle.pm_world.specs.SoloLanes.{Stands, StandsAs}
+use Rattle.pm_world.specs.Opens.{OpensIdle}
+use Rattle.pm_world.specs.SoloLanes.{Stands, StandsAs, only_lane}
 use Rattle.pm_world.specs.SoloWorld.{memory_of}
-use Rattle.pm_world.proofs.SoloStands.{stands_after}
+use Rattle.pm_world.specs.World.{Opening}
+use Rattle.pm_world.proofs.Bare.{bare_opens}
+use Rattle.pm_world.proofs.SoloStands.{stands_after, opened_starts, opened_stands}
 
 -- `now` is the memory as the lane's field has it
 module _ (m now new : Solo) (same : now ≡ m) where
@@ -99,3 +105,36 @@ in_world m v w x st inside found = let some : 0 < st.0.lanes = let l = st.1.worl
   word = sym found;
   sizes = st.1.sizes;
 }
+
+-- ---- ON A POOL WITHOUT OBJECTS
+module _ (sh : Shape) (pool : ℕ) (stop : Option ℕ) (words runs free : List ℕ) (bare : AreBare sh sh.lanes words)
+    (full : runs ≡ replicate (length words / 512) 18446744073709551615) (clear : free ≡ replicate 32 0) where
+  abbrev o : Opening
+  o = record { shape = sh; lanes = 1; words = words }
+
+  abbrev fixed : ℕ → Constants
+  fixed k = record (only_lane sh pool stop) { lane = k }
+
+  pages : length runs ≡ length words / 512
+  pages = ap length full ∙ length-replicate {A = ℕ} (length words / 512) 18446744073709551615
+
+  count : length free ≡ 32
+  count = ap length clear ∙ length-replicate {A = ℕ} 32 0
+
+  untaken : IsUntaken sh (slice_index runs) (slice_index free)
+  untaken = record {
+    full = λ page l. ap (λ (ws : List ℕ). slice_index ws page) full
+        ∙ get_or-replicate (length words / 512) page 18446744073709551615 0 (let z = bare.size in omega (arith, l, z));
+    free = λ zone. ap (λ (ws : List ℕ). slice_index ws zone) clear ∙ ⊎_elim
+        (λ (l : zone < 32). get_or-replicate 32 zone 0 0 l)
+        (λ (l : 32 ≤ zone). get_or_past (replicate 32 0) zone 0 (let q = length-replicate {A = ℕ} 32 0 in omega (arith, q, l)))
+        (cases_lt zone 32);
+  }
+
+  opens : OpensIdle o (memory_of (opened_with words stop runs free)) fixed (λ k. 1)
+  opens = bare_opens o (memory_of (opened_with words stop runs free)) fixed
+      (record { some_lanes = omega arith; most_lanes = sh.lanes_from; words = bare }) untaken
+      (opened_starts o fixed stop runs free refl (λ k. refl) (λ k. refl) (λ k. refl))
+
+  pub bare_stands : StandsAs (opened_with words stop runs free) (idle (only_lane sh pool stop) 1)
+  bare_stands = (o, opened_stands o fixed (λ k. 1) runs free refl refl refl pages count opens)

@@ -1,98 +1,28 @@
 -- What the crate's tests do: lane 0 over the words of a pool of one lane and one zone without
 -- objects takes a line's lock and gives it back, looks at its generation and opens a call; and in
 -- an open call it stores its next generation, flushes the line and drains it.
-use Rattle.std.proofs.Common.{◌≡◌, ◌≢◌, ℕ, ◌+◌, ◌*◌, ◌/◌, ◌<◌, ◌≤◌, ⊎_elim, Bool, true, List}
-use Rattle.std.proofs.Common.{length, Some, replicate, slice_index, set, refl, ap, ◌∙◌, subst}
+use Rattle.std.proofs.Common.{◌≡◌, ℕ, ◌/◌, ◌<◌, Bool, true}
+use Rattle.std.proofs.Common.{Some, refl, ap, subst}
 use Rattle.std.proofs.Common.{false, None, is_none, Result, Ok, Err, sym}
-use Rattle.std.proofs.Common.{arith, length-set, get_or-set_same, get_or-set_other}
-use Rattle.std.proofs.lemmas.Bool.{both_ways, cases_eq, cases_lt}
-use Rattle.std.proofs.lemmas.List.{get_or-replicate, get_or_past, length-replicate}
+use Rattle.std.proofs.Common.{arith}
+use Rattle.std.proofs.lemmas.Bool.{both_ways}
 use Rattle.pm_layout.specs.declared.shape.Shape.{Shape}
 use Rattle.pm_layout.specs.Areas.{word_of_generation}
 use Rattle.pm_layout.specs.Chunks.{words_of}
 use Rattle.pm_memory.specs.Runs.{Made, MadeOrStopped}
 use Rattle.pm_memory.specs.declared.lane_mem.Stopped.{Stopped}
-use Rattle.pm_memory.specs.Solo.{Solo, CanStep, opened_with}
+use Rattle.pm_memory.specs.Solo.{Solo, CanStep}
 use Rattle.pm_view.specs.Counts.{IsAtStop}
 use Rattle.pm_view.specs.Steps.{Step}
 use Rattle.pm_view.specs.Steps.Step.{Load, Store, Flush, Drain, TakeWrite, Give, NumberSeen}
-use Rattle.pm_view.specs.View.{View, Constants}
+use Rattle.pm_view.specs.View.{View}
 use Rattle.pm_view.specs.Views.{after}
-use Rattle.pm_world.specs.Bare.{IsBare, IsUntaken}
 use Rattle.pm_world.specs.Lawful.{Allowed}
 use Rattle.pm_world.specs.InWorld.{InWorld}
 use Rattle.pm_world.specs.Solo.{meets_standing, grants_allowed}
 use Rattle.pm_world.specs.SoloLanes.{StandsAs}
-use Rattle.pm_world.specs.SoloWorld.{memory_of}
 use Rattle.pm_world.specs.TestLanes.{first_lane, first_view}
-use Rattle.pm_world.specs.Opens.{OpensIdle}
-use Rattle.pm_world.specs.World.{Opening}
-use Rattle.pm_world.proofs.Bare.{bare_opens}
 use Rattle.pm_world.proofs.FirstLooks.{looked, looks_first}
-use Rattle.pm_world.proofs.SoloStands.{opened_stands, opened_starts}
-
-zeros_long : length {A = ℕ} (replicate 34816 0) ≡ 34816
-zeros_long = length-replicate {A = ℕ} 34816 0
-
--- the words are 0, but for one
-module _ (words : List ℕ) (are : words ≡ set (replicate 34816 0) 512 1) where
-  other : (w : ℕ) → w ≢ 512 → slice_index words w ≡ 0
-  other w a = ap (λ (ws : List ℕ). slice_index ws w) are ∙ (get_or-set_other (replicate 34816 0) 512 w 1 0 (λ e. a e) ∙ ⊎_elim
-      (λ (l : w < 34816). get_or-replicate 34816 w 0 0 l)
-      (λ (l : 34816 ≤ w). get_or_past (replicate 34816 0) w 0 (let q = zeros_long in omega (arith, q, l)))
-      (cases_lt w 34816))
-
-  long : length words ≡ 34816
-  long = ap length are ∙ (length-set {A = ℕ} (replicate 34816 0) 512 1 ∙ zeros_long)
-
-  at_512 : slice_index words 512 ≡ 1
-  at_512 = ap (λ (ws : List ℕ). slice_index ws 512) are
-      ∙ get_or-set_same (replicate 34816 0) 512 1 0 (let q = zeros_long in omega (arith, q))
-
-  module _ (sh : Shape) (lanes : sh.lanes ≡ 1) (zones : sh.zones ≡ 1) where
-    bare : IsBare (record { shape = sh; lanes = 1; words = words })
-    bare = record {
-      some_lanes = omega arith;
-      most_lanes = omega (arith, lanes);
-      size = long ∙ omega (arith, lanes, zones);
-      small = λ w. ⊎_elim
-          (λ (e : w ≡ 512). let q = ap (slice_index words) e ∙ at_512 in omega (arith, q))
-          (λ (a : w ≢ 512). let q = other w a in omega (arith, q)) (cases_eq w 512);
-      first = λ lane few. ap (slice_index words)
-          (let q : 512 + 1024 * lane ≡ 512 = omega (arith, few, lanes) in q) ∙ at_512;
-      zero_ = λ w none. other w (λ e. none 0 (omega (arith, lanes)) (omega (arith, e)));
-    }
-
-    -- LANE 0 STANDS IN THE WORLD that they open
-    pub bare_stands : (runs free : List ℕ) → runs ≡ replicate 68 18446744073709551615 → free ≡ replicate 32 0
-        → StandsAs (opened_with words (Some 3) runs free) (first_view sh)
-    bare_stands runs free full clear = (o, opened_stands o fixed (λ k. 1) runs free refl refl refl pages count opens)
-      where
-        o : Opening
-        o = record { shape = sh; lanes = 1; words = words }
-
-        fixed : ℕ → Constants
-        fixed k = record (first_lane sh) { lane = k }
-
-        pages : length runs ≡ length words / 512
-        pages = let l = long in ap length full ∙ (length-replicate {A = ℕ} 68 18446744073709551615 ∙ omega (arith, l))
-
-        count : length free ≡ 32
-        count = ap length clear ∙ length-replicate {A = ℕ} 32 0
-
-        untaken : IsUntaken sh (slice_index runs) (slice_index free)
-        untaken = record {
-          full = λ page l. ap (λ (ws : List ℕ). slice_index ws page) full
-              ∙ get_or-replicate 68 page 18446744073709551615 0 (omega (arith, l, lanes, zones));
-          free = λ zone. ap (λ (ws : List ℕ). slice_index ws zone) clear ∙ ⊎_elim
-              (λ (l : zone < 32). get_or-replicate 32 zone 0 0 l)
-              (λ (l : 32 ≤ zone). get_or_past (replicate 32 0) zone 0 (let q = length-replicate {A = ℕ} 32 0 in omega (arith, q, l)))
-              (cases_lt zone 32);
-        }
-
-        opens : OpensIdle o (memory_of (opened_with words (Some 3) runs free)) fixed (λ k. 1)
-        opens = bare_opens o (memory_of (opened_with words (Some 3) runs free)) fixed bare untaken
-            (opened_starts o fixed (Some 3) runs free refl (λ k. refl) (λ k. refl) (λ k. refl))
 
 -- ---- ITS STEPS: a lock is taken and given back, the generation is looked at, and a call is opened
 module _ (sh : Shape) where
@@ -115,6 +45,9 @@ module _ (sh : Shape) where
   may_see w x at = let a = sh.lanes_from in let b = sh.zones_from in omega (arith, at, a, b)
 
   module _ (m : Solo) where
+    pub can_look : (w x : ℕ) → w ≡ word_of_generation sh 0 → StandsAs m (first_view sh) → CanStep m (Load w x)
+    can_look w x at st = meets_standing m (first_view sh) (Load w x) st (may_see w x at)
+
     pub can_take : (won : Bool) → StandsAs m (first_view sh) → CanStep m (TakeWrite 100 won)
     can_take won st = meets_standing m (first_view sh) (TakeWrite 100 won) st (may_take won)
 

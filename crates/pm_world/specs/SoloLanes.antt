@@ -1,5 +1,6 @@
 -- THE MEMORY OF ONE LANE IN ITS WORLD: a lane's memory that stands in a world which began so.
 use Rattle.std.specs.Prelude.{◌≡◌, ℕ, ◌/◌, All, List, [], ◌∷◌, length, Option}
+use Rattle.pm_layout.specs.declared.shape.Shape.{Shape}
 use Rattle.pm_view.specs.Changes.{IsFormed}
 use Rattle.pm_view.specs.Steps.{Step}
 use Rattle.pm_view.specs.View.{View, Constants, idle}
@@ -30,6 +31,10 @@ pub record Stands (o : Opening) (m : Solo) (v : View) : Type 0 where
   pub history : History o past was ghosts
   pub sees : Sees m v
   pub formed : All IsFormed m.changes
+
+-- lane 0 of a pool where no other lane runs
+abbrev pub only_lane : Shape → ℕ → Option ℕ → Constants
+only_lane sh pool stop = record { shape = sh; pool = pool; lane = 0; stop = stop; lanes = 1 }
 
 -- A LANE MAY BE SEEN AS THE VIEWS with which its memory stands in some world
 abbrev pub StandsAs : Solo → View → Type 0

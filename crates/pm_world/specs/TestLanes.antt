@@ -2,9 +2,10 @@
 use Rattle.std.specs.Prelude.{Some}
 use Rattle.pm_layout.specs.declared.shape.Shape.{Shape}
 use Rattle.pm_view.specs.View.{View, Constants, idle}
+use Rattle.pm_world.specs.SoloLanes.{only_lane}
 
 abbrev pub first_lane : Shape → Constants
-first_lane sh = record { shape = sh; pool = 7; lane = 0; stop = Some 3; lanes = 1 }
+first_lane sh = only_lane sh 7 (Some 3)
 
 -- its view before its first call, at generation 1
 abbrev pub first_view : Shape → View

@@ -48,7 +48,9 @@ pub use lane::{HeldLock, KeptRecord, Lane, PendingAction, UndoLog};
 pub use lawful_mem::LawfulMem;
 pub use laws::{lawful_steps_keep_the_world, no_bit_is_owned_twice, runs_keep_worlds};
 pub use lent::{LentOperation, LentValue};
-pub use opening::{bare_words_open_a_world, recovered_words_open_a_world, recovery_opens_a_world};
+pub use opening::{
+    bare_words, bare_words_open_a_world, recovered_words_open_a_world, recovery_opens_a_world,
+};
 pub use owned_bits::OwnedBits;
 pub use report_laws::{answers_have_causes, steps_show_causes, worlds_bear_reports};
 pub use sizes::objects_fit_their_blocks;

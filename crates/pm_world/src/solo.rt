@@ -1,8 +1,10 @@
-ghost use Rattle.std.specs.Prelude.{◌≡◌, [], ◌∷◌, IfOk};
+ghost use Rattle.std.specs.Prelude.{◌≡◌, ℕ, [], ◌∷◌, IfOk};
 ghost use Rattle.pm_memory.specs.Keep.{IsKeptImage};
-ghost use Rattle.pm_world.specs.SoloLanes.{SurvivesInWorlds};
+ghost use Rattle.pm_view.specs.View.{idle};
+ghost use Rattle.pm_world.specs.SoloLanes.{StandsAs, SurvivesInWorlds, only_lane};
 
-use crate::{LawfulMem, LentOperation, LentValue};
+use crate::{LawfulMem, LentOperation, LentValue, bare_words};
+use pm_layout::{MAX_ZONES, PAGE_WORDS, Shape};
 use pm_memory::{LaneMem, LaneSync, SoloMem, Stopped};
 use pm_view::Occ;
 use std::alloc::{AllocError, Global};
@@ -31,6 +33,27 @@ impl SoloLane {
         ensures { result ≡ memory }
     {
         SoloLane { memory }
+    }
+
+    /// Lane 0 of a pool of this shape without objects, before its first call: a lane to test an
+    /// engine on. It stops after `stop` counted calls, if there is a number.
+    ///
+    /// # Errors
+    ///
+    /// `AllocError`: there is no memory for the words.
+    pub fn on_bare_pool(
+        alloc: Global,
+        shape: Shape,
+        stop: Option<u64>,
+    ) -> Result<SoloLane, AllocError>
+        ensures { IfOk result
+            (λ lane. (pool : ℕ) → StandsAs lane (idle (only_lane shape pool stop) 1)) }
+    {
+        let words = bare_words(alloc, shape)?;
+        let runs = vec![in alloc; u64::MAX; words.len() / PAGE_WORDS as usize]?;
+        let zones = vec![in alloc; 0; MAX_ZONES as usize]?;
+        let memory = SoloMem::new(alloc, words, stop)?.with_occupancy(runs, zones);
+        Ok(SoloLane::new(memory))
     }
 
     /// The memory.

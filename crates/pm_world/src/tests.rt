@@ -1,18 +1,15 @@
-ghost use Rattle.std.specs.Prelude.{◌≡◌, None, IfOk};
+ghost use Rattle.std.specs.Prelude.{None};
 ghost use Rattle.pm_objects.specs.declared.calls.Operation.TheVariants.{Write};
 ghost use Rattle.pm_view.specs.Steps.Step.{Tell};
 ghost use Rattle.pm_view.specs.View.{View};
 ghost use Rattle.pm_view.specs.Views.{after};
 ghost use Rattle.pm_world.specs.Lawful.{Allowed};
-ghost use Rattle.pm_world.specs.SoloLanes.{StandsAs};
-ghost use Rattle.pm_world.specs.TestLanes.{first_view};
 
 use super::*;
 use pm_layout::Shape;
-use pm_memory::{LaneMem, LaneSync, SoloMem, Stopped};
+use pm_memory::{LaneMem, LaneSync, Stopped};
 use pm_objects::Oid;
 use pm_view::Occ;
-use std::alloc::Global;
 use std::test::Fail;
 
 /// Tells a write, over any memory of a lane.
@@ -24,27 +21,12 @@ fn tell_write<M: LawfulMem>(mem: &mut M, id: Oid, bytes: &[u8])
     mem.tell(LentOperation::Write { id, off: 8, bytes }, None);
 }
 
-/// Lane 0 over the words of a pool of one lane and one zone that has no object. It stops after
-/// three counted calls.
-fn bare_lane(alloc: Global, shape: Shape) -> Result<SoloLane, Fail>
-    requires lanes { shape.lanes ≡ 1 }
-    requires zones { shape.zones ≡ 1 }
-    ensures { IfOk result (λ lane. StandsAs lane (first_view shape)) }
-{
-    let mut words = vec![in alloc; 0; 34816]?;
-    words[512] = 1;
-    let runs = vec![in alloc; u64::MAX; 68]?;
-    let zones = vec![in alloc; 0; 32]?;
-    let memory = SoloMem::new(alloc, words, Some(3))?.with_occupancy(runs, zones);
-    Ok(SoloLane::new(memory))
-}
-
 /// A lane before its first call knows its generation and is idle, and is so no more once it holds a
 /// lock.
 #[test]
 fn a_lane(rt: HostRuntime) -> Result<(), Fail> {
     let shape = Shape::new(1, 1)?;
-    let memory = bare_lane(rt.alloc(), shape)?;
+    let memory = SoloLane::on_bare_pool(rt.alloc(), shape, Some(3))?;
     let mut lane = Lane::new(rt.alloc(), memory, 7, shape)?;
     assert!(rt; lane.idle());
     assert_eq!(rt; lane.log.generation, 1);
@@ -65,7 +47,7 @@ fn a_lane(rt: HostRuntime) -> Result<(), Fail> {
 #[test]
 fn a_lane_steps_on_its_memory(rt: HostRuntime) -> Result<(), Fail> {
     let shape = Shape::new(1, 1)?;
-    let mut lane = bare_lane(rt.alloc(), shape)?;
+    let mut lane = SoloLane::on_bare_pool(rt.alloc(), shape, Some(3))?;
     let won = lane.take_write(100);
     lane.give(100);
     let generation = lane.see(shape.word_of_generation(0));
@@ -86,7 +68,7 @@ fn a_lane_steps_on_its_memory(rt: HostRuntime) -> Result<(), Fail> {
 fn a_drained_store_survives(rt: HostRuntime) -> Result<(), Fail> {
     let shape = Shape::new(1, 1)?;
     let generation = shape.word_of_generation(0);
-    let mut lane = bare_lane(rt.alloc(), shape)?;
+    let mut lane = SoloLane::on_bare_pool(rt.alloc(), shape, Some(3))?;
     lane.see(generation);
     lane.number_seen();
     let stored = lane.store(generation, 2);

@@ -10,6 +10,6 @@ new-requires-2 g c = (
     shape = refl;
     lane = let l = c.in_ok-shape.shape.lanes_from in omega (arith, l);
     seen =
-        c.in_ok-memory.ensures;
+        c.in_ok-memory.ensures 7;
   },
 )
