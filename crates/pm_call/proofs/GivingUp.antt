@@ -94,7 +94,7 @@ module _ (s : Standing) (is : At s) (op : Operation) (reply : Option Value) (giv
     aborts = a.is;
     replied = a.replied;
     looks = record {
-      enters = no_entries v (is_changed v b.notes b.calls b.generation b.each is.working.unmaking is.sound is.sound.some is.recorded b.restored b.others (λ p e. far_picture v p is.working.lane is.working.lanes e));
+      enters = no_entries v (is_changed v b.notes b.calls b.generation b.each is.working.unmaking is.sound is.recorded b.restored b.others (λ p e. far_picture v p is.working.lane is.working.lanes e));
       sizes = subst (λ o. Rattle.pm_crash.specs.Looked.KnowsSizes v [] None o) (sym a.is) (λ id write among held stays. absurd (none_among id among));
       knows_root = no_root_is_asked v None op (ap (Rattle.pm_crash.specs.Looks.ids_freed (Rattle.pm_crash.specs.Sim.lists_of v)) a.is);
     };
@@ -114,7 +114,7 @@ module _ (s : Standing) (is : At s) (op : Operation) (reply : Option Value) (giv
   }
 
   rolls : RollsBack v told op
-  rolls = rolls_back v b.notes b.calls b.generation b.each is.working.unmaking is.sound is.sound.some is.recorded b.restored b.others (λ p e. far_picture v p is.working.lane is.working.lanes e) op reply
+  rolls = rolls_back v b.notes b.calls b.generation b.each is.working.unmaking is.sound is.recorded b.restored b.others (λ p e. far_picture v p is.working.lane is.working.lanes e) op reply
 
   sim : Sim told []
   sim = ⊎_elim

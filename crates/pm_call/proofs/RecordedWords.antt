@@ -42,7 +42,7 @@ module _ (sh : Shape) (c d w u : ℕ) (a : w < 512) (b : u < 512) (e : word_of_c
 in_spans : (f n c : ℕ) → f ≤ c → c < f + n → in_span f n c ≡ true
 in_spans f n c low high = and_from (nat_le f c) (nat_lt c (f + n)) (le-leb f c low) (lt-ltb c (f + n) high)
 
-module _ (v : View) (sound : IsSound v) (spans : (f : ℕ) → has_found v (Big f) ≡ true → 1 ≤ span v.fixed.shape v.claims f) where
+module _ (v : View) (sound : IsSound v) where
   abbrev sh : Shape
   sh = v.fixed.shape
 
@@ -58,7 +58,7 @@ module _ (v : View) (sound : IsSound v) (spans : (f : ℕ) → has_found v (Big 
     at false e =
         let l : ℕ = last_first sh v.claims c in
         let here : has_found v (Big c) ≡ true = ap (λ f. has_found v (Big f)) (sym (cond-false (in_span l (span sh v.claims l) c) l c e)) ∙ t in
-        let some = spans c here in
+        let some = sound.some c here in
         (sound.huge c c here (in_spans c (span sh v.claims c) c (omega arith) (omega (arith, some)))).1
 
   -- NO WORD OF A HEADER is one of an object's data
@@ -73,7 +73,7 @@ module _ (v : View) (sound : IsSound v) (spans : (f : ℕ) → has_found v (Big 
   header_apart (Big f) (Big g) k j fb fc few far within e =
       let ec : f + k / 512 ≡ g + j / 512 = ap chunk_in e in
       let er : k % 512 ≡ j % 512 = ap word_in e in
-      let here : first sh v.claims f ≡ f = ap (λ n. first sh v.claims n) (let z : f ≡ f + 0 / 512 = omega arith in z) ∙ (whole f 0 fb (let s = spans f fb in omega (arith, s))).0 in
+      let here : first sh v.claims f ≡ f = ap (λ n. first sh v.claims n) (let z : f ≡ f + 0 / 512 = omega arith in z) ∙ (whole f 0 fb (let s = sound.some f fb in omega (arith, s))).0 in
       let there : first sh v.claims f ≡ g = ap (λ n. first sh v.claims n) (let z : f ≡ g + j / 512 = omega (arith, ec, few) in z) ∙ (whole g j fc within).0 in
       let same : f ≡ g = sym here ∙ there in
       omega (arith, ec, er, few, far, same)

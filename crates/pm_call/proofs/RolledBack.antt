@@ -1,7 +1,7 @@
 -- A lane whose transaction is taken back: it holds what it held, knows its words without their records, and its call has its fact.
 use Rattle.pm_crash.proofs.SimFacts.{was_recorded}
 use Rattle.pm_crash.proofs.KnownWords.{none_of}
-use Rattle.std.proofs.Common.{◌≡◌, ◌≢◌, ℕ, ◌≤◌, inr, ⊎_elim, Bool, true, false, cond, ◌==◌, List, [], refl, sym, ap, ◌∙◌, arith, Option, None, Some, subst, ◌-◌, ◌/◌, ◌<◌}
+use Rattle.std.proofs.Common.{◌≡◌, ◌≢◌, ℕ, inr, ⊎_elim, Bool, true, false, cond, ◌==◌, List, [], refl, sym, ap, ◌∙◌, arith, Option, None, Some, subst, ◌-◌, ◌/◌, ◌<◌}
 use Rattle.std.specs.Int.{bit_at}
 use Rattle.std.specs.Option.{option_map}
 use Rattle.std.proofs.lemmas.Bool.{both_ways, cases_Bool, cond-false, false_from_ne_true}
@@ -10,7 +10,7 @@ use Rattle.pm_layout.specs.Areas.{word_of_generation}
 use Rattle.pm_objects.specs.declared.calls.Operation.{Operation}
 use Rattle.pm_objects.specs.declared.history.Value.{Value}
 use Rattle.pm_model.specs.Inside.{is_kept_by}
-use Rattle.pm_view.specs.Claims.{Claim, making, pictured, span}
+use Rattle.pm_view.specs.Claims.{Claim, making, pictured}
 use Rattle.pm_view.specs.Entries.{first_of_two, turn}
 use Rattle.pm_view.specs.Log.{Open, Recorded, new_log, old_of}
 use Rattle.pm_view.specs.Places.{Place, Big, word_of, Block, Root, Small}
@@ -65,10 +65,10 @@ some_words v (Big f) k low = omega arith
 some_words v Root k low = absurd (omega (arith, low))
 
 -- no header word of an object is recorded
-pub header_new : (v : View) → IsSound v → ((f : ℕ) → has_found v (Big f) ≡ true → 1 ≤ span v.fixed.shape v.claims f) → (records : List Recorded) → ((p : Place) → is_recorded records p ≡ true → IsDataOf v p)
+pub header_new : (v : View) → IsSound v → (records : List Recorded) → ((p : Place) → is_recorded records p ≡ true → IsDataOf v p)
     → (B : Block) → has_found v B ≡ true → is_recorded records (word_place v B 1) ≡ false
-header_new v sound spans records recorded B found = false_from_ne_true (is_recorded records (word_place v B 1))
-    (λ e. let q = recorded (word_place v B 1) e in header_apart v sound spans B q.object.block 1 q.index found q.found (omega arith) q.data_ q.within q.at)
+header_new v sound records recorded B found = false_from_ne_true (is_recorded records (word_place v B 1))
+    (λ e. let q = recorded (word_place v B 1) e in header_apart v sound B q.object.block 1 q.index found q.found (omega arith) q.data_ q.within q.at)
 
 module _ (v : View) (ns : List Note) (calls g : ℕ) (are : AreNotes v.fixed.shape v.claims ns) (unmaking : (c : ℕ) → making v.fixed.shape v.claims c ≡ false) where
   abbrev sh : Shape
@@ -81,7 +81,7 @@ module _ (v : View) (ns : List Note) (calls g : ℕ) (are : AreNotes v.fixed.sha
   back = noting v ns [] calls (new_log Open g)
 
   -- ---- what it knows of words
-  module _ (sound : IsSound v) (spans : (f : ℕ) → has_found v (Big f) ≡ true → 1 ≤ span sh v.claims f)
+  module _ (sound : IsSound v)
       (recorded : (p : Place) → is_recorded v.log.records p ≡ true → IsDataOf v p)
       (restored : AreRestored (picture sh t) v.log.records)
       (others : (u : ℕ) → ((p : Place) → is_recorded v.log.records p ≡ true → u ≢ word_of sh p) → u ≢ word_of_generation sh v.fixed.lane → pictured sh t u ≡ value_in v u)
@@ -90,7 +90,7 @@ module _ (v : View) (ns : List Note) (calls g : ℕ) (are : AreNotes v.fixed.sha
     value_stays : (p : Place) (b : ℕ) → sees_at v p b ≡ true → is_pictured p ≡ true → is_recorded v.log.records p ≡ false → pictured sh t (word_of sh p) ≡ value_in v (word_of sh p)
     value_stays p b sees in_picture new = others (word_of sh p) (λ q r e.
         let d = recorded q r in
-        let same : p ≡ q = one_use v sound spans p b d.object.block d.index sees in_picture d.found d.within (e ∙ ap (word_of sh) d.at) ∙ sym d.at in
+        let same : p ≡ q = one_use v sound p b d.object.block d.index sees in_picture d.found d.within (e ∙ ap (word_of sh) d.at) ∙ sym d.at in
         both_ways (is_recorded v.log.records p) new (ap (is_recorded v.log.records) same ∙ r)) (far p in_picture)
 
     picture_stays : (p : Place) (b : ℕ) → sees_at v p b ≡ true → is_recorded v.log.records p ≡ false → picture sh t p b ≡ picture sh v.claims p b
@@ -130,13 +130,13 @@ module _ (v : View) (ns : List Note) (calls g : ℕ) (are : AreNotes v.fixed.sha
       d = recorded p r
 
       size_new : is_recorded v.log.records (word_place v d.object.block 1) ≡ false
-      size_new = header_new v sound spans v.log.records recorded d.object.block d.found
+      size_new = header_new v sound v.log.records recorded d.object.block d.found
 
       value_new : pictured sh t (word_of sh (word_place v d.object.block 1)) ≡ value_in v (word_of sh (word_place v d.object.block 1))
-      value_new = value_stays (word_place v d.object.block 1) 0 (size_bit v d.off d.object size_new 0 (omega arith)).1 (size_pictured v sound spans d.object.block d.found (some_words v d.object.block d.index d.within)) size_new
+      value_new = value_stays (word_place v d.object.block 1) 0 (size_bit v d.off d.object size_new 0 (omega arith)).1 (size_pictured v sound d.object.block d.found (some_words v d.object.block d.index d.within)) size_new
 
       at_size : d.off / 8 - 7 ≡ word_of sh (word_place v d.object.block 1)
-      at_size = ap (λ n. n / 8 - 7) (sym d.object.at) ∙ sym (size_word v sound spans d.object.block (some_words v d.object.block d.index d.within))
+      at_size = ap (λ n. n / 8 - 7) (sym d.object.at) ∙ sym (size_word v sound d.object.block (some_words v d.object.block d.index d.within))
 
       size_back : size_seen back d.off ≡ Some d.object.size
       size_back = ap (pictured sh t) at_size ∙ (value_new ∙ (ap (value_in v) (sym at_size) ∙ d.object.seen))
