@@ -22,7 +22,8 @@ pub record CanAdd (s : Standing) (id : Oid) (off len : ℕ) : Type 0 where
 
 -- so many of its words had no record yet
 abbrev pub HasCounted : Oid → ℕ → ℕ → View → ℕ → Type 0
-HasCounted id off len v count = count ≡ length (new_words (words_in (kept_by v)) (covered_words (id.off + off) len))
+HasCounted id off len v count =
+    count ≡ length (new_words (words_in (kept_by v)) (covered_words (id.off + off) len))
 
 -- the plan may be carried out, and the lane is at work then
 pub record IsAdded (s : Standing) (id : Oid) (off len : ℕ) : Type 0 where
@@ -32,4 +33,5 @@ pub record IsAdded (s : Standing) (id : Oid) (off len : ℕ) : Type 0 where
 
 -- THE LAW: such a range may be added where there are slots for the records that it needs
 abbrev pub RangesMayBeAdded : Type 0
-RangesMayBeAdded = (s : Standing) (id : Oid) (off len : ℕ) → At s → CanAdd s id off len → HasSlots s.view (needed s.view (id.off + off) len) → IsAdded s id off len
+RangesMayBeAdded = (s : Standing) (id : Oid) (off len : ℕ) → At s → CanAdd s id off len
+    → HasSlots s.view (needed s.view (id.off + off) len) → IsAdded s id off len
