@@ -5,6 +5,7 @@ use crate::Failure;
 use pm_layout::Shape;
 use pm_objects::Stops;
 use pm_shared::Beginning;
+use pm_world::bare_words;
 use std::alloc::Global;
 
 /// What lanes begin on in a pool of two lanes and one zone that has no object.
@@ -12,9 +13,7 @@ pub fn beginning(alloc: Global) -> Result<Beginning, Failure>
     ensures { IfOk result (λ b. BeginsBare b × (b.lanes ≡ 2) × (b.shape.lanes ≡ 2)) }
 {
     let shape = Shape::new(2, 1)?;
-    let mut words = vec![in alloc; 0; 35840]?;
-    words[512] = 1;
-    words[1536] = 1;
+    let words = bare_words(alloc, shape)?;
     Ok(Beginning {
         shape,
         pool: 7,
