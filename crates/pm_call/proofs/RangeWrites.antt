@@ -92,7 +92,6 @@ before_so : (f : ℕ → Bool) (old : Option ℕ) (a c : Option Bool) (y : Bool)
 before_so f None a c y h e = sym (h refl) ∙ e
 before_so f (Some z) a c y h e = e
 
-
 module _ (s : Standing) (at : At s) (id : Oid) (off : ℕ) (bytes : List ℕ) (can : MayPut s id off bytes) where
   abbrev v : View
   v = s.view
@@ -135,7 +134,7 @@ module _ (s : Standing) (at : At s) (id : Oid) (off : ℕ) (bytes : List ℕ) (c
       let own : IsObjectWord v C 1 = size_word v at.sound (header_in v.fixed.shape v.claims C) (record { block = C; found = f; at = refl; inside = o }) in
       let i : ℕ = 8 * header_in v.fixed.shape v.claims C + 1 in
       let w = storing.word_is s at id off bytes can i c in
-      header_apart v at.sound at.sound.some C B 1 (index s at id off bytes can i) f w.found (omega arith) (storing.index_high s at id off bytes can i c) w.within
+      header_apart v at.sound C B 1 (index s at id off bytes can i) f w.found (omega arith) (storing.index_high s at id off bytes can i c) w.within
       (same_Some (word_place v C 1) (q i) (sym (use_at C 1 i own (word_number v at.sound C 1 own)) ∙ storing.use_is s at id off bytes can i c))
 
   -- the size of an object at an offset
@@ -203,7 +202,7 @@ module _ (s : Standing) (at : At s) (id : Oid) (off : ℕ) (bytes : List ℕ) (c
       more = λ p e. e;
       knows = λ p b y sees e. before_so (λ x. bit x b) (old_of v.log.records p) (picture v.fixed.shape v.claims p b) (picture v.fixed.shape (noted ns v.claims) p b) y
           (λ fresh_. picture_out p b (λ pic c. let i : ℕ = word_of v.fixed.shape p in let w = storing.word_is s at id off bytes can i c in
-          let same : p ≡ q i = one_use v at.sound at.sound.some p b B (index s at id off bytes can i) sees pic w.found w.within (sym (storing.number_is s at id off bytes can i c)) in
+          let same : p ≡ q i = one_use v at.sound p b B (index s at id off bytes can i) sees pic w.found w.within (sym (storing.number_is s at id off bytes can i c)) in
           both_ways (is_recorded v.log.records p) fresh_ (ap (is_recorded v.log.records) same ∙ recorded_is i c))) e;
     }
 
