@@ -9,6 +9,8 @@
 #![tactic(auto)]
 
 mod adding;
+mod checking;
+mod holding;
 mod laws;
 mod ranges;
 mod rollback;
@@ -16,6 +18,8 @@ mod stages;
 mod writing;
 
 pub use adding::{do_add, ranges_may_be_added};
+pub use checking::{check_range, holds};
+pub use holding::is_held;
 pub use laws::transactions_may_be_given_up;
 pub use ranges::{ranges_are_looked_at, refusals_of_ranges_are_the_models};
 pub use rollback::{give_up, refuse, stop, take_back};
