@@ -24,3 +24,4 @@ pub mod AddedLanes
 pub mod Calls
 pub mod WriteChecks
 pub mod Checks
+pub mod RangeLooks

@@ -35,6 +35,11 @@ pub record KnowsWord (v : View) (w : ℕ) : Type 0 where
 abbrev pub KnowsWords : View → ℕ → ℕ → Type 0
 KnowsWords v place len = (w : ℕ) → Contains (covered_words place len) w → KnowsWord v w
 
+-- a range that the lane has, each word of which it looked at
+pub record HasSeen (s : Standing) (id : Oid) (off len : ℕ) (write : Bool) : Type 0 where
+  pub range : HasRange s id off len write
+  pub words : KnowsWords s.view (id.off + off) len
+
 -- the range of an operation: of which object, from where on, how long, and whether it is to be written
 abbrev pub IsRangeOf : Operation → Oid → ℕ → ℕ → Bool → Type 0
 IsRangeOf (AddRange id at n) i off len write = (i ≡ id) × (off ≡ at) × (len ≡ n) × (write ≡ true)

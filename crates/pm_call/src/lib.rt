@@ -18,7 +18,7 @@ mod stages;
 mod writing;
 
 pub use adding::{do_add, ranges_may_be_added};
-pub use checking::{check_range, holds};
+pub use checking::{check_range, check_words, holds};
 pub use holding::is_held;
 pub use laws::transactions_may_be_given_up;
 pub use ranges::{ranges_are_looked_at, refusals_of_ranges_are_the_models};
