@@ -25,3 +25,4 @@ pub mod Calls
 pub mod WriteChecks
 pub mod Checks
 pub mod RangeLooks
+pub mod ReadBytes
