@@ -11,7 +11,7 @@ mod outcome;
 mod ranges;
 
 pub use outcome::abort;
-pub use ranges::{add_range, write};
+pub use ranges::{add_range, read, write};
 
 #[cfg(test)]
 mod tests;

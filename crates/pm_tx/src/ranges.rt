@@ -1,12 +1,14 @@
-ghost use Rattle.std.specs.Prelude.{◌≡◌, None, OnErr, length};
-ghost use Rattle.pm_objects.specs.declared.calls.Operation.TheVariants.{AddRange, Write};
+ghost use Rattle.std.specs.Prelude.{◌≡◌, None, length};
+ghost use Rattle.pm_objects.specs.declared.calls.Operation.TheVariants.{AddRange, Read, Write};
 ghost use Rattle.pm_call.specs.Adding.{HasCounted};
 ghost use Rattle.pm_call.specs.Did as did;
 ghost use Rattle.pm_call.specs.Did.{Checked, Did, IsAt, Tried};
-ghost use Rattle.pm_call.specs.Plans.{adds, puts};
+ghost use Rattle.pm_call.specs.Plans.{adds, gets, puts};
+ghost use Rattle.pm_call.specs.Reading.{HasRead};
 ghost use Rattle.pm_call.specs.Writing.{MayPut};
+ghost use Rattle.pm_tx.specs.Buffers.{IsReadInto};
 
-use pm_call::{check_range, check_recorded, check_words, do_add, do_write, refuse, work_refusal};
+use pm_call::{check_range, check_recorded, check_words, do_add, do_read, do_write, refuse, work_refusal};
 use pm_objects::{Oid, Operation, Refusal};
 use pm_world::{Lane, LawfulMem, LentOperation};
 
@@ -124,5 +126,63 @@ pub fn write<M: LawfulMem>(
     match try_write(lane, id, off, bytes) {
         Ok(()) => Ok(()),
         Err(why) => Err(refuse(lane, LentOperation::Write { id, off, bytes }, why)),
+    }
+}
+
+/// Checks the range, and reads it.
+fn try_read<M: LawfulMem>(
+    lane: &mut Lane<M>,
+    id: Oid,
+    off: u64,
+    into: &mut [u8],
+) -> Result<(), Refusal>
+    requires { IsAt M.at lane.old }
+    ensures buffer { IsReadInto into.old into.new result }
+    ensures did { Tried M.at lane.old lane.new (Read id off (length into.old))
+        (λ v. gets id off (length into.old)) (HasRead id off (length into.old) into.new) result }
+{
+    match check_range(lane, id, false, off, into.len() as u64) {
+        Ok(()) => {
+            do_read(lane, id, off, into);
+            Ok(())
+        }
+        Err(why) => Err(why),
+    }
+}
+
+/// Reads bytes of an object from its byte `off` on, as many as the buffer has, as the transaction has
+/// them. The object's lock is held. Makes exactly the memory calls of `gets`, and loads of the range's
+/// words before them; an error leaves the buffer as it was. PMDK has no such call: it reads through a
+/// pointer, pmemobj_direct(3).
+///
+/// # Errors
+///
+/// - `Stopped`: the lane had stopped, and nothing is done; or it comes to its stop as the transaction is
+///   given up, the first of the calls are made, and the lane says that it stopped.
+/// - `NoTx`: no transaction is open; nothing is done.
+/// - `NotWork`: the transaction is past its work; nothing is done.
+/// - `NotLocked`: the object is not locked; the transaction is given up.
+/// - `OutOfRange`: the range passes the object's end; the transaction is given up.
+pub fn read<M: LawfulMem>(
+    lane: &mut Lane<M>,
+    id: Oid,
+    off: u64,
+    into: &mut [u8],
+) -> Result<(), Refusal>
+    requires { did.work_refusal lane.old ≡ None → IsAt M.at lane.old }
+    ensures buffer { IsReadInto into.old into.new result }
+    ensures did { Did M.at lane.old lane.new (Read id off (length into.old))
+        (λ v. gets id off (length into.old)) (HasRead id off (length into.old) into.new) result }
+{
+    if let Some(why) = work_refusal(lane) {
+        return Err(why);
+    }
+    let len = into.len() as u64;
+    match try_read(lane, id, off, into) {
+        Ok(()) => Ok(()),
+        Err(why) => {
+            let operation = Operation::Read { id, off, len };
+            Err(refuse(lane, LentOperation::Whole(&operation), why))
+        }
     }
 }
