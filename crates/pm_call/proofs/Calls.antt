@@ -21,10 +21,10 @@ unfolding Looks
 looks_more zero m v u w first second = subst (λ k. Looks k v w) (let e : m ≡ 0 + m = omega arith in e) (subst (λ (z : View). Looks m z w) first second)
 looks_more (suc n) m v u w first second = subst (λ k. Looks k v w) (let e : suc (n + m) ≡ suc n + m = omega arith in e) (first.0, first.1, looks_more n m first.0 u w first.2 second)
 
-after_then : (s : Standing) (P : Standing → Type 0) → After s (λ t. After t P) → After s P
+pub after_then : (s : Standing) (P : Standing → Type 0) → After s (λ t. After t P) → After s P
 after_then s P a = let b = a.holds in record { looks = a.looks + b.looks; view = b.view; looked = looks_more a.looks b.looks s.view a.view b.view a.looked b.looked; holds = b.holds }
 
-after_so : (s : Standing) (P Q : Standing → Type 0) → ((t : Standing) → P t → Q t) → After s P → After s Q
+pub after_so : (s : Standing) (P Q : Standing → Type 0) → ((t : Standing) → P t → Q t) → After s P → After s Q
 after_so s P Q so a = record { looks = a.looks; view = a.view; looked = a.looked; holds = so (moved s a.view) a.holds }
 
 -- no operation of a lane at work is refused for a stop

@@ -23,3 +23,6 @@ pub mod AddedRanges
 pub mod AddedLanes
 pub mod Calls
 pub mod WriteChecks
+pub mod Checks
+pub mod RangeLooks
+pub mod ReadBytes

@@ -103,7 +103,7 @@ module _ (s : Standing) (at : At s) where
       (λ (y : list_any (λ (l : HeldLock). l.line == line_of off && (l.write || not write)) locks ≡ true). or_right (l.line == line_of off && (l.write || true)) (list_any (λ (l : HeldLock). l.line == line_of off && (l.write || true)) locks) (held_for_reading off write locks y))
       (or_cases (l.line == line_of off && (l.write || not write)) (list_any (λ (l : HeldLock). l.line == line_of off && (l.write || not write)) locks) e)
 
-  held_so : (id : Oid) (write : Bool) → is_held_so s id write ≡ true → is_held_so s id false ≡ true
+  pub held_so : (id : Oid) (write : Bool) → is_held_so s id write ≡ true → is_held_so s id false ≡ true
   held_so id write e = let t = and_parts (id.pool == s.view.fixed.pool) (is_in_locks s.locks id.off write) e in let l = and_parts (has_line id.off) (list_any (λ (l : HeldLock). l.line == line_of id.off && (l.write || not write)) s.locks) t.1 in
       and_from (id.pool == s.view.fixed.pool) (is_in_locks s.locks id.off false) t.0 (and_from (has_line id.off) (list_any (λ (l : HeldLock). l.line == line_of id.off && (l.write || not false)) s.locks) l.0 (held_for_reading id.off write s.locks l.1))
 

@@ -82,7 +82,7 @@ one_covered place len k low = ⊎_elim
     (λ (m : (0 < len) × (length (covered_words place len) ≡ count_of place len)). let some = m.0 in let e = m.1 in byte_is_covered place len (place / 8 + k) some (omega (arith, e, low, some)) (omega arith))
     (words_many place len)
 
-below_top : (place len i : ℕ) → Contains (covered_words place len) i → i < place / 8 + length (covered_words place len)
+pub below_top : (place len i : ℕ) → Contains (covered_words place len) i → i < place / 8 + length (covered_words place len)
 below_top place len i c = let b = covered_has_byte place len i c in let some = b.0 in let hi = b.1 in ⊎_elim
     (λ (z : (len ≡ 0) × (length (covered_words place len) ≡ 0)). absurd (let e = z.0 in omega (arith, e, some)))
     (λ (m : (0 < len) × (length (covered_words place len) ≡ count_of place len)). let e = m.1 in omega (arith, e, hi, some))

@@ -13,12 +13,11 @@ use Rattle.pm_undo.specs.Working.{HasSlots}
 use Rattle.pm_call.specs.At.{At}
 use Rattle.pm_call.specs.Did.{IsUnrefused, next}
 use Rattle.pm_call.specs.Plans.{adds}
-use Rattle.pm_call.specs.Ranges.{HasRange, KnowsWords}
+use Rattle.pm_call.specs.Ranges.{HasSeen}
 
 -- a range of an object under its write lock, each word of which was looked at
-pub record CanAdd (s : Standing) (id : Oid) (off len : ℕ) : Type 0 where
-  pub range : HasRange s id off len true
-  pub words : KnowsWords s.view (id.off + off) len
+abbrev pub CanAdd : Standing → Oid → ℕ → ℕ → Type 0
+CanAdd s id off len = HasSeen s id off len true
 
 -- so many of its words had no record yet
 abbrev pub HasCounted : Oid → ℕ → ℕ → View → ℕ → Type 0

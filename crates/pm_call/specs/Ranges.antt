@@ -1,9 +1,10 @@
 -- RANGES OF OBJECTS: what an operation on one asks of a lane at work, and why it is refused.
-use Rattle.std.specs.Prelude.{◌≡◌, ℕ, ◌+◌, ◌^◌, ◌<◌, ◌≤◌, ◌==◌, ◌&&◌, nat_lt, Bool, true, false, not, Contains, List, [], ◌∷◌, length, Some}
+use Rattle.std.specs.Prelude.{◌≡◌, ℕ, ◌+◌, ◌^◌, ◌<◌, ◌≤◌, ◌==◌, ◌&&◌, nat_lt, Bool, true, false, not, Contains, List, [], ◌∷◌, length, Some, Result, Ok, Err}
 use Rattle.std.specs.Option.{option_map_or}
 use Rattle.pm_objects.specs.declared.calls.Operation.{Operation}
 use Rattle.pm_objects.specs.declared.calls.Operation.TheVariants.{AddRange, Write, Read}
 use Rattle.pm_objects.specs.declared.ids.Oid.{Oid}
+use Rattle.pm_objects.specs.declared.refusal.Refusal.{Refusal}
 use Rattle.pm_objects.specs.declared.refusal.Refusal.TheVariants as refusal
 use Rattle.pm_model.specs.Refusals.{Test}
 use Rattle.pm_model.specs.Items.{is_among}
@@ -34,6 +35,11 @@ pub record KnowsWord (v : View) (w : ℕ) : Type 0 where
 abbrev pub KnowsWords : View → ℕ → ℕ → Type 0
 KnowsWords v place len = (w : ℕ) → Contains (covered_words place len) w → KnowsWord v w
 
+-- a range that the lane has, each word of which it looked at
+pub record HasSeen (s : Standing) (id : Oid) (off len : ℕ) (write : Bool) : Type 0 where
+  pub range : HasRange s id off len write
+  pub words : KnowsWords s.view (id.off + off) len
+
 -- the range of an operation: of which object, from where on, how long, and whether it is to be written
 abbrev pub IsRangeOf : Operation → Oid → ℕ → ℕ → Bool → Type 0
 IsRangeOf (AddRange id at n) i off len write = (i ≡ id) × (off ≡ at) × (len ≡ n) × (write ≡ true)
@@ -61,3 +67,10 @@ abbrev pub range_tests : Standing → Operation → Oid → ℕ → ℕ → Bool
 range_tests s op id off len write =
     (refusal.NotLocked, not (is_held_so s id write))
     ∷ (refusal.OutOfRange, nat_lt (size_or_none s.view id.off) (off + len)) ∷ own_tests s op
+
+-- what a range of an object of this size comes to
+abbrev pub Judged : Bool → ℕ → ℕ → ℕ → Result (Unit {0}) Refusal → Type 0
+Judged held size off len (Ok done) = (held ≡ true) × (off + len ≤ size)
+Judged held size off len (Err refusal.NotLocked) = held ≡ false
+Judged held size off len (Err refusal.OutOfRange) = (held ≡ true) × (size < off + len)
+Judged held size off len (Err r) = ⊥

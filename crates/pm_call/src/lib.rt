@@ -9,15 +9,21 @@
 #![tactic(auto)]
 
 mod adding;
+mod checking;
+mod holding;
 mod laws;
 mod ranges;
+mod reading;
 mod rollback;
 mod stages;
 mod writing;
 
 pub use adding::{do_add, ranges_may_be_added};
+pub use checking::{check_range, check_words, holds};
+pub use holding::is_held;
 pub use laws::transactions_may_be_given_up;
 pub use ranges::{ranges_are_looked_at, refusals_of_ranges_are_the_models};
+pub use reading::{do_read, ranges_may_be_read};
 pub use rollback::{give_up, refuse, stop, take_back};
 pub use stages::work_refusal;
 pub use writing::{check_recorded, count_words, do_write, ranges_may_be_written};

@@ -8,8 +8,10 @@
 #![tactic(auto)]
 
 mod outcome;
+mod ranges;
 
 pub use outcome::abort;
+pub use ranges::{add_range, read, write};
 
 #[cfg(test)]
 mod tests;
