@@ -8,7 +8,9 @@ ghost use Rattle.pm_call.specs.Reading.{HasRead};
 ghost use Rattle.pm_call.specs.Writing.{MayPut};
 ghost use Rattle.pm_tx.specs.Buffers.{IsReadInto};
 
-use pm_call::{check_range, check_recorded, check_words, do_add, do_read, do_write, refuse, work_refusal};
+use pm_call::{
+    check_range, check_recorded, check_words, do_add, do_read, do_write, refuse, work_refusal,
+};
 use pm_objects::{Oid, Operation, Refusal};
 use pm_world::{Lane, LawfulMem, LentOperation};
 
