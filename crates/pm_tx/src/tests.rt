@@ -6,7 +6,7 @@ use arrayvec::ArrayVec;
 use pm_layout::Shape;
 use pm_memory::SoloMem;
 use pm_model::Stage;
-use pm_objects::{Refusal, TxErr};
+use pm_objects::{Oid, Refusal, TxErr};
 use pm_world::{Lane, OwnedBits, SoloLane, UndoLog};
 use std::alloc::Global;
 use std::test::Fail;
@@ -46,5 +46,43 @@ fn aborts_are_refused(rt: HostRuntime) -> Result<(), Fail> {
     let mut late = lane_at(rt.alloc(), 1, Stage::OnAbort)?;
     assert_eq!(rt; abort(&mut late, 3), Err(Refusal::NotWork));
     assert_eq!(rt; late.error, TxErr::None);
+    Ok(())
+}
+
+/// Where no transaction is open, and past its work, a range is not recorded.
+#[test]
+fn adds_are_refused(rt: HostRuntime) -> Result<(), Fail> {
+    let id = Oid { pool: 7, off: 4224 };
+    let mut idle = lane_at(rt.alloc(), 0, Stage::None)?;
+    assert_eq!(rt; add_range(&mut idle, id, 0, 8), Err(Refusal::NoTx));
+    let mut late = lane_at(rt.alloc(), 1, Stage::OnAbort)?;
+    assert_eq!(rt; add_range(&mut late, id, 0, 8), Err(Refusal::NotWork));
+    assert_eq!(rt; late.error, TxErr::None);
+    Ok(())
+}
+
+/// Where no transaction is open, and past its work, nothing is written.
+#[test]
+fn writes_are_refused(rt: HostRuntime) -> Result<(), Fail> {
+    let id = Oid { pool: 7, off: 4224 };
+    let mut idle = lane_at(rt.alloc(), 0, Stage::None)?;
+    assert_eq!(rt; write(&mut idle, id, 0, &[9]), Err(Refusal::NoTx));
+    let mut late = lane_at(rt.alloc(), 1, Stage::OnAbort)?;
+    assert_eq!(rt; write(&mut late, id, 0, &[9]), Err(Refusal::NotWork));
+    assert_eq!(rt; late.error, TxErr::None);
+    Ok(())
+}
+
+/// Where no transaction is open, and past its work, nothing is read: the buffer stays as it was.
+#[test]
+fn reads_are_refused(rt: HostRuntime) -> Result<(), Fail> {
+    let id = Oid { pool: 7, off: 4224 };
+    let mut buffer = [1, 2, 3, 4];
+    let mut idle = lane_at(rt.alloc(), 0, Stage::None)?;
+    assert_eq!(rt; read(&mut idle, id, 0, &mut buffer), Err(Refusal::NoTx));
+    let mut late = lane_at(rt.alloc(), 1, Stage::OnAbort)?;
+    assert_eq!(rt; read(&mut late, id, 0, &mut buffer), Err(Refusal::NotWork));
+    assert_eq!(rt; late.error, TxErr::None);
+    assert_eq!(rt; buffer, [1, 2, 3, 4]);
     Ok(())
 }
