@@ -137,8 +137,11 @@ module _ (s : Standing) (stands : At s) (id : Oid) (held : is_in_locks s.locks i
       )
 
       -- so it is, whatever it comes to
-      pub judged : (result : Result (Unit {0}) Refusal) → Judged (is_held_so t id write) size off len result → (HasRange t id off len write → Q t tt) → After s (Found at lane Q op result)
-      judged (Ok tt) j q = range_had j.0 j.1 q
-      judged (Err refusal.NotLocked) j q = not_held_so j
-      judged (Err refusal.OutOfRange) j q = past_end j.0 j.1
-      judged (Err r) j q = absurd j
+      by_judgement : (result : Result (Unit {0}) Refusal) → Judged (is_held_so t id write) size off len result → (HasRange t id off len write → Q t tt) → After s (Found at lane Q op result)
+      by_judgement (Ok tt) j q = range_had j.0 j.1 q
+      by_judgement (Err refusal.NotLocked) j q = not_held_so j
+      by_judgement (Err refusal.OutOfRange) j q = past_end j.0 j.1
+      by_judgement (Err r) j q = absurd j
+
+      pub judged : (result : Result (Unit {0}) Refusal) (held : Bool) → held ≡ is_held_so t id write → Judged held size off len result → (HasRange t id off len write → Q t tt) → After s (Found at lane Q op result)
+      judged result held is j q = by_judgement result (subst (λ b. Judged b size off len result) is j) q

@@ -20,7 +20,7 @@ pub fn holds<M: LawfulMem>(lane: &Lane<M>, id: Oid, write: bool) -> bool
 }
 
 /// Why a range of an object of this size is refused, if it is.
-fn judge(held: bool, size: u64, off: u64, len: u64) -> Result<(), Refusal>
+pub fn judge(held: bool, size: u64, off: u64, len: u64) -> Result<(), Refusal>
     ensures { Judged held size off len result }
 {
     match off.checked_add(len) {

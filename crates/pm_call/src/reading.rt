@@ -22,7 +22,7 @@ pub fn ranges_may_be_read()
 {}
 
 /// Copies those bytes of a word that are among the bytes read from a place on.
-fn copy_bytes(into: &mut [u8], place: u64, word: u64, x: u64)
+pub fn copy_bytes(into: &mut [u8], place: u64, word: u64, x: u64)
     requires range { place + length into.old < 2 ^ 60 }
     requires above { place < 8 * word + 8 }
     requires below { 8 * word < place + length into.old }

@@ -1,5 +1,9 @@
 use super::*;
+use crate::checking::judge;
+use crate::reading::copy_bytes;
 use crate::writing::patched_word;
+use pm_objects::Refusal;
+use pm_world::HeldLock;
 use std::test::Fail;
 
 /// Bytes cover the words that have some of them: none, one, or two that they end in.
@@ -23,5 +27,40 @@ fn bytes_beside_a_range_stay(rt: HostRuntime) -> Result<(), Fail> {
         patched_word(6, &bytes, 1, 0x1122334455667788),
         0x112233445566ddcc
     );
+    Ok(())
+}
+
+/// Four bytes from the seventh of a word on are the last two of this word and the first two of the next.
+#[test]
+fn bytes_of_two_words(rt: HostRuntime) -> Result<(), Fail> {
+    let mut into = [0; 4];
+    copy_bytes(&mut into, 6, 0, 0x1122334455667788);
+    assert_eq!(rt; into, [0x22, 0x11, 0, 0]);
+    copy_bytes(&mut into, 6, 1, 0xaabbccddeeff0011);
+    assert_eq!(rt; into, [0x22, 0x11, 0x11, 0x00]);
+    Ok(())
+}
+
+/// A range of an object that is not locked is refused for that, wherever it ends.
+#[test]
+fn ranges_are_judged(rt: HostRuntime) -> Result<(), Fail> {
+    assert_eq!(rt; judge(false, 16, 8, 16), Err(Refusal::NotLocked));
+    assert_eq!(rt; judge(true, 16, 8, 8), Ok(()));
+    assert_eq!(rt; judge(true, 16, 8, 9), Err(Refusal::OutOfRange));
+    assert_eq!(rt; judge(true, 16, u64::MAX, 2), Err(Refusal::OutOfRange));
+    Ok(())
+}
+
+/// A lock for reading serves for reading alone, and of its own object.
+#[test]
+fn locks_are_of_an_object(rt: HostRuntime) -> Result<(), Fail> {
+    let locks = [HeldLock {
+        line: 1,
+        write: false,
+    }];
+    assert_eq!(rt; is_held(&locks, 128, false), true);
+    assert_eq!(rt; is_held(&locks, 128, true), false);
+    assert_eq!(rt; is_held(&locks, 192, false), false);
+    assert_eq!(rt; is_held(&locks, 136, false), false);
     Ok(())
 }

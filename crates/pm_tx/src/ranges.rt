@@ -100,7 +100,8 @@ fn try_write<M: LawfulMem>(
 
 /// Writes bytes into an object from its byte `off` on, in place; each word that they cover was recorded
 /// by `add_range`, so that they are put back if the transaction is given up. The object's lock is held
-/// for writing. Makes exactly the memory calls of `puts`.
+/// for writing. Makes exactly the memory calls of `puts`. PMDK has no such call: it stores through a
+/// pointer, pmemobj_direct(3).
 ///
 /// # Errors
 ///

@@ -1,11 +1,11 @@
-use Rattle.std.proofs.Common.{◌==◌, ◌/◌, ◌-◌, false, sym, ◌∙◌, subst}
+use Rattle.std.proofs.Common.{◌==◌, ◌/◌, ◌-◌, false, sym, ◌∙◌}
 use Rattle.std.proofs.lemmas.Bool.{and_parts}
 use Rattle.pm_view.specs.Steps.Step.{Load}
 use Rattle.pm_view.specs.Views.{after}
 use Rattle.pm_world.specs.LaneFields.{Standing, Works, moved}
 use Rattle.pm_call.specs.Did.{Checked}
 use Rattle.pm_call.specs.Held.{is_in_locks}
-use Rattle.pm_call.specs.Ranges.{HasRange, Judged}
+use Rattle.pm_call.specs.Ranges.{HasRange}
 use Rattle.pm_call.proofs.Checks.{judged, not_held_at_all, size_inside}
 use Rattle.pm_call.proofs.checking.check_range.Goals as goal
 
@@ -26,4 +26,4 @@ returns g c = λ op is s works stands. let held = (and_parts (c.args.id.pool == 
     let t : Standing = moved s (after s.view (Load (c.args.id.off / 8 - 7) c.see-size.result)) in
     let works_ : Works g.M.LaneMem.at _ t = record { memory = made.0; fields = works.fields } in
     judged s stands c.args.id held c.see-size.result c.see-size.type_inv (c.see-size.ensures.world s.view works.memory may) g.M.LaneMem.at _ works_ op c.args.off c.args.len c.args.write
-    (λ s done. HasRange s c.args.id c.args.off c.args.len c.args.write) is c.judge.result (subst (λ b. Judged b c.see-size.result c.args.off c.args.len c.judge.result) (c.holds-2.ensures.held t works_) c.judge.ensures) (λ r. r)
+    (λ s done. HasRange s c.args.id c.args.off c.args.len c.args.write) is c.judge.result c.holds-2.result (c.holds-2.ensures.held t works_) c.judge.ensures (λ r. r)
