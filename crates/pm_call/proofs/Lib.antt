@@ -23,3 +23,4 @@ pub mod AddedRanges
 pub mod AddedLanes
 pub mod Calls
 pub mod WriteChecks
+pub mod KeptClaims
