@@ -24,3 +24,5 @@ pub mod AddedLanes
 pub mod Calls
 pub mod WriteChecks
 pub mod KeptClaims
+pub mod KeptByLooks
+pub mod KeptGrows
