@@ -26,3 +26,4 @@ pub mod WriteChecks
 pub mod KeptClaims
 pub mod KeptByLooks
 pub mod KeptGrows
+pub mod KeptWork
