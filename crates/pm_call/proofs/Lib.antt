@@ -27,3 +27,4 @@ pub mod KeptClaims
 pub mod KeptByLooks
 pub mod KeptGrows
 pub mod KeptWork
+pub mod LockLists
