@@ -28,3 +28,4 @@ pub mod KeptByLooks
 pub mod KeptGrows
 pub mod KeptWork
 pub mod LockLists
+pub mod WorldFacts

@@ -8,3 +8,4 @@ pub mod Reading
 pub mod RangeLaws
 pub mod Writing
 pub mod Adding
+pub mod Locking
