@@ -29,3 +29,4 @@ pub mod KeptGrows
 pub mod KeptWork
 pub mod LockLists
 pub mod WorldFacts
+pub mod TakenLocks

@@ -175,7 +175,7 @@ joined_so a f false pw pf true g is none both alone more goes = ap (λ b. a || b
 joined_so a f false pw pf false g is none both alone more goes = sym ((λ i. (a || alone refl i) || and_right (f || pf) false refl i) ∙ none_then (a || g))
 
 -- line 0 is no chunk's
-chunk_high : (sh : Shape) (line : ℕ) → objects.is_chunk_line sh line ≡ true → 1 ≤ line
+pub chunk_high : (sh : Shape) (line : ℕ) → objects.is_chunk_line sh line ≡ true → 1 ≤ line
 chunk_high sh zero e = absurd (both_ways (objects.is_chunk_line sh 0) (and_left (Rattle.pm_layout.specs.Chunks.is_in_zone sh 0) (nat_le 1 (Rattle.pm_layout.specs.Chunks.page_in_zone sh 0)) (and_left (nat_le (Rattle.pm_layout.specs.Chunks.page_of_zone sh 0) 0) (nat_lt 0 (Rattle.pm_layout.specs.Chunks.page_of_zone sh sh.zones)) (Rattle.pm_plan.proofs.AreaParts.not_le (Rattle.pm_layout.specs.Chunks.page_of_zone sh 0) 0 (omega arith)))) e)
 chunk_high sh (suc line) e = omega arith
 
