@@ -1,9 +1,9 @@
 -- A LANE AT WORK THAT HAS AND KNOWS WHAT IT DID, in a world: what it recorded is data of objects that it finds still, and its call goes on.
-use Rattle.std.proofs.Common.{◌≡◌, ◌≢◌, ⊎_elim, inl, inr, ℕ, zero, suc, ◌+◌, ◌*◌, ◌-◌, ◌/◌, ◌<◌, ◌≤◌, Bool, true, false, cond, ◌==◌, ◌&&◌, Contains, List, [], ◌∷◌, refl, sym, ap, ◌∙◌, subst, arith, Option, None, Some}
+use Rattle.std.proofs.Common.{◌≡◌, ◌≢◌, ⊎_elim, inl, inr, ℕ, zero, suc, ◌+◌, ◌*◌, ◌-◌, ◌/◌, ◌%◌, ◌<◌, ◌≤◌, nat_le, Bool, true, false, cond, ◌==◌, ◌&&◌, Contains, List, [], ◌∷◌, refl, sym, ap, ◌∙◌, subst, arith, Option, None, Some}
 use Rattle.std.specs.Prelude.{length}
 use Rattle.std.specs.List.{AllByRecursion}
 use Rattle.std.specs.Option.{option_map}
-use Rattle.std.proofs.lemmas.Bool.{and_from, and_right, both_ways, cond-false, or_right}
+use Rattle.std.proofs.lemmas.Bool.{and_from, and_parts, and_right, eqb-true, leb-true, both_ways, cond-false, or_right}
 use Rattle.std.proofs.lemmas.Option.{none-some}
 use Rattle.pm_layout.specs.Areas.{word_of_generation, word_of_seal}
 use Rattle.pm_view.specs.Claims.{Claim, class, found, header_in, is_held_at, mine}
@@ -94,6 +94,15 @@ module _ (s : Standing) (level : ℕ) (at : IsAt s level) (t : List Claim) (seen
 
   pub known_size_on : (off : ℕ) (o : KnowsSize v [] off) → has_found v o.block ≡ true → size_seen next off ≡ size_seen v off
   known_size_on off o f = size_on off o f ∙ sym o.seen
+
+  pub held_size_on : (off : ℕ) → has_line off ≡ true → HasObject v (line_of off) → size_seen next off ≡ size_seen v off
+  held_size_on off has_ o =
+      let is = size_word v at.sound (line_of off) o in
+      let n = word_number v at.sound o.block 1 is in
+      let both = and_parts (off % 64 == 0) (nat_le 128 off) has_ in
+      let even = eqb-true (off % 64) 0 both.0 in let high = leb-true 128 off both.1 in
+      let e : off / 8 - 7 ≡ word_of v.fixed.shape (word_place v o.block 1) = (let a = o.at in let q : off / 8 - 7 ≡ 8 * header_in v.fixed.shape v.claims o.block + 1 = omega (arith, a, even, high) in q) ∙ sym n in
+      ap (value_in next) e ∙ ((word_on o.block 1 is).1 ∙ ap (value_in v) (sym e))
 
   data_word : (p : Place) (d : IsDataOf v p) → IsObjectWord v d.object.block d.index
   data_word p d = record { found = d.found; inside = d.object.object.inside; within = d.within; kind = inr d.data_ }

@@ -30,3 +30,4 @@ pub mod KeptWork
 pub mod LockLists
 pub mod WorldFacts
 pub mod TakenLocks
+pub mod LockedObjects

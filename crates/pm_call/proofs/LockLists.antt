@@ -68,7 +68,7 @@ locked_is o w (l ∷ locks) off write = by (l.off == o) refl (locked_is o w lock
   by true e rest = merged (o == off) l.write w (not write) (is_locked locks off write) ∙ ap (λ n. ((n == off && (l.write || not write)) || is_locked locks off write) || (o == off && (w || not write))) (sym (eqb-true l.off o e))
   by false e rest = ap (λ b. (l.off == off && (l.write || not write)) || b) rest ∙ last (l.off == off && (l.write || not write)) (is_locked locks off write) (o == off && (w || not write))
 
-abbrev wants_off : List Want → ℕ → Bool → Bool
+abbrev pub wants_off : List Want → ℕ → Bool → Bool
 wants_off wants off write = list_any (λ (want : Want). want.id.off == off && (want.write || not write)) wants
 
 pub all_locked_is : (wants : List Want) (locks : List Lock) (off : ℕ) (write : Bool) → is_locked (all_locked wants locks) off write ≡ (is_locked locks off write || wants_off wants off write)
@@ -140,7 +140,7 @@ f_all true true = refl
 f_all true false = refl
 f_all false x = refl
 
-listed_is : (locks : List HeldLock) (n : ℕ) → any_at locks n false ≡ is_listed locks [] n
+pub listed_is : (locks : List HeldLock) (n : ℕ) → any_at locks n false ≡ is_listed locks [] n
 listed_is locks n = by locks ∙ sym (none_then (list_any (λ (l : HeldLock). l.line == n) locks)) where
   by : (locks : List HeldLock) → any_at locks n false ≡ list_any (λ (l : HeldLock). l.line == n) locks
   by [] = refl
@@ -159,7 +159,7 @@ same_any : (P Q : Want → Bool) (wants : List Want) → ((want : Want) → P wa
 same_any P Q [] e = refl
 same_any P Q (want ∷ wants) e = λ i. e want i || same_any P Q wants e i
 
-none_any : (P : Want → Bool) (wants : List Want) → ((want : Want) → P want ≡ false) → list_any P wants ≡ false
+pub none_any : (P : Want → Bool) (wants : List Want) → ((want : Want) → P want ≡ false) → list_any P wants ≡ false
 none_any P [] e = refl
 none_any P (want ∷ wants) e = ap (λ b. b || list_any P wants) (e want) ∙ none_any P wants e
 
@@ -245,7 +245,7 @@ module _ (sh : Shape) (pool : ℕ) (locks : List HeldLock) (wants : List Want) w
       let high : 1 ≤ line_before id.off = chunk_high sh (line_before id.off) h.chunk in
       (and_from (id.off % 64 == 0) (nat_le 128 id.off) (eq-eqb (id.off % 64) 0 (omega (arith, before))) (le-leb 128 id.off (omega (arith, before, high))), there)
 
-  all_placed : (wants : List Want) → has_unplaced sh pool wants ≡ false → AllByRecursion (λ (want : Want). is_placed sh pool want.id ≡ true) wants
+  pub all_placed : (wants : List Want) → has_unplaced sh pool wants ≡ false → AllByRecursion (λ (want : Want). is_placed sh pool want.id ≡ true) wants
   all_placed [] e = tt
   all_placed (want ∷ wants) e = by (is_placed sh pool want.id) refl e (all_placed wants) where
     by : (b : Bool) → is_placed sh pool want.id ≡ b → (not b || has_unplaced sh pool wants) ≡ false → (has_unplaced sh pool wants ≡ false → AllByRecursion (λ (want : Want). is_placed sh pool want.id ≡ true) wants)
