@@ -1,16 +1,13 @@
 -- WHAT A LANE HAS AND KNOWS STAYS as it takes locks, looks under them and raises them: it holds no fewer lines, has and finds no fewer blocks, and knows of
 -- their words what it knew.
-use Rattle.std.proofs.Common.{◌≡◌, ◌≢◌, ⊎_elim, ℕ, ◌<◌, ◌≤◌, ◌+◌, ◌*◌, ◌/◌, Bool, true, false, cond, not, ◌==◌, ◌&&◌, ◌||◌, List, [], ◌∷◌, ◌++◌, refl, sym, ap, ◌∙◌, subst, arith, ne_eqb, eq-eqb, Option, None, Some}
+use Rattle.std.proofs.Common.{◌≡◌, ◌≢◌, ⊎_elim, ℕ, ◌<◌, Bool, true, false, not, ◌==◌, ◌&&◌, ◌||◌, List, [], ◌∷◌, refl, sym, ap, ◌∙◌, subst, arith, ne_eqb, None}
 use Rattle.std.specs.List.{AllByRecursion}
-use Rattle.std.proofs.lemmas.Bool.{and_from, and_left, and_parts, both_ways, cond-false, eqb-true, false_from_ne_true, or_cases, or_left, or_right}
-use Rattle.std.proofs.lemmas.Option.{none-some}
-use Rattle.pm_layout.specs.declared.shape.Shape.{Shape}
+use Rattle.std.proofs.lemmas.Bool.{and_from, and_left, both_ways, cond-false, eqb-true, false_from_ne_true, or_cases, or_left, or_right}
 use Rattle.pm_layout.specs.Chunks.{word_of_root}
 use Rattle.pm_view.specs.Claims.{Claim, Took, Raised, class, found, holds, is_held_at, locked, making, mine, pictured, reads, span}
 use Rattle.pm_view.specs.Log.{place_at}
-use Rattle.pm_view.specs.Places.{Place, Block, Big}
+use Rattle.pm_view.specs.Places.{Block, Big}
 use Rattle.pm_view.specs.View.{View}
-use Rattle.pm_world.specs.Lawful.{place_in}
 use Rattle.pm_world.specs.declared.lane.HeldLock.{HeldLock}
 use Rattle.pm_crash.specs.Roots.{saw_root}
 use Rattle.pm_crash.proofs.RootClaims.{held_by, saw_held}

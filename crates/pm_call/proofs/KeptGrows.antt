@@ -4,7 +4,7 @@ use Rattle.std.specs.List.{list_any}
 use Rattle.std.proofs.lemmas.Bool.{and_from, and_parts, both_ways, le-leb, leb-true, lt-ltb, ltb-true, or_cases, or_left, or_right}
 use Rattle.pm_layout.specs.Chunks.{chunks_of, word_of_chunk}
 use Rattle.pm_model.specs.Blocks.{Block as Placed}
-use Rattle.pm_view.specs.Claims.{Claim, class, first, found, geometry, holds, is_held_at, last_first, locked, mine, pictured, reads, span}
+use Rattle.pm_view.specs.Claims.{Claim, class, first, found, geometry, is_held_at, last_first, mine, pictured, span}
 use Rattle.pm_view.specs.Log.{place_at}
 use Rattle.pm_view.specs.Parts.{chunk_place, place_in}
 use Rattle.pm_view.specs.Places.{Place, InRun, InHuge, Descr, RootWord, Block, Small, Big, Root, block_of, in_span, is_data, is_place, part, word_of}
@@ -14,7 +14,7 @@ use Rattle.pm_world.specs.BlockLines.{OwnHas}
 use Rattle.pm_world.specs.InWorld.{IsSound}
 use Rattle.pm_world.specs.Sights.{is_pictured, picture, sight_of}
 use Rattle.pm_world.proofs.WordPlaces.{chunk_part}
-use Rattle.pm_crash.specs.Footprints.{bit_before, geometry_of, has_found, has_own}
+use Rattle.pm_crash.specs.Footprints.{geometry_of, has_found, has_own}
 use Rattle.pm_crash.specs.Sim.{Grows, IsSamePlace, blocks_kept, is_kept_block, known_offset, sees_at}
 use Rattle.pm_crash.proofs.StepKnows as known
 use Rattle.pm_lock.specs.Objects.{has}

@@ -1,10 +1,8 @@
 -- A LANE AT WORK THAT HAS AND KNOWS WHAT IT DID, in a world: what it recorded is data of objects that it finds still, and its call goes on.
-use Rattle.std.proofs.Common.{◌≡◌, ◌≢◌, ⊎_elim, inl, inr, ℕ, zero, suc, ◌+◌, ◌*◌, ◌-◌, ◌/◌, ◌%◌, ◌<◌, ◌≤◌, nat_le, Bool, true, false, cond, ◌==◌, ◌&&◌, Contains, List, [], ◌∷◌, refl, sym, ap, ◌∙◌, subst, arith, Option, None, Some}
-use Rattle.std.specs.Prelude.{length}
+use Rattle.std.proofs.Common.{◌≡◌, ⊎_elim, inl, inr, ℕ, ◌+◌, ◌*◌, ◌-◌, ◌/◌, ◌%◌, ◌<◌, nat_le, Bool, true, false, cond, ◌==◌, ◌&&◌, List, [], ◌∷◌, refl, sym, ap, ◌∙◌, subst, arith, Option, None, Some}
 use Rattle.std.specs.List.{AllByRecursion}
 use Rattle.std.specs.Option.{option_map}
 use Rattle.std.proofs.lemmas.Bool.{and_from, and_parts, and_right, eqb-true, leb-true, both_ways, cond-false, or_right}
-use Rattle.std.proofs.lemmas.Option.{none-some}
 use Rattle.pm_layout.specs.Areas.{word_of_generation, word_of_seal}
 use Rattle.pm_view.specs.Claims.{Claim, class, found, header_in, is_held_at, mine}
 use Rattle.pm_view.specs.Entries.{first_of_two}
@@ -33,7 +31,7 @@ use Rattle.pm_call.proofs.KeptClaims.{KeepsAll}
 use Rattle.pm_call.proofs.KeptGrows.{KnowsOwnRuns, SeesInside, keeps_grows, locking}
 use Rattle.pm_call.proofs.KnownObjects.{fresh_is, size_known, size_word, word_number}
 use Rattle.pm_call.proofs.Noting.{header_line, offset_line}
-use Rattle.pm_call.proofs.ObjectWords.{IsDataPlace, object_place}
+use Rattle.pm_call.proofs.ObjectWords.{object_place}
 
 -- the word of a lane's seal is no place
 seal_no_place : (sh : Rattle.pm_layout.specs.declared.shape.Shape.Shape) (cl : ℕ → ℕ) (lane : ℕ) → lane < sh.lanes → place_at sh cl (word_of_seal sh lane) ≡ None

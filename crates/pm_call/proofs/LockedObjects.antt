@@ -9,27 +9,24 @@ use Rattle.pm_objects.specs.declared.calls.Operation.{Operation}
 use Rattle.pm_objects.specs.declared.calls.Operation.TheVariants.{Begin, Lock}
 use Rattle.pm_objects.specs.declared.calls.Want.{Want}
 use Rattle.pm_objects.specs.declared.ids.Oid.{Oid}
-use Rattle.pm_objects.specs.declared.refusal.Refusal.TheVariants as refusal
 use Rattle.pm_model.specs.Blocks.{Block as Placed}
-use Rattle.pm_model.specs.Inside.{Ran, after_reply, is_kept_by, wants_of}
+use Rattle.pm_model.specs.Inside.{Ran, after_reply, wants_of}
 use Rattle.pm_model.specs.Items.{is_among}
 use Rattle.pm_model.specs.Places.{has_place}
-use Rattle.pm_model.specs.Pending.{SetWord}
-use Rattle.pm_model.specs.Refusals.{Test, first_of, is_first_lock, is_tried, passes_locks, tests}
+use Rattle.pm_model.specs.Refusals.{Test, first_of, is_first_lock, is_tried, passes_locks}
 use Rattle.pm_model.specs.Transaction.{Transaction, all_locked, is_gone, is_locked, is_new, is_working, wants_of_old, with_locks}
 use Rattle.pm_model.specs.declared.stage.Stage.{Stage}
 use Rattle.pm_model.specs.declared.stage.Stage.TheVariants as stage
 use Rattle.pm_view.specs.Claims.{holds}
-use Rattle.pm_view.specs.Log.{Open}
-use Rattle.pm_view.specs.Places.{Place, Block, Small}
+use Rattle.pm_view.specs.Places.{Place, Small}
 use Rattle.pm_view.specs.Steps.Step.{Tell}
 use Rattle.pm_view.specs.View.{Told, View}
 use Rattle.pm_view.specs.Views.{after}
 use Rattle.pm_world.specs.InWorld.{IsSound, SizesFit}
-use Rattle.pm_world.specs.LaneFields.{Standing, moved}
+use Rattle.pm_world.specs.LaneFields.{Standing}
 use Rattle.pm_world.specs.Sights.{is_recorded}
 use Rattle.pm_world.specs.declared.lane.HeldLock.{HeldLock}
-use Rattle.pm_crash.specs.Looked.{Enters, IsChanged, items_seen, pool_seen, refusal_by}
+use Rattle.pm_crash.specs.Looked.{IsChanged, items_seen, pool_seen, refusal_by}
 use Rattle.pm_crash.specs.Looks.{ids_freed, ids_sized}
 use Rattle.pm_crash.specs.Calls.{pending_of}
 use Rattle.pm_crash.specs.OpenRuns.{no_pool}
@@ -48,11 +45,10 @@ use Rattle.pm_lock.specs.Raising.{raised}
 use Rattle.pm_lock.specs.Wants.{has_unplaced, is_listed}
 use Rattle.pm_lock.proofs.CanBegin.{has_header}
 use Rattle.pm_lock.proofs.ModelPlans.{plans_as}
-use Rattle.pm_call.specs.At.{AreLists, At, IsAt, IsDataOf, MaySet, entries_so_far}
-use Rattle.pm_call.specs.Did.{IsUnrefused, unseen}
+use Rattle.pm_call.specs.At.{AreLists, At, IsDataOf, MaySet, entries_so_far}
+use Rattle.pm_call.specs.Did.{unseen}
 use Rattle.pm_call.specs.Held.{AreHeld, HasObject, IsHeld, has_line, is_in_locks, line_of}
-use Rattle.pm_call.specs.Locking.{HoldsLocks, IsLocking, LeadsLocks, MayLock, ObjectsMayBeLocked, TakesLocks, locked_with, locks_with, to_take, to_write}
-use Rattle.pm_call.proofs.KeptClaims.{KeepsAll}
+use Rattle.pm_call.specs.Locking.{HoldsLocks, LeadsLocks, ObjectsMayBeLocked, TakesLocks, locks_with, to_take, to_write}
 use Rattle.pm_call.proofs.KeptGrows.{SeesInside, locking}
 use Rattle.pm_call.proofs.KeptWork.{data_on, held_size_on, object_on, seal_on, sim_on, working_on}
 use Rattle.pm_call.proofs.KnownObjects.{held_object, object_stands}

@@ -10,6 +10,7 @@
 
 mod adding;
 mod laws;
+mod locking;
 mod ranges;
 mod rollback;
 mod stages;
@@ -17,6 +18,7 @@ mod writing;
 
 pub use adding::{do_add, ranges_may_be_added};
 pub use laws::transactions_may_be_given_up;
+pub use locking::{locks_may_be_wanted, objects_may_be_locked};
 pub use ranges::{ranges_are_looked_at, refusals_of_ranges_are_the_models};
 pub use rollback::{give_up, refuse, stop, take_back};
 pub use stages::work_refusal;
