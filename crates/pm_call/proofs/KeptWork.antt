@@ -78,8 +78,8 @@ module _ (s : Standing) (level : ℕ) (at : IsAt s level) (t : List Claim) (seen
   word_on B i is =
       let a = object_place v at.sound B i is in
       let same = k.data_same (word_of v.fixed.shape (word_place v B i)) (ap (is_held_at v.fixed.shape v.claims) a.use_
-          ∙ and_from (is_data (word_place v B i)) (has v (Rattle.pm_view.specs.Places.block_of (Rattle.pm_view.specs.Claims.geometry v.fixed.shape v.claims) (word_place v B i) 64)) a.data_
-          (ap (has v) a.block ∙ or_right (mine v.fixed.shape v.claims B) (found v.fixed.shape v.claims B) is.found)) in
+      ∙ and_from (is_data (word_place v B i)) (has v (Rattle.pm_view.specs.Places.block_of (Rattle.pm_view.specs.Claims.geometry v.fixed.shape v.claims) (word_place v B i) 64)) a.data_
+      (ap (has v) a.block ∙ or_right (mine v.fixed.shape v.claims B) (found v.fixed.shape v.claims B) is.found)) in
       (same.0 ∙ a.use_, same.2)
 
   size_on : (off : ℕ) (o : KnowsSize v [] off) → has_found v o.block ≡ true → size_seen next off ≡ Some o.size

@@ -262,8 +262,8 @@ module _ (sh : Shape) (pool : ℕ) (locks : List HeldLock) (wants : List Want) w
         let ae = eqb-true (id.off % 64) 0 a.0 in let al = leb-true 128 id.off a.1 in
         let be = eqb-true (off % 64) 0 b.0 in let bl = leb-true 128 off b.1 in
         ap (λ o. is_at_line o (line_of off)) t.1 ∙ ⊎_elim
-            (λ (q : id.off ≡ off). eq-eqb (line_of id.off) (line_of off) (ap line_of q) ∙ sym (eq-eqb id.off off q))
-            (λ (q : id.off ≢ off). ne_eqb (line_of id.off) (line_of off) (λ z. q (omega (arith, z, ae, al, be, bl))) ∙ sym (ne_eqb id.off off q)) (cases_eq id.off off)
+        (λ (q : id.off ≡ off). eq-eqb (line_of id.off) (line_of off) (ap line_of q) ∙ sym (eq-eqb id.off off q))
+        (λ (q : id.off ≢ off). ne_eqb (line_of id.off) (line_of off) (λ z. q (omega (arith, z, ae, al, be, bl))) ∙ sym (ne_eqb id.off off q)) (cases_eq id.off off)
 
     at_off : (wants : List Want) (off : ℕ) (write : Bool) → AllByRecursion (λ (want : Want). is_placed sh pool want.id ≡ true) wants → has_line off ≡ true
         → list_any (λ (want : Want). is_at_line (objects.line_of sh pool want.id) (line_of off) && (want.write || not write)) wants ≡ wants_off wants off write
@@ -346,8 +346,8 @@ module _ (sh : Shape) (pool : ℕ) (locks : List HeldLock) where
           let p = and_parts (a % 64 == 0) (nat_le 128 a) x in let q = and_parts (b % 64 == 0) (nat_le 128 b) y in
           let ae = eqb-true (a % 64) 0 p.0 in let al = leb-true 128 a p.1 in
           let be = eqb-true (b % 64) 0 q.0 in let bl = leb-true 128 b q.1 in ⊎_elim
-              (λ (e : a ≡ b). eq-eqb (line_of a) (line_of b) (ap line_of e) ∙ sym (eq-eqb a b e))
-              (λ (e : a ≢ b). ne_eqb (line_of a) (line_of b) (λ z. e (omega (arith, z, ae, al, be, bl))) ∙ sym (ne_eqb a b e)) (cases_eq a b)
+          (λ (e : a ≡ b). eq-eqb (line_of a) (line_of b) (ap line_of e) ∙ sym (eq-eqb a b e))
+          (λ (e : a ≢ b). ne_eqb (line_of a) (line_of b) (λ z. e (omega (arith, z, ae, al, be, bl))) ∙ sym (ne_eqb a b e)) (cases_eq a b)
 
   as_many : (wants : List Want) (T : List Lock) (P : List HeldLock) → AllByRecursion (λ (want : Want). (has_line want.id.off ≡ true) × (objects.line_of sh pool want.id ≡ Some (line_of want.id.off))) wants → Goes T P
       → length (all_locked wants T) ≡ length locks + length (planned_all sh pool (is_listed locks []) wants P)

@@ -356,8 +356,19 @@ module _ (s : Standing) (at : At s) (h : HoldsLocks s) (x : View) where
     stage_then = (lists_of s.view).stage;
     works = at.lists.works;
     done = ap (λ n. record (with_locks (want ∷ []) (lists_of s.view)) { level = n; stage = (lists_of s.view).stage }) at.lists.level_is;
-  }) at.some at.most (no_first _ (at_work s (Lock want) (want ∷ []) s.level x at h tk placed few, (open_, (not_full s (Lock want) (want ∷ []) s.level x at h tk placed few, (all_placed_there s (Lock want) (want ∷ []) s.level x at h tk placed few,
-      (not_busy s (Lock want) (want ∷ []) s.level x at h tk placed few, (none_missing s (Lock want) (want ∷ []) s.level x at h tk placed few, (none_gone s (Lock want) (want ∷ []) s.level x at h tk placed few, tt))))))))
+  }) at.some at.most (no_first _ (
+    at_work s (Lock want) (want ∷ []) s.level x at h tk placed few,
+    (
+      open_,
+      (
+        not_full s (Lock want) (want ∷ []) s.level x at h tk placed few,
+        (
+          all_placed_there s (Lock want) (want ∷ []) s.level x at h tk placed few,
+          (not_busy s (Lock want) (want ∷ []) s.level x at h tk placed few, (none_missing s (Lock want) (want ∷ []) s.level x at h tk placed few, (none_gone s (Lock want) (want ∷ []) s.level x at h tk placed few, tt))),
+        ),
+      ),
+    ),
+  ))
 
   begin_leads : (wants : List Want) → s.level < 64 → has_unplaced s.view.fixed.shape s.view.fixed.pool wants ≡ false → length s.locks + length (to_take s wants) ≤ 64 → TakesLocks s wants x
       → LeadsLocks s (Begin wants) wants (s.level + 1) x
@@ -370,9 +381,22 @@ module _ (s : Standing) (at : At s) (h : HoldsLocks s) (x : View) where
     stage_then = stage.Work;
     works = refl;
     done = ap (λ n. record (with_locks wants (lists_of s.view)) { level = n + 1; stage = stage.Work }) at.lists.level_is;
-  }) (omega arith) (omega (arith, deep)) (no_first _ (at_work s (Begin wants) wants (s.level + 1) x at h tk placed few, (and_left ((lists_of s.view).level == 0) unseen.spent open_, (not_deep,
-      (not_full s (Begin wants) wants (s.level + 1) x at h tk placed few, (all_placed_there s (Begin wants) wants (s.level + 1) x at h tk placed few,
-      (not_busy s (Begin wants) wants (s.level + 1) x at h tk placed few, (none_missing s (Begin wants) wants (s.level + 1) x at h tk placed few, (none_gone s (Begin wants) wants (s.level + 1) x at h tk placed few, tt)))))))))
+  }) (omega arith) (omega (arith, deep)) (no_first _ (
+    at_work s (Begin wants) wants (s.level + 1) x at h tk placed few,
+    (
+      and_left ((lists_of s.view).level == 0) unseen.spent open_,
+      (
+        not_deep,
+        (
+          not_full s (Begin wants) wants (s.level + 1) x at h tk placed few,
+          (
+            all_placed_there s (Begin wants) wants (s.level + 1) x at h tk placed few,
+            (not_busy s (Begin wants) wants (s.level + 1) x at h tk placed few, (none_missing s (Begin wants) wants (s.level + 1) x at h tk placed few, (none_gone s (Begin wants) wants (s.level + 1) x at h tk placed few, tt))),
+          ),
+        ),
+      ),
+    ),
+  ))
     where
       not_deep : nat_le 64 (lists_of s.view).level ≡ false
       not_deep = false_from_ne_true (nat_le 64 (lists_of s.view).level) (λ e. let l = leb-true 64 (lists_of s.view).level e in let is = at.lists.level_is in omega (arith, l, is, deep))

@@ -92,7 +92,6 @@ before_so : (f : ℕ → Bool) (old : Option ℕ) (a c : Option Bool) (y : Bool)
 before_so f None a c y h e = sym (h refl) ∙ e
 before_so f (Some z) a c y h e = e
 
-
 module _ (s : Standing) (at : At s) (id : Oid) (off : ℕ) (bytes : List ℕ) (can : MayPut s id off bytes) where
   abbrev v : View
   v = s.view

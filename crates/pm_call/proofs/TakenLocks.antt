@@ -194,9 +194,9 @@ module _ (s : Standing) (wants : List Want) (x : View) (at : At s) (h : HoldsLoc
   only_last : (line : ℕ) → holds last_claims line ≡ true → is_listed (locks_with s wants) [] line ≡ true
   only_last line e = or_left (has_lock (locks_with s wants) line) false (has_raised (to_write s wants) all line ∙ ⊎_elim
       (λ (q : holds looked_here.0 line ≡ true). ⊎_elim
-          (λ (r : holds s.view.claims line ≡ true). has_left s.locks plan line (listed_has s.locks line (h.only line r)))
-          (λ (r : has_lock plan line ≡ true). has_right s.locks plan line r)
-          (holds_taken plan s.view.claims line (sym (looked_locks line) ∙ q)))
+      (λ (r : holds s.view.claims line ≡ true). has_left s.locks plan line (listed_has s.locks line (h.only line r)))
+      (λ (r : has_lock plan line ≡ true). has_right s.locks plan line r)
+      (holds_taken plan s.view.claims line (sym (looked_locks line) ∙ q)))
       (λ (q : has_lock up line ≡ true). has_filter (is_raised (to_write s wants)) all line q)
       (holds_rose up looked_here.0 line e))
 
