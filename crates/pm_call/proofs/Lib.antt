@@ -31,3 +31,4 @@ pub mod LockLists
 pub mod WorldFacts
 pub mod TakenLocks
 pub mod LockedObjects
+pub mod LockRefusals

@@ -155,7 +155,7 @@ any_of (l ∷ locks) n write e = by (l.line == n) l.write (any_at locks n false)
   by true false f rest e = absurd (both_ways true e refl)
   by false p f rest e = rest e
 
-same_any : (P Q : Want → Bool) (wants : List Want) → ((want : Want) → P want ≡ Q want) → list_any P wants ≡ list_any Q wants
+pub same_any : (P Q : Want → Bool) (wants : List Want) → ((want : Want) → P want ≡ Q want) → list_any P wants ≡ list_any Q wants
 same_any P Q [] e = refl
 same_any P Q (want ∷ wants) e = λ i. e want i || same_any P Q wants e i
 

@@ -9,3 +9,4 @@ pub mod RangeLaws
 pub mod Writing
 pub mod Adding
 pub mod Locking
+pub mod LockRefusals
