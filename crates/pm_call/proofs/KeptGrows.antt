@@ -28,11 +28,15 @@ KnowsOwnRuns v = (c i : ℕ) → has_own v (Small c i) ≡ true → class v.clai
 abbrev pub SeesInside : View → Type 0
 SeesInside v = (p : Place) (b : ℕ) → sees_at v p b ≡ true → is_pictured p ≡ true → is_place v.fixed.shape p ≡ true
 
+-- what is pictured of places that it sees is so still
+abbrev pub KeepsPictures : View → List Claim → Type 0
+KeepsPictures v t = (p : Place) (b : ℕ) (y : Bool) → sees_at v p b ≡ true → picture v.fixed.shape v.claims p b ≡ Some y → picture v.fixed.shape t p b ≡ Some y
+
 -- the view with these claims, and with what tries told
 abbrev pub locking : View → List Claim → List Step → View
 locking v t seen = record v { claims = t; seen = seen }
 
-module _ (v : View) (t : List Claim) (seen : List Step) (k : KeepsAll v t) (sound : IsSound v) (after_sound : IsSound (locking v t seen)) (own : KnowsOwnRuns v) (inside : SeesInside (locking v t seen)) where
+module _ (v : View) (t : List Claim) (seen : List Step) (k : KeepsAll v t) (sound : IsSound v) (after_sound : IsSound (locking v t seen)) where
   abbrev next : View
   next = locking v t seen
 
@@ -95,48 +99,50 @@ module _ (v : View) (t : List Claim) (seen : List Step) (k : KeepsAll v t) (soun
   word_same (Descr c) b f q i = absurd (both_ways false refl q)
   word_same RootWord b f q i = k.root_same
 
-  pub pictures_on : (p : Place) (b : ℕ) (y : Bool) → sees_at v p b ≡ true → picture v.fixed.shape v.claims p b ≡ Some y → picture v.fixed.shape t p b ≡ Some y
-  pictures_on p b y f e = let q = (known.of_pictured v.fixed.shape v.claims p b y e).0 in
+  pub pictures_on : SeesInside next → KeepsPictures v t
+  pictures_on inside p b y f e =
+      let q = (known.of_pictured v.fixed.shape v.claims p b y e).0 in
       known.pictured_alike v.fixed.shape v.claims t p b (word_same p b f q (inside p b (sees_on p b f).0 q)) ∙ e
 
-  -- ---- blocks of its own that are to be objects
-  kept_own : (kept : Bool) (B : Block) → is_kept_block v kept B ≡ true → has_own v B ≡ true
-  kept_own kept B m = (and_parts (has_own v B) (list_any (λ (b : Placed). b.off == known_offset v B) (blocks_kept kept v)) m).0
+  module _ (own : KnowsOwnRuns v) (pics : KeepsPictures v t) where
+    -- ---- blocks of its own that are to be objects
+    kept_own : (kept : Bool) (B : Block) → is_kept_block v kept B ≡ true → has_own v B ≡ true
+    kept_own kept B m = (and_parts (has_own v B) (list_any (λ (b : Placed). b.off == known_offset v B) (blocks_kept kept v)) m).0
 
-  own_class : (c i : ℕ) → has_own v (Small c i) ≡ true → class t c ≡ class v.claims c
-  own_class c i m = k.class_same c (own c i m)
+    own_class : (c i : ℕ) → has_own v (Small c i) ≡ true → class t c ≡ class v.claims c
+    own_class c i m = k.class_same c (own c i m)
 
-  offset_so : (B : Block) → has_own v B ≡ true → known_offset next B ≡ known_offset v B
-  offset_so (Small c i) m = (λ j. 64 * (Rattle.pm_layout.specs.Chunks.line_of_chunk v.fixed.shape c + (1 + own_class c i m j * i)) + 64)
-  offset_so (Big f) m = refl
-  offset_so Root m = refl
+    offset_so : (B : Block) → has_own v B ≡ true → known_offset next B ≡ known_offset v B
+    offset_so (Small c i) m = (λ j. 64 * (Rattle.pm_layout.specs.Chunks.line_of_chunk v.fixed.shape c + (1 + own_class c i m j * i)) + 64)
+    offset_so (Big f) m = refl
+    offset_so Root m = refl
 
-  still_own : (kept : Bool) (B : Block) → is_kept_block v kept B ≡ true → is_kept_block next kept B ≡ true
-  still_own kept B m = let y = and_parts (has_own v B) (list_any (λ (b : Placed). b.off == known_offset v B) (blocks_kept kept v)) m in
-      and_from (has_own next B) (list_any (λ (b : Placed). b.off == known_offset next B) (blocks_kept kept next)) (k.mine_same B ∙ y.0)
-      (ap (λ n. list_any (λ (b : Placed). b.off == n) (blocks_kept kept v)) (offset_so B y.0) ∙ y.1)
+    still_own : (kept : Bool) (B : Block) → is_kept_block v kept B ≡ true → is_kept_block next kept B ≡ true
+    still_own kept B m = let y = and_parts (has_own v B) (list_any (λ (b : Placed). b.off == known_offset v B) (blocks_kept kept v)) m in
+        and_from (has_own next B) (list_any (λ (b : Placed). b.off == known_offset next B) (blocks_kept kept next)) (k.mine_same B ∙ y.0)
+        (ap (λ n. list_any (λ (b : Placed). b.off == n) (blocks_kept kept v)) (offset_so B y.0) ∙ y.1)
 
-  lines_on : (B : Block) (line : ℕ) → has_own v B ≡ true → OwnHas v.fixed.shape (sight_of v).hold (geometry_of v) B line → OwnHas v.fixed.shape (sight_of next).hold (geometry_of next) B line
-  lines_on (Small c i) line m a = record {
-    mine = k.mine_same (Small c i) ∙ m;
-    has = subst (λ n. Rattle.pm_world.specs.BlockLines.IsInSmall v.fixed.shape n c i line) (sym (own_class c i m)) a.has;
-  }
-  lines_on (Big f) line m a = record { mine = k.mine_same (Big f) ∙ m; has = (a.has.0, ap (λ n. in_span f n a.has.0) (k.span_same f (has_m (Big f) m)) ∙ a.has.1, a.has.2) }
-  lines_on Root line m a = record { mine = k.mine_same Root ∙ m; has = a.has }
+    lines_on : (B : Block) (line : ℕ) → has_own v B ≡ true → OwnHas v.fixed.shape (sight_of v).hold (geometry_of v) B line → OwnHas v.fixed.shape (sight_of next).hold (geometry_of next) B line
+    lines_on (Small c i) line m a = record {
+      mine = k.mine_same (Small c i) ∙ m;
+      has = subst (λ n. Rattle.pm_world.specs.BlockLines.IsInSmall v.fixed.shape n c i line) (sym (own_class c i m)) a.has;
+    }
+    lines_on (Big f) line m a = record { mine = k.mine_same (Big f) ∙ m; has = (a.has.0, ap (λ n. in_span f n a.has.0) (k.span_same f (has_m (Big f) m)) ∙ a.has.1, a.has.2) }
+    lines_on Root line m a = record { mine = k.mine_same Root ∙ m; has = a.has }
 
-  known_class : (kept : Bool) (c i : ℕ) → (has_found v (Small c i) || is_kept_block v kept (Small c i)) ≡ true → class t c ≡ class v.claims c
-  known_class kept c i e = ⊎_elim (λ (f : has_found v (Small c i) ≡ true). found_class c i f) (λ (m : is_kept_block v kept (Small c i) ≡ true). own_class c i (kept_own kept (Small c i) m))
-      (or_cases (has_found v (Small c i)) (is_kept_block v kept (Small c i)) e)
+    known_class : (kept : Bool) (c i : ℕ) → (has_found v (Small c i) || is_kept_block v kept (Small c i)) ≡ true → class t c ≡ class v.claims c
+    known_class kept c i e = ⊎_elim (λ (f : has_found v (Small c i) ≡ true). found_class c i f) (λ (m : is_kept_block v kept (Small c i) ≡ true). own_class c i (kept_own kept (Small c i) m))
+        (or_cases (has_found v (Small c i)) (is_kept_block v kept (Small c i)) e)
 
-  pub keeps_grows : (kept : Bool) → Grows v kept next kept
-  keeps_grows kept = record {
-    found = k.found_on;
-    spans = λ f e. k.span_same f (has_f (Big f) e);
-    class = known_class kept;
-    own = still_own kept;
-    lines = λ B line m a. lines_on B line (kept_own kept B m) a;
-    sees = sees_on;
-    recorded = λ p b _ e. inl e;
-    knows = known.knows_on v next refl (λ p b y f _ e. pictures_on p b y f e);
-    roots = k.roots_on;
-  }
+    pub keeps_grows : (kept : Bool) → Grows v kept next kept
+    keeps_grows kept = record {
+      found = k.found_on;
+      spans = λ f e. k.span_same f (has_f (Big f) e);
+      class = known_class kept;
+      own = still_own kept;
+      lines = λ B line m a. lines_on B line (kept_own kept B m) a;
+      sees = sees_on;
+      recorded = λ p b _ e. inl e;
+      knows = known.knows_on v next refl (λ p b y f _ e. pics p b y f e);
+      roots = k.roots_on;
+    }

@@ -28,7 +28,7 @@ use Rattle.pm_lock.specs.Objects.{has}
 use Rattle.pm_call.specs.At.{IsAt, IsDataOf, entries_so_far}
 use Rattle.pm_call.specs.Held.{HasObject, IsObjectWord, has_line, line_of}
 use Rattle.pm_call.proofs.KeptClaims.{KeepsAll}
-use Rattle.pm_call.proofs.KeptGrows.{KnowsOwnRuns, SeesInside, keeps_grows, locking}
+use Rattle.pm_call.proofs.KeptGrows.{KeepsPictures, KnowsOwnRuns, keeps_grows, locking}
 use Rattle.pm_call.proofs.KnownObjects.{fresh_is, size_known, size_word, word_number}
 use Rattle.pm_call.proofs.Noting.{header_line, offset_line}
 use Rattle.pm_call.proofs.ObjectWords.{object_place}
@@ -41,7 +41,7 @@ seal_no_place sh cl lane low = go (place_at sh cl (word_of_seal sh lane)) refl
     go None e = refl
     go (Some p) e = absurd (⊎_elim (λ (root : word_of_seal sh lane ≡ 64). let r = root in omega (arith, r)) (λ (far : IsBeyond sh (word_of_seal sh lane)). omega (arith, far, low)) (place_outside sh lane (word_of_seal sh lane) cl p e))
 
-module _ (s : Standing) (level : ℕ) (at : IsAt s level) (t : List Claim) (seen : List Step) (k : KeepsAll s.view t) (own : KnowsOwnRuns s.view) (sound : IsSound (locking s.view t seen)) (inside : SeesInside (locking s.view t seen)) where
+module _ (s : Standing) (level : ℕ) (at : IsAt s level) (t : List Claim) (seen : List Step) (k : KeepsAll s.view t) (own : KnowsOwnRuns s.view) (sound : IsSound (locking s.view t seen)) (pics : KeepsPictures s.view t) where
   abbrev v : View
   v = s.view
 
@@ -188,4 +188,4 @@ module _ (s : Standing) (level : ℕ) (at : IsAt s level) (t : List Claim) (seen
   bits_on q b = inl (same_bits q b (is_recorded v.log.records q) refl)
 
   pub sim_on : Sim next (entries_so_far s)
-  sim_on = sim_stays s.view next (entries_so_far s) (entries_so_far s) at.sim (record { fixed = refl; entries = refl }) refl (keeps_grows s.view t seen k at.sound sound own inside) bits_on
+  sim_on = sim_stays s.view next (entries_so_far s) (entries_so_far s) at.sim (record { fixed = refl; entries = refl }) refl (keeps_grows s.view t seen k at.sound sound own pics) bits_on

@@ -19,12 +19,13 @@ use Rattle.pm_model.specs.declared.stage.Stage.{Stage}
 use Rattle.pm_model.specs.declared.stage.Stage.TheVariants as stage
 use Rattle.pm_view.specs.Claims.{holds}
 use Rattle.pm_view.specs.Places.{Place, Small}
+use Rattle.pm_view.specs.Steps.{Step}
 use Rattle.pm_view.specs.Steps.Step.{Tell}
 use Rattle.pm_view.specs.View.{Told, View}
 use Rattle.pm_view.specs.Views.{after}
 use Rattle.pm_world.specs.InWorld.{IsSound, SizesFit}
 use Rattle.pm_world.specs.LaneFields.{Standing}
-use Rattle.pm_world.specs.Sights.{is_recorded}
+use Rattle.pm_world.specs.Sights.{is_recorded, picture}
 use Rattle.pm_world.specs.declared.lane.HeldLock.{HeldLock}
 use Rattle.pm_crash.specs.Looked.{IsChanged, items_seen, pool_seen, refusal_by}
 use Rattle.pm_crash.specs.Looks.{ids_freed, ids_sized}
@@ -48,8 +49,8 @@ use Rattle.pm_lock.proofs.ModelPlans.{plans_as}
 use Rattle.pm_call.specs.At.{AreLists, At, IsDataOf, MaySet, entries_so_far}
 use Rattle.pm_call.specs.Did.{unseen}
 use Rattle.pm_call.specs.Held.{AreHeld, HasObject, IsHeld, has_line, is_in_locks, line_of}
-use Rattle.pm_call.specs.Locking.{HoldsLocks, LeadsLocks, ObjectsMayBeLocked, TakesLocks, locks_with, to_take, to_write}
-use Rattle.pm_call.proofs.KeptGrows.{SeesInside, locking}
+use Rattle.pm_call.specs.Locking.{HoldsLocks, IsOfWorld, LeadsLocks, ObjectsMayBeLocked, TakesLocks, locks_with, to_take, to_write}
+use Rattle.pm_call.proofs.KeptGrows.{KeepsPictures, SeesInside, locking, pictures_on}
 use Rattle.pm_call.proofs.KeptWork.{data_on, held_size_on, object_on, seal_on, sim_on, working_on}
 use Rattle.pm_call.proofs.KnownObjects.{held_object, object_stands}
 use Rattle.pm_call.proofs.LockLists.{all_locked_is, any_at, chunk_high, listed_is, locks_are, locks_count, none_any, wants_off}
@@ -98,6 +99,12 @@ each_wanted wants (want ∷ more) so = (
   each_wanted wants more (λ off e. so off (or_right (want.id.off == off && (want.write || true)) (wants_off more off false) e)),
 )
 
+-- sizes fit whatever was seen
+sizes_seen : (v : View) (seen : List Step) → SizesFit v → SizesFit (locking v v.claims seen)
+sizes_seen v seen f (Small c i) n = f (Small c i) n
+sizes_seen v seen f (Rattle.pm_view.specs.Places.Big g) n = f (Rattle.pm_view.specs.Places.Big g) n
+sizes_seen v seen f Rattle.pm_view.specs.Places.Root n = f Rattle.pm_view.specs.Places.Root n
+
 -- WHAT THE OPERATION IS to the model
 pub record IsOp (v : View) (op : Operation) (wants : List Want) (level : ℕ) : Type 0 where
   pub leaves : leaves_copy op ≡ true
@@ -109,7 +116,7 @@ pub record IsOp (v : View) (op : Operation) (wants : List Want) (level : ℕ) : 
   pub works : is_working stage_then ≡ true
   pub done : after_reply op None (lists_of v) ≡ record (with_locks wants (lists_of v)) { level = level; stage = stage_then }
 
-module _ (s : Standing) (op : Operation) (wants : List Want) (level : ℕ) (x : View) (at : At s) (h : HoldsLocks s) (tk : TakesLocks s wants x)
+module _ (s : Standing) (op : Operation) (wants : List Want) (level : ℕ) (x : View) (at : At s) (h : HoldsLocks s) (tk : TakesLocks s op wants x)
     (placed : has_unplaced s.view.fixed.shape s.view.fixed.pool wants ≡ false) (few : length s.locks + length (to_take s wants) ≤ 64) where
   abbrev v : View
   v = s.view
@@ -118,7 +125,7 @@ module _ (s : Standing) (op : Operation) (wants : List Want) (level : ℕ) (x : 
   sh = s.view.fixed.shape
 
   pub taken : IsTakenView s wants x
-  taken = is_taken_view s wants x at h tk
+  taken = is_taken_view s op wants x at h tk
 
   abbrev pub next : View
   next = locking s.view taken.claims taken.seen
@@ -126,14 +133,28 @@ module _ (s : Standing) (op : Operation) (wants : List Want) (level : ℕ) (x : 
   pub next_is : x ≡ next
   next_is = taken.same
 
+  -- in a world, as it is once the operation is told; or as it was
+  abbrev told_then : View
+  told_then = after next (Tell op None)
+
   sound : IsSound next
-  sound = subst IsSound taken.same (world_sound x tk.word tk.value tk.world)
+  sound = ⊎_elim
+      (λ (w : IsOfWorld (after x (Tell op None))). sound_told told_then next.call next.actions next.published (subst (λ (u : View). IsSound (after u (Tell op None))) taken.same (world_sound (after x (Tell op None)) w.word w.value w.there)))
+      (λ (e : wants ≡ []). subst (λ t. IsSound (locking s.view t taken.seen)) (sym (taken.none e)) (record { small = at.sound.small; some = at.sound.some; zone = at.sound.zone; huge = at.sound.huge }))
+      tk.world
 
   fit : SizesFit next
-  fit = subst SizesFit taken.same (world_sizes x tk.word tk.value tk.world)
+  fit = ⊎_elim
+      (λ (w : IsOfWorld (after x (Tell op None))). sizes_told told_then next.call next.actions next.published (subst (λ (u : View). SizesFit (after u (Tell op None))) taken.same (world_sizes (after x (Tell op None)) w.word w.value w.there)))
+      (λ (e : wants ≡ []). subst (λ t. SizesFit (locking s.view t taken.seen)) (sym (taken.none e)) (sizes_seen s.view taken.seen at.sizes))
+      tk.world
 
-  inside : SeesInside next
-  inside = subst SeesInside taken.same (world_inside x tk.word tk.value (ap (λ (u : View). u.log.phase) taken.same ∙ at.working.is_open) tk.world)
+  pics : KeepsPictures s.view taken.claims
+  pics = ⊎_elim
+      (λ (w : IsOfWorld (after x (Tell op None))). pictures_on s.view taken.claims taken.seen taken.keeps at.sound sound
+          (subst (λ (u : View). SeesInside (after u (Tell op None))) taken.same (world_inside (after x (Tell op None)) w.word w.value (ap (λ (u : View). u.log.phase) taken.same ∙ at.working.is_open) w.there)))
+      (λ (e : wants ≡ []). λ p b y f q. ap (λ t. picture s.view.fixed.shape t p b) (taken.none e) ∙ q)
+      tk.world
 
   abbrev L : List HeldLock
   L = locks_with s wants
@@ -148,7 +169,7 @@ module _ (s : Standing) (op : Operation) (wants : List Want) (level : ℕ) (x : 
   held = all_held next (to_write s wants) (s.locks ++ to_take s wants)
       (all_on (λ (l : HeldLock). (l.line ≡ 0) ⊎ HasObject next l.line) s.locks (to_take s wants)
       (all_map (IsHeld s.view) (λ (l : HeldLock). (l.line ≡ 0) ⊎ HasObject next l.line) s.locks
-      (λ l o. ⊎_elim (λ (z : l.line ≡ 0). inl z) (λ (b : HasObject s.view l.line). inr (object_on s s.level at taken.claims taken.seen taken.keeps h.own sound inside l.line b)) o.object) at.held)
+      (λ l o. ⊎_elim (λ (z : l.line ≡ 0). inl z) (λ (b : HasObject s.view l.line). inr (object_on s s.level at taken.claims taken.seen taken.keeps h.own sound pics l.line b)) o.object) at.held)
       (all_map (λ (l : HeldLock). StandsAt x l.line) (λ (l : HeldLock). (l.line ≡ 0) ⊎ HasObject next l.line) (to_take s wants)
       (λ l o. inr (stands_object l.line (subst (λ (u : View). StandsAt u l.line) taken.same o))) taken.stands))
       each.held
@@ -242,7 +263,7 @@ module _ (s : Standing) (op : Operation) (wants : List Want) (level : ℕ) (x : 
         locked = still_locked a.id.off m.locked;
         aligned = m.aligned;
         size = m.size;
-        sized = held_size_on s s.level at taken.claims taken.seen taken.keeps h.own sound inside a.id.off o.0 o.1 ∙ m.sized;
+        sized = held_size_on s s.level at taken.claims taken.seen taken.keeps h.own sound pics a.id.off o.0 o.1 ∙ m.sized;
         inside = m.inside;
         small = m.small;
       }) at.lists.may_set;
@@ -256,7 +277,7 @@ module _ (s : Standing) (op : Operation) (wants : List Want) (level : ℕ) (x : 
     held_then = held_told next told.call told.actions told.published (locks_with s wants) held
 
     recorded_next : (p : Place) → is_recorded s.view.log.records p ≡ true → IsDataOf next p
-    recorded_next p e = data_on s s.level at taken.claims taken.seen taken.keeps h.own sound inside p (at.recorded p e)
+    recorded_next p e = data_on s s.level at taken.claims taken.seen taken.keeps h.own sound pics p (at.recorded p e)
 
     recorded_then : (p : Place) → is_recorded s.view.log.records p ≡ true → IsDataOf told p
     recorded_then p e = data_told next told.call told.actions told.published sound p (recorded_next p e)
@@ -289,7 +310,7 @@ module _ (s : Standing) (op : Operation) (wants : List Want) (level : ℕ) (x : 
     ran = record { operation = op; seen = unseen; reply = None }
 
     sim : Sim told (entries_so_far s)
-    sim = sim_extends next told (entries_so_far s) (entries_so_far s) None ran (sim_on s s.level at taken.claims taken.seen taken.keeps h.own sound inside)
+    sim = sim_extends next told (entries_so_far s) (entries_so_far s) None ran (sim_on s s.level at taken.claims taken.seen taken.keeps h.own sound pics)
         (record { keeps = record { fixed = refl; entries = refl }; call = refl }) (inr at.lists.works) (tells_grow next op None) (record {
           leaves = is.leaves;
           looks = looks;
@@ -304,14 +325,14 @@ module _ (s : Standing) (op : Operation) (wants : List Want) (level : ℕ) (x : 
 
     stands : At then
     stands = record {
-      working = working_told next told.call told.actions told.published (working_on s s.level at taken.claims taken.seen taken.keeps h.own sound inside);
+      working = working_told next told.call told.actions told.published (working_on s s.level at taken.claims taken.seen taken.keeps h.own sound pics);
       unbumped = at.unbumped;
       begun = begun_more s.view.call t at.begun;
       some = some;
       most = most;
       sound = sound_then;
       sizes = sizes_told next told.call told.actions told.published fit;
-      sealed = seal_on s s.level at taken.claims taken.seen taken.keeps h.own sound inside;
+      sealed = seal_on s s.level at taken.claims taken.seen taken.keeps h.own sound pics;
       number = record { seen = at.number.seen; told = taken.saw (Rattle.pm_view.specs.Steps.Step.NumberSeen at.number.seen) at.number.told; below = at.number.below; none = at.number.none };
       held = held_then;
       few = let m = many in omega (arith, m, few);
@@ -345,7 +366,7 @@ module _ (s : Standing) (at : At s) (h : HoldsLocks s) (x : View) where
   open_ : ((lists_of s.view).level == 0) ≡ false
   open_ = ne_eqb (lists_of s.view).level 0 (λ e. let l = at.lists.level_is in let some = at.some in omega (arith, e, l, some))
 
-  lock_leads : (want : Want) → has_unplaced s.view.fixed.shape s.view.fixed.pool (want ∷ []) ≡ false → length s.locks + length (to_take s (want ∷ [])) ≤ 64 → TakesLocks s (want ∷ []) x
+  lock_leads : (want : Want) → has_unplaced s.view.fixed.shape s.view.fixed.pool (want ∷ []) ≡ false → length s.locks + length (to_take s (want ∷ [])) ≤ 64 → TakesLocks s (Lock want) (want ∷ []) x
       → LeadsLocks s (Lock want) (want ∷ []) s.level x
   lock_leads want placed few tk = leads s (Lock want) (want ∷ []) s.level x at h tk placed few (record {
     leaves = refl;
@@ -370,7 +391,7 @@ module _ (s : Standing) (at : At s) (h : HoldsLocks s) (x : View) where
     ),
   ))
 
-  begin_leads : (wants : List Want) → s.level < 64 → has_unplaced s.view.fixed.shape s.view.fixed.pool wants ≡ false → length s.locks + length (to_take s wants) ≤ 64 → TakesLocks s wants x
+  begin_leads : (wants : List Want) → s.level < 64 → has_unplaced s.view.fixed.shape s.view.fixed.pool wants ≡ false → length s.locks + length (to_take s wants) ≤ 64 → TakesLocks s (Begin wants) wants x
       → LeadsLocks s (Begin wants) wants (s.level + 1) x
   begin_leads wants deep placed few tk = leads s (Begin wants) wants (s.level + 1) x at h tk placed few (record {
     leaves = refl;
@@ -405,8 +426,8 @@ module _ (s : Standing) (at : At s) (h : HoldsLocks s) (x : View) where
 pub objects_may_be_locked : ObjectsMayBeLocked
 objects_may_be_locked s (Lock want) wants level x at h may tk =
     subst (λ n. LeadsLocks s (Lock want) wants n x) (sym may.is.1)
-    (subst (λ ws. has_unplaced s.view.fixed.shape s.view.fixed.pool ws ≡ false → length s.locks + length (to_take s ws) ≤ 64 → TakesLocks s ws x → LeadsLocks s (Lock want) ws s.level x) (sym may.is.0) (lock_leads s at h x want) may.placed may.few tk)
+    (subst (λ ws. has_unplaced s.view.fixed.shape s.view.fixed.pool ws ≡ false → length s.locks + length (to_take s ws) ≤ 64 → TakesLocks s (Lock want) ws x → LeadsLocks s (Lock want) ws s.level x) (sym may.is.0) (lock_leads s at h x want) may.placed may.few tk)
 objects_may_be_locked s (Begin these) wants level x at h may tk =
     subst (λ n. LeadsLocks s (Begin these) wants n x) (sym may.is.1)
-    (subst (λ ws. has_unplaced s.view.fixed.shape s.view.fixed.pool ws ≡ false → length s.locks + length (to_take s ws) ≤ 64 → TakesLocks s ws x → LeadsLocks s (Begin these) ws (s.level + 1) x) (sym may.is.0) (begin_leads s at h x these may.is.2) may.placed may.few tk)
+    (subst (λ ws. has_unplaced s.view.fixed.shape s.view.fixed.pool ws ≡ false → length s.locks + length (to_take s ws) ≤ 64 → TakesLocks s (Begin these) ws x → LeadsLocks s (Begin these) ws (s.level + 1) x) (sym may.is.0) (begin_leads s at h x these may.is.2) may.placed may.few tk)
 objects_may_be_locked s op wants level x at h may tk = absurd may.is

@@ -3,8 +3,9 @@
 use Rattle.std.specs.Prelude.{filter, map}
 use Rattle.std.proofs.Common.{◌≡◌, ◌≢◌, ⊎_elim, inl, inr, ◌⊎◌, ℕ, ◌<◌, ◌≤◌, Bool, true, false, cond, not, ◌==◌, ◌&&◌, ◌||◌, Contains, List, [], ◌∷◌, ◌++◌, refl, sym, ap, ◌∙◌, subst}
 use Rattle.std.specs.List.{AllByRecursion, list_any}
-use Rattle.std.proofs.lemmas.Bool.{both_ways, and_parts, or_cases, or_left, or_right}
+use Rattle.std.proofs.lemmas.Bool.{and_right, both_ways, or_cases, or_left, or_right}
 use Rattle.std.proofs.lemmas.List.Elements.{Contains-append_right}
+use Rattle.pm_objects.specs.declared.calls.Operation.{Operation}
 use Rattle.pm_objects.specs.declared.calls.Want.{Want}
 use Rattle.pm_view.specs.Claims.{Claim, Raised, Took, holds, locked, reads}
 use Rattle.pm_view.specs.Log.{is_early}
@@ -14,12 +15,13 @@ use Rattle.pm_view.specs.View.{View}
 use Rattle.pm_view.specs.Views.{after, after_all}
 use Rattle.pm_world.specs.LaneFields.{Standing}
 use Rattle.pm_world.specs.declared.lane.HeldLock.{HeldLock}
-use Rattle.pm_lock.specs.Acquiring.{MayWant}
+use Rattle.pm_layout.specs.declared.shape.Shape.{Shape}
+use Rattle.pm_lock.specs.Acquiring.{AreFinds, MayWant}
 use Rattle.pm_lock.specs.Held.{HoldsEach}
 use Rattle.pm_lock.specs.Holding.{took}
 use Rattle.pm_lock.specs.Objects.{CanLook, HasLooked, StandsAt, is_chunk_line}
 use Rattle.pm_lock.specs.Raising.{is_raised, raised, raises, rose}
-use Rattle.pm_lock.specs.Wants.{is_listed}
+use Rattle.pm_lock.specs.Wants.{is_listed, planned_all}
 use Rattle.pm_lock.proofs.Acquired.{may_lock_wanted}
 use Rattle.pm_lock.proofs.HeldLocks.{held_are_raised, held_grow, held_stay}
 use Rattle.pm_lock.proofs.KeptBlocks.{raised_keep}
@@ -119,8 +121,27 @@ pub record IsTakenView (s : Standing) (wants : List Want) (x : View) : Type 0 wh
   pub each : HoldsEach x (locks_with s wants)
   pub stands : AllByRecursion (λ (l : HeldLock). StandsAt x l.line) (to_take s wants)
   pub only : (line : ℕ) → holds claims line ≡ true → is_listed (locks_with s wants) [] line ≡ true
+  -- where nothing is wanted nothing is claimed
+  pub none : wants ≡ [] → claims ≡ s.view.claims
 
-module _ (s : Standing) (wants : List Want) (x : View) (at : At s) (h : HoldsLocks s) (tk : TakesLocks s wants x) where
+-- ---- nothing is wanted
+after_none : (v : View) → after_all v [] ≡ v
+unfolding after_all
+after_none v = refl
+
+filter_none : (P : HeldLock → Bool) (locks : List HeldLock) → ((l : HeldLock) → P l ≡ false) → filter P locks ≡ []
+filter_none P [] e = refl
+filter_none P (l ∷ locks) e = ap (λ b. cond b (l ∷ filter P locks) (filter P locks)) (e l) ∙ filter_none P locks e
+
+none_taken : (s : Standing) → to_take s [] ≡ []
+unfolding planned_all
+none_taken s = refl
+
+no_finds : (sh : Shape) (looks : List Step) → AreFinds sh [] looks → looks ≡ []
+unfolding AreFinds
+no_finds sh looks f = f
+
+module _ (s : Standing) (op : Operation) (wants : List Want) (x : View) (at : At s) (h : HoldsLocks s) (tk : TakesLocks s op wants x) where
   abbrev v : View
   v = s.view
 
@@ -200,5 +221,13 @@ module _ (s : Standing) (wants : List Want) (x : View) (at : At s) (h : HoldsLoc
       (λ (q : has_lock up line ≡ true). has_filter (is_raised (to_write s wants)) all line q)
       (holds_rose up looked_here.0 line e))
 
+  none_last : wants ≡ [] → last_claims ≡ s.view.claims
+  none_last e =
+      let plan_none : to_take s wants ≡ [] = ap (to_take s) e ∙ none_taken s in
+      let looks_none : tk.looks ≡ [] = no_finds s.view.fixed.shape tk.looks (subst (λ P. AreFinds s.view.fixed.shape P tk.looks) plan_none tk.finds) in
+      let up_none : up ≡ [] = filter_none (is_raised (to_write s wants)) all (λ l. ap (λ (ws : List Want). is_raised (to_write s ws) l) e ∙ and_right (not l.write) false refl) in
+      ap (λ us. rose us looked_here.0) up_none
+      ∙ (ap (λ (y : View). y.claims) (sym looked_here.1 ∙ (ap (after_all under) looks_none ∙ after_none under)) ∙ ap (λ P. took P s.view.claims) plan_none)
+
   pub is_taken_view : IsTakenView s wants x
-  is_taken_view = record { claims = last_claims; seen = last_seen; same = last_is; keeps = keeps_last; saw = saw_last; each = each_last; stands = stands_last; only = only_last }
+  is_taken_view = record { claims = last_claims; seen = last_seen; same = last_is; keeps = keeps_last; saw = saw_last; each = each_last; stands = stands_last; only = only_last; none = none_last }

@@ -1,6 +1,6 @@
 -- A LANE AT WORK LOCKS OBJECTS, as a law: it takes the locks that are wanted, finds an object under each, raises those that are to be written, and tells the
 -- operation; and it is at work then, with the longer list of locks. pmemobj_tx_lock(3), and pmemobj_tx_begin(3) of an inner level.
-use Rattle.std.specs.Prelude.{◌≡◌, ◌≢◌, ℕ, ◌+◌, ◌<◌, ◌≤◌, Bool, true, false, Contains, List, [], ◌∷◌, ◌++◌, length, None}
+use Rattle.std.specs.Prelude.{◌≡◌, ◌≢◌, ◌⊎◌, ℕ, ◌+◌, ◌<◌, ◌≤◌, Bool, true, false, Contains, List, [], ◌∷◌, ◌++◌, length, None}
 use Rattle.std.specs.List.{AllByRecursion}
 use Rattle.pm_objects.specs.declared.calls.Operation.{Operation}
 use Rattle.pm_objects.specs.declared.calls.Operation.TheVariants.{Begin, Lock}
@@ -48,8 +48,15 @@ pub record HoldsLocks (s : Standing) : Type 0 where
 
 -- ---- WHAT IT DOES
 
--- it takes them, by tries or by waits; looks under each, and finds an object; raises those that are to be written; and its view is one of a world then
-pub record TakesLocks (s : Standing) (wants : List Want) (x : View) : Type 0 where
+-- the view is one of a world, as a look tells
+pub record IsOfWorld (v : View) : Type 0 where
+  pub word : ℕ
+  pub value : ℕ
+  pub there : InWorld v word value
+
+-- it takes them, by tries or by waits; looks under each, and finds an object; raises those that are to be written. Once the operation is told its view is one
+-- of a world, as its next look tells; or nothing is wanted
+pub record TakesLocks (s : Standing) (op : Operation) (wants : List Want) (x : View) : Type 0 where
   pub taken : View
   pub takes : IsTaken s.view (to_take s wants) taken
   pub told : (n : Step) → Contains s.view.seen n → Contains taken.seen n
@@ -58,9 +65,7 @@ pub record TakesLocks (s : Standing) (wants : List Want) (x : View) : Type 0 whe
   pub stays : HasLooked taken (after_all taken looks)
   pub objects : AllByRecursion (λ (l : HeldLock). StandsAt (after_all taken looks) l.line) (to_take s wants)
   pub raises_ : x ≡ after_all (after_all taken looks) (raises (to_write s wants) (s.locks ++ to_take s wants))
-  pub word : ℕ
-  pub value : ℕ
-  pub world : InWorld x word value
+  pub world : IsOfWorld (after x (Tell op None)) ⊎ (wants ≡ [])
 
 -- the operation that wants them, and the level then
 abbrev pub IsLocking : Operation → List Want → ℕ → ℕ → Type 0
@@ -87,7 +92,7 @@ pub record LeadsLocks (s : Standing) (op : Operation) (wants : List Want) (level
 
 -- THE LAW: a lane at work whose locks are those of its list may take more, and tell the operation
 abbrev pub ObjectsMayBeLocked : Type 0
-ObjectsMayBeLocked = (s : Standing) (op : Operation) (wants : List Want) (level : ℕ) (x : View) → At s → HoldsLocks s → MayLock s op wants level → TakesLocks s wants x
+ObjectsMayBeLocked = (s : Standing) (op : Operation) (wants : List Want) (level : ℕ) (x : View) → At s → HoldsLocks s → MayLock s op wants level → TakesLocks s op wants x
     → LeadsLocks s op wants level x
 
 -- and pm_lock may be asked for them
