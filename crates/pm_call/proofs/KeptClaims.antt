@@ -70,7 +70,7 @@ keeps_more v t t' a b = record {
         (or_cases (mine v.fixed.shape v.claims B) (found v.fixed.shape v.claims B) e)
 
 -- ---- A LOCK IS TAKEN, of a line that was not held and is not the root word's
-no_root_lock : (m w root : ℕ) → m ≢ 0 → ((m == 0) && (w == root)) ≡ false
+pub no_root_lock : (m w root : ℕ) → m ≢ 0 → ((m == 0) && (w == root)) ≡ false
 no_root_lock m w root ne = and_left (m == 0) (w == root) (ne_eqb m 0 ne)
 
 pub keeps_took : (v : View) (m : ℕ) (write : Bool) → m ≢ 0 → holds v.claims m ≡ false → KeepsAll v (Took m write ∷ v.claims)

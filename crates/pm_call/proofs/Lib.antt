@@ -32,3 +32,4 @@ pub mod WorldFacts
 pub mod TakenLocks
 pub mod LockedObjects
 pub mod LockRefusals
+pub mod TriedLocks

@@ -1,6 +1,5 @@
 -- WHY A LOCK IS REFUSED: the tests by the lane's list are the plain model's.
-use Rattle.std.specs.Prelude.{length}
-use Rattle.std.proofs.Common.{◌≡◌, ⊎_elim, inl, inr, ℕ, ◌+◌, ◌*◌, ◌-◌, ◌/◌, ◌%◌, ◌<◌, ◌≤◌, nat_le, nat_lt, Bool, true, false, cond, not, ◌==◌, ◌&&◌, ◌||◌, Contains, List, [], ◌∷◌, refl, sym, ap, ◌∙◌, subst, arith, rules, ne_eqb, eq-eqb, None, Some}
+use Rattle.std.proofs.Common.{◌≡◌, inl, inr, ℕ, ◌%◌, nat_le, Bool, true, false, cond, not, ◌==◌, ◌&&◌, ◌||◌, Contains, List, [], ◌∷◌, refl, sym, ap, ◌∙◌, subst, arith, rules, ne_eqb, eq-eqb, None, Some}
 use Rattle.std.specs.List.{list_any}
 use Rattle.std.proofs.lemmas.Bool.{and_from, and_left, and_right, both_ways, cond-false, false_from_ne_true, le-leb, leb-true}
 use Rattle.pm_objects.specs.declared.calls.Operation.{Operation}
@@ -9,15 +8,13 @@ use Rattle.pm_objects.specs.declared.calls.Want.{Want}
 use Rattle.pm_objects.specs.declared.ids.Oid.{Oid}
 use Rattle.pm_objects.specs.declared.refusal.Refusal.{Refusal}
 use Rattle.pm_model.specs.Blocks.{Block as Placed}
-use Rattle.pm_model.specs.Inside.{is_action, is_inside}
 use Rattle.pm_model.specs.Items.{is_among}
-use Rattle.pm_model.specs.Places.{has_place}
 use Rattle.pm_model.specs.Refusals.{Seen, Test, first_of, is_first_lock, is_tried, lock_tests, passes_locks}
 use Rattle.pm_model.specs.Transaction.{Transaction, is_gone, is_locked, is_new, is_working}
 use Rattle.pm_view.specs.Places.{Place}
 use Rattle.pm_world.specs.LaneFields.{Standing}
 use Rattle.pm_world.specs.Sights.{is_recorded}
-use Rattle.pm_crash.specs.Looked.{IsChanged, items_seen, pool_seen, refusal_by}
+use Rattle.pm_crash.specs.Looked.{IsChanged, items_seen, pool_seen}
 use Rattle.pm_crash.specs.Looks.{ids_freed, ids_sized}
 use Rattle.pm_crash.specs.Sim.{lists_of, tx_with}
 use Rattle.pm_crash.specs.SimOps.{LookedAt}

@@ -34,7 +34,7 @@ use Rattle.pm_call.proofs.KeptGrows.{locking}
 use Rattle.pm_call.proofs.LockLists.{chunk_high}
 use Rattle.pm_call.proofs.Noting.{all_map}
 
-all_with : {A : Type 0} (P Q R : A → Type 0) (xs : List A) → ((x : A) → P x → Q x → R x) → AllByRecursion P xs → AllByRecursion Q xs → AllByRecursion R xs
+pub all_with : {A : Type 0} (P Q R : A → Type 0) (xs : List A) → ((x : A) → P x → Q x → R x) → AllByRecursion P xs → AllByRecursion Q xs → AllByRecursion R xs
 all_with P Q R [] f a b = tt
 all_with P Q R (x ∷ xs) f a b = (f x a.0 b.0, all_with P Q R xs f a.1 b.1)
 
@@ -48,7 +48,7 @@ seen_raises [] v n there = there
 seen_raises (l ∷ locks) v n there = seen_raises locks (after v (Raise l.line true)) n (Contains-append_right (Raise l.line true ∷ []) v.seen n there)
 
 -- the fields of a view but its claims say nothing of what is kept
-keeps_seen : (v : View) (seen : List Step) (t t' : List Claim) → KeepsAll (locking v t seen) t' → KeepsAll (claiming v t) t'
+pub keeps_seen : (v : View) (seen : List Step) (t t' : List Claim) → KeepsAll (locking v t seen) t' → KeepsAll (claiming v t) t'
 keeps_seen v seen t t' k = record {
   holds_on = k.holds_on;
   making_same = k.making_same;
@@ -125,7 +125,7 @@ pub record IsTakenView (s : Standing) (wants : List Want) (x : View) : Type 0 wh
   pub none : wants ≡ [] → claims ≡ s.view.claims
 
 -- ---- nothing is wanted
-after_none : (v : View) → after_all v [] ≡ v
+pub after_none : (v : View) → after_all v [] ≡ v
 unfolding after_all
 after_none v = refl
 

@@ -1,4 +1,4 @@
-ghost use Rattle.pm_call.specs.LockRefusals.{LockRefusals, RefusedLocksGiveUp};
+ghost use Rattle.pm_call.specs.LockRefusals.{LockRefusals, RefusedLocksGiveUp, TriedLocksLeaveWork};
 ghost use Rattle.pm_call.specs.Locking.{LocksMayBeWanted, ObjectsMayBeLocked};
 
 /// A law: a lane at work whose locks are those of its list may ask `pm_lock` for more, of any objects
@@ -25,4 +25,11 @@ pub fn refusals_of_locks_are_the_models()
 /// runs.
 pub fn refused_locks_give_up()
     ensures { RefusedLocksGiveUp }
+{}
+
+/// A law: a lane that got some of the locks that are wanted, and looked under some of them, before it is
+/// refused, is at work still with the list of locks that it had; so its transaction may be given up. No
+/// code runs.
+pub fn tried_locks_leave_work()
+    ensures { TriedLocksLeaveWork }
 {}
