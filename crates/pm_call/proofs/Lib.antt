@@ -26,3 +26,13 @@ pub mod WriteChecks
 pub mod Checks
 pub mod RangeLooks
 pub mod ReadBytes
+pub mod KeptClaims
+pub mod KeptByLooks
+pub mod KeptGrows
+pub mod KeptWork
+pub mod LockLists
+pub mod WorldFacts
+pub mod TakenLocks
+pub mod LockedObjects
+pub mod LockRefusals
+pub mod TriedLocks

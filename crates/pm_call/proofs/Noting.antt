@@ -155,7 +155,7 @@ module _ (v : View) (call actions published : List Told) where
   abbrev told : View
   told = record v { call = call; actions = actions; published = published }
 
-  working_told : IsWorking v → IsWorking told
+  pub working_told : IsWorking v → IsWorking told
   working_told w = record {
     is_open = w.is_open;
     whole = w.whole;
@@ -172,15 +172,15 @@ module _ (v : View) (call actions published : List Told) where
     known = w.known;
   }
 
-  sound_told : IsSound v → IsSound told
+  pub sound_told : IsSound v → IsSound told
   sound_told s = record { small = s.small; some = s.some; zone = s.zone; huge = s.huge }
 
-  sizes_told : SizesFit v → SizesFit told
+  pub sizes_told : SizesFit v → SizesFit told
   sizes_told f (Small c i) x = f (Small c i) x
   sizes_told f (Big h) x = f (Big h) x
   sizes_told f Rattle.pm_view.specs.Places.Root x = f Rattle.pm_view.specs.Places.Root x
 
-  held_told : (locks : List HeldLock) → AreHeld v locks → AreHeld told locks
+  pub held_told : (locks : List HeldLock) → AreHeld v locks → AreHeld told locks
   held_told locks all = all_map (IsHeld v) (IsHeld told) locks (λ l h. record {
     held = h.held;
     object = ⊎_elim (λ (z : l.line ≡ 0). inl z) (λ (o : HasObject v l.line). inr (record { block = o.block; found = o.found; at = o.at; inside = o.inside })) h.object;

@@ -8,3 +8,5 @@ pub mod Reading
 pub mod RangeLaws
 pub mod Writing
 pub mod Adding
+pub mod Locking
+pub mod LockRefusals

@@ -12,6 +12,7 @@ mod adding;
 mod checking;
 mod holding;
 mod laws;
+mod locking;
 mod ranges;
 mod reading;
 mod rollback;
@@ -22,6 +23,10 @@ pub use adding::{do_add, ranges_may_be_added};
 pub use checking::{check_range, check_words, holds};
 pub use holding::is_held;
 pub use laws::transactions_may_be_given_up;
+pub use locking::{
+    locks_may_be_wanted, objects_may_be_locked, refusals_of_locks_are_the_models,
+    refused_locks_give_up, tried_locks_leave_work,
+};
 pub use ranges::{ranges_are_looked_at, refusals_of_ranges_are_the_models};
 pub use reading::{do_read, ranges_may_be_read};
 pub use rollback::{give_up, refuse, stop, take_back};

@@ -1,0 +1,233 @@
+-- A LANE THAT TOOK LOCKS, looked under them and raised some has a view that is as it was but for its claims and for what the tries told; it has and knows what
+-- it did, and holds the longer list of locks, and no other.
+use Rattle.std.specs.Prelude.{filter, map}
+use Rattle.std.proofs.Common.{◌≡◌, ◌≢◌, ⊎_elim, inl, inr, ◌⊎◌, ℕ, ◌<◌, ◌≤◌, Bool, true, false, cond, not, ◌==◌, ◌&&◌, ◌||◌, Contains, List, [], ◌∷◌, ◌++◌, refl, sym, ap, ◌∙◌, subst}
+use Rattle.std.specs.List.{AllByRecursion, list_any}
+use Rattle.std.proofs.lemmas.Bool.{and_right, both_ways, or_cases, or_left, or_right}
+use Rattle.std.proofs.lemmas.List.Elements.{Contains-append_right}
+use Rattle.pm_objects.specs.declared.calls.Operation.{Operation}
+use Rattle.pm_objects.specs.declared.calls.Want.{Want}
+use Rattle.pm_view.specs.Claims.{Claim, Raised, Took, holds, locked, reads}
+use Rattle.pm_view.specs.Log.{is_early}
+use Rattle.pm_view.specs.Steps.{Step}
+use Rattle.pm_view.specs.Steps.Step.{Raise}
+use Rattle.pm_view.specs.View.{View}
+use Rattle.pm_view.specs.Views.{after, after_all}
+use Rattle.pm_world.specs.LaneFields.{Standing}
+use Rattle.pm_world.specs.declared.lane.HeldLock.{HeldLock}
+use Rattle.pm_layout.specs.declared.shape.Shape.{Shape}
+use Rattle.pm_lock.specs.Acquiring.{AreFinds, MayWant}
+use Rattle.pm_lock.specs.Held.{HoldsEach}
+use Rattle.pm_lock.specs.Holding.{took}
+use Rattle.pm_lock.specs.Objects.{CanLook, HasLooked, StandsAt, is_chunk_line}
+use Rattle.pm_lock.specs.Raising.{is_raised, raised, raises, rose}
+use Rattle.pm_lock.specs.Wants.{is_listed, planned_all}
+use Rattle.pm_lock.proofs.Acquired.{may_lock_wanted}
+use Rattle.pm_lock.proofs.HeldLocks.{held_are_raised, held_grow, held_stay}
+use Rattle.pm_lock.proofs.KeptBlocks.{raised_keep}
+use Rattle.pm_lock.proofs.RaisedClaims.{are_raised}
+use Rattle.pm_call.specs.At.{At}
+use Rattle.pm_call.specs.Locking.{HoldsLocks, LocksMayBeWanted, TakesLocks, locks_with, to_take, to_write}
+use Rattle.pm_call.proofs.KeptByLooks.{keeps_looked}
+use Rattle.pm_call.proofs.KeptClaims.{IsFree, KeepsAll, claiming, keeps_more, keeps_rose, keeps_taken}
+use Rattle.pm_call.proofs.KeptGrows.{locking}
+use Rattle.pm_call.proofs.LockLists.{chunk_high}
+use Rattle.pm_call.proofs.Noting.{all_map}
+
+pub all_with : {A : Type 0} (P Q R : A → Type 0) (xs : List A) → ((x : A) → P x → Q x → R x) → AllByRecursion P xs → AllByRecursion Q xs → AllByRecursion R xs
+all_with P Q R [] f a b = tt
+all_with P Q R (x ∷ xs) f a b = (f x a.0 b.0, all_with P Q R xs f a.1 b.1)
+
+pub locks_may_be_wanted : LocksMayBeWanted
+locks_may_be_wanted s at h = record { shape = refl; area = at.working.lane; early = ap is_early at.working.is_open; unmaking = at.working.unmaking; listed = h.only }
+
+-- what was seen, was seen
+seen_raises : (locks : List HeldLock) (v : View) (n : Step) → Contains v.seen n → Contains (after_all v (map (λ (l : HeldLock). Raise l.line true) locks)).seen n
+unfolding after_all
+seen_raises [] v n there = there
+seen_raises (l ∷ locks) v n there = seen_raises locks (after v (Raise l.line true)) n (Contains-append_right (Raise l.line true ∷ []) v.seen n there)
+
+-- the fields of a view but its claims say nothing of what is kept
+pub keeps_seen : (v : View) (seen : List Step) (t t' : List Claim) → KeepsAll (locking v t seen) t' → KeepsAll (claiming v t) t'
+keeps_seen v seen t t' k = record {
+  holds_on = k.holds_on;
+  making_same = k.making_same;
+  mine_same = k.mine_same;
+  found_on = k.found_on;
+  span_same = k.span_same;
+  class_same = k.class_same;
+  data_same = k.data_same;
+  beside = k.beside;
+  root_same = k.root_same;
+  roots_on = k.roots_on;
+}
+
+-- ---- no other line is held
+abbrev has_lock : List HeldLock → ℕ → Bool
+has_lock locks line = list_any (λ (l : HeldLock). l.line == line) locks
+
+one_taken : (w a b c : Bool) → (((w && a) || b) || ((not w && a) || c)) ≡ true → (a ≡ true) ⊎ ((b || c) ≡ true)
+one_taken w true b c e = inl refl
+one_taken true false b c e = inr e
+one_taken false false b c e = inr e
+
+one_raised : (a b c : Bool) → ((a || b) || (not a && c)) ≡ true → (a ≡ true) ⊎ ((b || c) ≡ true)
+one_raised true b c e = inl refl
+one_raised false b c e = inr e
+
+holds_taken : (locks : List HeldLock) (t : List Claim) (line : ℕ) → holds (took locks t) line ≡ true → (holds t line ≡ true) ⊎ (has_lock locks line ≡ true)
+holds_taken [] t line e = inl e
+holds_taken (l ∷ locks) t line e = ⊎_elim
+    (λ (h : holds (Took l.line l.write ∷ t) line ≡ true). ⊎_elim (λ (q : (l.line == line) ≡ true). inr (or_left (l.line == line) (has_lock locks line) q)) (λ (q : holds t line ≡ true). inl q) (one_taken l.write (l.line == line) (locked t line) (reads t line) h))
+    (λ (h : has_lock locks line ≡ true). inr (or_right (l.line == line) (has_lock locks line) h))
+    (holds_taken locks (Took l.line l.write ∷ t) line e)
+
+holds_rose : (locks : List HeldLock) (t : List Claim) (line : ℕ) → holds (rose locks t) line ≡ true → (holds t line ≡ true) ⊎ (has_lock locks line ≡ true)
+holds_rose [] t line e = inl e
+holds_rose (l ∷ locks) t line e = ⊎_elim
+    (λ (h : holds (Raised l.line ∷ t) line ≡ true). ⊎_elim (λ (q : (l.line == line) ≡ true). inr (or_left (l.line == line) (has_lock locks line) q)) (λ (q : holds t line ≡ true). inl q) (one_raised (l.line == line) (locked t line) (reads t line) h))
+    (λ (h : has_lock locks line ≡ true). inr (or_right (l.line == line) (has_lock locks line) h))
+    (holds_rose locks (Raised l.line ∷ t) line e)
+
+has_filter : (P : HeldLock → Bool) (locks : List HeldLock) (line : ℕ) → has_lock (filter P locks) line ≡ true → has_lock locks line ≡ true
+has_filter P [] line e = e
+has_filter P (l ∷ locks) line e = by (P l) (has_filter P locks line) e where
+  by : (b : Bool) → (has_lock (filter P locks) line ≡ true → has_lock locks line ≡ true) → has_lock (cond b (l ∷ filter P locks) (filter P locks)) line ≡ true → (l.line == line || has_lock locks line) ≡ true
+  by true rest e = ⊎_elim (λ (h : (l.line == line) ≡ true). or_left (l.line == line) (has_lock locks line) h) (λ (h : has_lock (filter P locks) line ≡ true). or_right (l.line == line) (has_lock locks line) (rest h)) (or_cases (l.line == line) (has_lock (filter P locks) line) e)
+  by false rest e = or_right (l.line == line) (has_lock locks line) (rest e)
+
+has_left : (one two : List HeldLock) (line : ℕ) → has_lock one line ≡ true → has_lock (one ++ two) line ≡ true
+has_left [] two line e = absurd (both_ways false refl e)
+has_left (l ∷ one) two line e = ⊎_elim (λ (h : (l.line == line) ≡ true). or_left (l.line == line) (has_lock (one ++ two) line) h) (λ (h : has_lock one line ≡ true). or_right (l.line == line) (has_lock (one ++ two) line) (has_left one two line h)) (or_cases (l.line == line) (has_lock one line) e)
+
+has_right : (one two : List HeldLock) (line : ℕ) → has_lock two line ≡ true → has_lock (one ++ two) line ≡ true
+has_right [] two line e = e
+has_right (l ∷ one) two line e = or_right (l.line == line) (has_lock (one ++ two) line) (has_right one two line e)
+
+has_raised : (writes : ℕ → Bool) (locks : List HeldLock) (line : ℕ) → has_lock (raised writes locks) line ≡ has_lock locks line
+has_raised writes [] line = refl
+has_raised writes (l ∷ locks) line = ap (λ b. l.line == line || b) (has_raised writes locks line)
+
+listed_has : (locks : List HeldLock) (line : ℕ) → is_listed locks [] line ≡ true → has_lock locks line ≡ true
+listed_has locks line e = ⊎_elim (λ (h : has_lock locks line ≡ true). h) (λ (h : false ≡ true). absurd (both_ways false refl h)) (or_cases (has_lock locks line) false e)
+
+-- ---- THE VIEW THEN
+pub record IsTakenView (s : Standing) (wants : List Want) (x : View) : Type 0 where
+  pub claims : List Claim
+  pub seen : List Step
+  pub same : x ≡ locking s.view claims seen
+  pub keeps : KeepsAll s.view claims
+  pub saw : (n : Step) → Contains s.view.seen n → Contains seen n
+  pub each : HoldsEach x (locks_with s wants)
+  pub stands : AllByRecursion (λ (l : HeldLock). StandsAt x l.line) (to_take s wants)
+  pub only : (line : ℕ) → holds claims line ≡ true → is_listed (locks_with s wants) [] line ≡ true
+  -- where nothing is wanted nothing is claimed
+  pub none : wants ≡ [] → claims ≡ s.view.claims
+
+-- ---- nothing is wanted
+pub after_none : (v : View) → after_all v [] ≡ v
+unfolding after_all
+after_none v = refl
+
+filter_none : (P : HeldLock → Bool) (locks : List HeldLock) → ((l : HeldLock) → P l ≡ false) → filter P locks ≡ []
+filter_none P [] e = refl
+filter_none P (l ∷ locks) e = ap (λ b. cond b (l ∷ filter P locks) (filter P locks)) (e l) ∙ filter_none P locks e
+
+none_taken : (s : Standing) → to_take s [] ≡ []
+unfolding planned_all
+none_taken s = refl
+
+no_finds : (sh : Shape) (looks : List Step) → AreFinds sh [] looks → looks ≡ []
+unfolding AreFinds
+no_finds sh looks f = f
+
+module _ (s : Standing) (op : Operation) (wants : List Want) (x : View) (at : At s) (h : HoldsLocks s) (tk : TakesLocks s op wants x) where
+  abbrev v : View
+  v = s.view
+
+  abbrev plan : List HeldLock
+  plan = to_take s wants
+
+  abbrev all : List HeldLock
+  all = s.locks ++ to_take s wants
+
+  abbrev up : List HeldLock
+  up = filter (is_raised (to_write s wants)) (s.locks ++ to_take s wants)
+
+  may : MayWant s.view s.view.fixed.shape s.locks []
+  may = locks_may_be_wanted s at h
+
+  lines : AllByRecursion (λ (l : HeldLock). is_chunk_line s.view.fixed.shape l.line ≡ true) (to_take s wants)
+  lines = all_map (λ (l : HeldLock). CanLook tk.taken s.view.fixed.shape l.line) (λ (l : HeldLock). is_chunk_line s.view.fixed.shape l.line ≡ true) plan (λ l c. c.chunk)
+      ((may_lock_wanted v v.fixed.shape v.fixed.pool s.locks [] wants may).looks tk.taken tk.takes)
+
+  free : AllByRecursion (IsFree s.view.claims) (to_take s wants)
+  free = all_with (λ (l : HeldLock). Rattle.pm_world.specs.Lawful.MayTake s.view l.line) (λ (l : HeldLock). is_chunk_line s.view.fixed.shape l.line ≡ true) (IsFree s.view.claims) plan
+      (λ l m c. ((λ z. both_ways (is_chunk_line v.fixed.shape l.line) (no_line z) c), m.free)) (may_lock_wanted v v.fixed.shape v.fixed.pool s.locks [] wants may).takes.each lines
+    where
+      no_line : {line : ℕ} → line ≡ 0 → is_chunk_line v.fixed.shape line ≡ false
+      no_line {line} z = Rattle.std.proofs.lemmas.Bool.false_from_ne_true (is_chunk_line v.fixed.shape line) (λ c. let high = chunk_high v.fixed.shape line c in omega (Rattle.std.proofs.Common.arith, z, high))
+
+  abbrev first : List Claim
+  first = took (to_take s wants) s.view.claims
+
+  abbrev under : View
+  under = locking s.view first tk.taken.seen
+
+  looked_here : (t : List Claim) × (after_all under tk.looks ≡ claiming under t) × KeepsAll under t
+  looked_here = keeps_looked under plan tk.looks at.working.lane (ap is_early at.working.is_open) lines tk.finds (subst (λ (y : View). HasLooked y (after_all y tk.looks)) tk.takes tk.stays)
+
+  abbrev found_view : View
+  found_view = locking s.view looked_here.0 tk.taken.seen
+
+  found_is : after_all tk.taken tk.looks ≡ found_view
+  found_is = ap (λ (y : View). after_all y tk.looks) tk.takes ∙ looked_here.1
+
+  abbrev last_claims : List Claim
+  last_claims = rose up looked_here.0
+
+  abbrev last_seen : List Step
+  last_seen = (after_all found_view (raises (to_write s wants) all)).seen
+
+  last_is : x ≡ locking s.view last_claims last_seen
+  last_is = tk.raises_ ∙ (ap (λ (y : View). after_all y (raises (to_write s wants) all)) found_is ∙ (are_raised (to_write s wants) found_view all).same)
+
+  keeps_last : KeepsAll s.view last_claims
+  keeps_last = keeps_more v looked_here.0 last_claims
+      (keeps_more v first looked_here.0 (keeps_taken v plan (may_lock_wanted v v.fixed.shape v.fixed.pool s.locks [] wants may).takes.rises free) (keeps_seen v tk.taken.seen first looked_here.0 looked_here.2))
+      (keeps_rose (claiming v looked_here.0) up)
+
+  saw_last : (n : Step) → Contains s.view.seen n → Contains last_seen n
+  saw_last n there = seen_raises up found_view n (tk.told n there)
+
+  each_last : HoldsEach x (locks_with s wants)
+  each_last = subst (λ (y : View). HoldsEach y (locks_with s wants)) (sym tk.raises_)
+      (held_are_raised (after_all tk.taken tk.looks) (to_write s wants) all (held_stay tk.taken (after_all tk.taken tk.looks) all tk.stays (held_grow v tk.taken v.fixed.shape v.fixed.pool s.locks [] wants may h.each tk.takes)))
+
+  stands_last : AllByRecursion (λ (l : HeldLock). StandsAt x l.line) (to_take s wants)
+  stands_last = all_map (λ (l : HeldLock). StandsAt (after_all tk.taken tk.looks) l.line) (λ (l : HeldLock). StandsAt x l.line) plan
+      (λ l o. subst (λ (y : View). StandsAt y l.line) (sym tk.raises_) ((raised_keep (after_all tk.taken tk.looks) (to_write s wants) all).stands l.line o)) tk.objects
+
+  looked_locks : (line : ℕ) → holds looked_here.0 line ≡ holds first line
+  looked_locks line = let stays : HasLooked under (claiming under looked_here.0) = subst (HasLooked under) looked_here.1 (subst (λ (y : View). HasLooked y (after_all y tk.looks)) tk.takes tk.stays) in
+      (λ i. stays.locked line i || stays.reads line i)
+
+  only_last : (line : ℕ) → holds last_claims line ≡ true → is_listed (locks_with s wants) [] line ≡ true
+  only_last line e = or_left (has_lock (locks_with s wants) line) false (has_raised (to_write s wants) all line ∙ ⊎_elim
+      (λ (q : holds looked_here.0 line ≡ true). ⊎_elim
+      (λ (r : holds s.view.claims line ≡ true). has_left s.locks plan line (listed_has s.locks line (h.only line r)))
+      (λ (r : has_lock plan line ≡ true). has_right s.locks plan line r)
+      (holds_taken plan s.view.claims line (sym (looked_locks line) ∙ q)))
+      (λ (q : has_lock up line ≡ true). has_filter (is_raised (to_write s wants)) all line q)
+      (holds_rose up looked_here.0 line e))
+
+  none_last : wants ≡ [] → last_claims ≡ s.view.claims
+  none_last e =
+      let plan_none : to_take s wants ≡ [] = ap (to_take s) e ∙ none_taken s in
+      let looks_none : tk.looks ≡ [] = no_finds s.view.fixed.shape tk.looks (subst (λ P. AreFinds s.view.fixed.shape P tk.looks) plan_none tk.finds) in
+      let up_none : up ≡ [] = filter_none (is_raised (to_write s wants)) all (λ l. ap (λ (ws : List Want). is_raised (to_write s ws) l) e ∙ and_right (not l.write) false refl) in
+      ap (λ us. rose us looked_here.0) up_none
+      ∙ (ap (λ (y : View). y.claims) (sym looked_here.1 ∙ (ap (after_all under) looks_none ∙ after_none under)) ∙ ap (λ P. took P s.view.claims) plan_none)
+
+  pub is_taken_view : IsTakenView s wants x
+  is_taken_view = record { claims = last_claims; seen = last_seen; same = last_is; keeps = keeps_last; saw = saw_last; each = each_last; stands = stands_last; only = only_last; none = none_last }

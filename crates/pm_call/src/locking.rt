@@ -1,0 +1,35 @@
+ghost use Rattle.pm_call.specs.LockRefusals.{LockRefusals, RefusedLocksGiveUp, TriedLocksLeaveWork};
+ghost use Rattle.pm_call.specs.Locking.{LocksMayBeWanted, ObjectsMayBeLocked};
+
+/// A law: a lane at work whose locks are those of its list may ask `pm_lock` for more, of any objects
+/// that it wants. No code runs.
+pub fn locks_may_be_wanted()
+    ensures { LocksMayBeWanted }
+{}
+
+/// A law: a lane at work that took the locks that are wanted, found an object under each, and raised
+/// those that are to be written, may tell the operation, a lock or a begin of an inner level; it is at
+/// work then, with the longer list of locks. No code runs.
+pub fn objects_may_be_locked()
+    ensures { ObjectsMayBeLocked }
+{}
+
+/// A law: the plain model's first refusal of a lock, or of a begin of an inner level, is that of the
+/// first of these tests that applies: too many locks, an id without a place, a lock of another lane, no
+/// object under a lock that was taken. No code runs.
+pub fn refusals_of_locks_are_the_models()
+    ensures { LockRefusals }
+{}
+
+/// A law: a lock, or a begin of an inner level, that is refused so gives the transaction up. No code
+/// runs.
+pub fn refused_locks_give_up()
+    ensures { RefusedLocksGiveUp }
+{}
+
+/// A law: a lane that got some of the locks that are wanted, and looked under some of them, before it is
+/// refused, is at work still with the list of locks that it had; so its transaction may be given up. No
+/// code runs.
+pub fn tried_locks_leave_work()
+    ensures { TriedLocksLeaveWork }
+{}
