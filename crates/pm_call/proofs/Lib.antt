@@ -23,3 +23,5 @@ pub mod AddedRanges
 pub mod AddedLanes
 pub mod Calls
 pub mod WriteChecks
+pub mod Committing
+pub mod Persisted

@@ -24,7 +24,7 @@ use Rattle.pm_crash.specs.SimFacts.{is_begun}
 use Rattle.pm_undo.specs.Records.{kept_by}
 use Rattle.pm_undo.specs.Spans as spans
 use Rattle.pm_undo.specs.Working.{IsWorking}
-use Rattle.pm_call.specs.Held.{AreHeld, is_in_locks}
+use Rattle.pm_call.specs.Held.{AreHeld, AreLines, is_in_locks}
 
 -- the entries of the blocks that the call made and freed so far: none, as long as no call of a transaction makes or frees a block
 abbrev pub entries_so_far : Standing → List Entry
@@ -88,6 +88,7 @@ pub record IsAt (s : Standing) (level : ℕ) : Type 0 where
   pub sealed : value_in s.view (word_of_seal s.view.fixed.shape s.view.fixed.lane) ≡ Some 0
   pub number : MayTakeNumber s.view
   pub held : AreHeld s.view s.locks
+  pub lines : AreLines s.view.fixed.shape s.locks
   pub few : length s.locks ≤ 64
   pub recorded : (p : Place) → is_recorded s.view.log.records p ≡ true → IsDataOf s.view p
   pub lists : AreLists s level (lists_of s.view)

@@ -8,3 +8,5 @@ pub mod Reading
 pub mod RangeLaws
 pub mod Writing
 pub mod Adding
+pub mod Stages
+pub mod Commits
