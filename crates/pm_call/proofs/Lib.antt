@@ -25,3 +25,4 @@ pub mod Calls
 pub mod WriteChecks
 pub mod Committing
 pub mod Persisted
+pub mod Outermost

@@ -1,6 +1,6 @@
 -- THE OUTERMOST LEVEL OF A CALL WITHOUT ENTRIES MAY BE COMMITTED, whatever number it takes; and the call is over then.
 use Rattle.std.proofs.Common.{◌≡◌, ◌≢◌, ℕ, zero, suc, ◌+◌, ◌*◌, ◌<◌, ◌≤◌, inl, inr, ⊎_elim, Bool, true, false, cond, ◌==◌, List, [], ◌∷◌, ◌++◌, length, map, refl, sym, ap, ◌∙◌, subst, arith, Option, None, Some}
-use Rattle.std.proofs.lemmas.Bool.{both_ways}
+use Rattle.std.proofs.lemmas.Bool.{cond-false, ne_eqb}
 use Rattle.std.proofs.lemmas.List.Elements.{All-nil}
 use Rattle.pm_layout.specs.Areas.{word_of_generation, word_of_seal}
 use Rattle.pm_model.specs.Pending.{SetWord}
@@ -55,7 +55,7 @@ module _ (s : Standing) (at : At s) (one_ : s.level ≡ 1) (none : s.entries ≡
   abbrev v : View
   v = s.view
 
-  d : IsDrained s.view (after_all s.view (persists_all s.view)) records
+  pub d : IsDrained s.view (after_all s.view (persists_all s.view)) records
   d = drained_by s.view at.working at.unbumped records are
 
   abbrev p : View
@@ -146,11 +146,14 @@ module _ (s : Standing) (at : At s) (one_ : s.level ≡ 1) (none : s.entries ≡
   }
 
 -- WHAT THE END OF THE RECORDS LEAVES
-record Ends (s : Standing) (u : View) (records : List Recorded) (number : ℕ) : Type 0 where
-  pub ready : Ready u (ends_records u)
-  pub over : IsOver (moved s (after_all u (ends_records u)))
-  pub generation : (after_all u (ends_records u)).log.generation ≡ generation_after records s.view.log.generation
-  pub number_is : last_number (after_all u (ends_records u)).entries ≡ number
+record EndsBy (s : Standing) (u : View) (steps : List Step) (records : List Recorded) (number : ℕ) : Type 0 where
+  pub ready : Ready u steps
+  pub over : IsOver (moved s (after_all u steps))
+  pub generation : (after_all u steps).log.generation ≡ generation_after records s.view.log.generation
+  pub number_is : last_number (after_all u steps).entries ≡ number
+
+abbrev Ends : Standing → View → List Recorded → ℕ → Type 0
+Ends s u records number = EndsBy s u (ends_records u) records number
 
 module _ (s : Standing) (at : At s) (one_ : s.level ≡ 1) (none : s.entries ≡ []) (n : ℕ) where
   ends_none : (are : s.view.log.records ≡ []) → Ends s (done s at one_ none [] are n) [] (suc n)
@@ -198,12 +201,12 @@ module _ (s : Standing) (at : At s) (one_ : s.level ≡ 1) (none : s.entries ≡
         ∙ (t.others (word_of_seal s.view.fixed.shape s.view.fixed.lane) (λ e. omega (arith, e)) ∙ (here s at one_ none (r ∷ rest) are).sealed)
 
     ends_some : Ends s (done s at one_ none (r ∷ rest) are n) (r ∷ rest) (suc n)
-    ends_some = record {
+    ends_some = subst (λ (steps : List Step). EndsBy s u steps (r ∷ rest) (suc n)) (sym (cond-false (suc (length rest) == 0) [] (retires u) (ne_eqb (suc (length rest)) 0 (λ e. omega (arith, e))))) (record {
       ready = (retire_lawful u can).0;
       over = subst (λ (y : View). IsOver (moved s y)) (sym same) (over_then s at one_ none (r ∷ rest) are n t.noted.notes w.calls (s.view.log.generation + 1) t.noted.each known sealed);
       generation = ap (λ (y : View). y.log.generation) same;
       number_is = ap (λ (y : View). last_number y.entries) same;
-    }
+    })
 
   ends_by : (records : List Recorded) (are : s.view.log.records ≡ records) → Ends s (done s at one_ none records are n) records (suc n)
   ends_by [] are = ends_none are
@@ -232,7 +235,32 @@ module _ (s : Standing) (at : At s) (one_ : s.level ≡ 1) (none : s.entries ≡
   unfolding in_turn one after_all
   steps_at y = refl
 
-  plan_is : commits s.entries (λ i. 0) n s.view ≡ persists_all s.view ++ steps
+  plan_is : (found : ℕ → ℕ) → commits s.entries found n s.view ≡ persists_all s.view ++ steps
   unfolding in_turn
-  plan_is = ap (λ (es : List Redo). commits es (λ i. 0) n s.view) none
+  plan_is found = ap (λ (es : List Redo). commits es found n s.view) none
       ∙ ap (λ z. persists_all s.view ++ z) (steps_at w_ ∙ ap (λ (y : View). Tell Commit None ∷ Draw n ∷ ends_records (after (after y (Tell Commit None)) (Draw n))) drained_same)
+
+  steps_ready : Ready w_ steps
+  unfolding Ready
+  steps_ready = subst (λ (y : View). Ready y steps) (sym drained_same) (refl, tt, (may_draw s at one_ none recs refl, tt, end_.ready))
+
+  told_so : (y : View) → after_all y steps ≡ after_all (after (after y (Tell Commit None)) (Draw n)) (ends_records (done s at one_ none recs refl n))
+  unfolding after_all
+  told_so y = refl
+
+  ends_at : (found : ℕ → ℕ) → after_all s.view (commits s.entries found n s.view) ≡ after_all (done s at one_ none recs refl n) (ends_records (done s at one_ none recs refl n))
+  ends_at found = ap (after_all s.view) (plan_is found)
+      ∙ (after_all-append s.view (persists_all s.view) steps
+      ∙ (told_so w_ ∙ ap (λ (y : View). after_all (after (after y (Tell Commit None)) (Draw n)) (ends_records (done s at one_ none recs refl n))) drained_same))
+
+  pub leaves_committed : (found : ℕ → ℕ) → LeavesCommitted s found n
+  leaves_committed found = record {
+    unrefused = commit_unrefused_at s s.level at;
+    ready = subst (Ready s.view) (sym (plan_is found)) (ready_both s.view (persists_all s.view) steps (persists_all_lawful s.view).0 steps_ready);
+    over = subst (λ (y : View). IsOver (moved s y)) (sym (ends_at found)) end_.over;
+    generation = ap (λ (y : View). y.log.generation) (ends_at found) ∙ end_.generation;
+    number = ap (λ (y : View). last_number y.entries) (ends_at found) ∙ end_.number_is;
+  }
+
+pub calls_without_entries_may_be_committed : CallsWithoutEntriesMayBeCommitted
+calls_without_entries_may_be_committed s found n at one_ none = leaves_committed s at one_ none n found

@@ -1,7 +1,20 @@
+ghost use Rattle.pm_call.specs.Commits.{CallsWithoutEntriesMayBeCommitted, InnerLevelsMayBeCommitted};
 ghost use Rattle.pm_call.specs.GivenUp.{TransactionsMayBeGivenUp};
 
 /// A law: a lane at work may give its transaction up, for an operation that is refused or that aborts
 /// it, whatever number it takes; the call is over then, and has the fact that it owes. No code runs.
 pub fn transactions_may_be_given_up()
     ensures { TransactionsMayBeGivenUp }
+{}
+
+/// A law: a lane at work may commit an inner level, by telling it alone; the transaction is at work
+/// then, one level less. No code runs.
+pub fn inner_levels_may_be_committed()
+    ensures { InnerLevelsMayBeCommitted }
+{}
+
+/// A law: a lane at work whose call published no word may commit its outermost level, whatever
+/// number it takes; the call is over then, and has the fact that it owes. No code runs.
+pub fn calls_without_entries_may_be_committed()
+    ensures { CallsWithoutEntriesMayBeCommitted }
 {}

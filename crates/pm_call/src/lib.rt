@@ -16,7 +16,10 @@ mod stages;
 mod writing;
 
 pub use adding::{do_add, ranges_may_be_added};
-pub use laws::transactions_may_be_given_up;
+pub use laws::{
+    calls_without_entries_may_be_committed, inner_levels_may_be_committed,
+    transactions_may_be_given_up,
+};
 pub use ranges::{ranges_are_looked_at, refusals_of_ranges_are_the_models};
 pub use rollback::{give_up, refuse, stop, take_back};
 pub use stages::work_refusal;
