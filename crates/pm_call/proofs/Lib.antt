@@ -26,3 +26,4 @@ pub mod WriteChecks
 pub mod Committing
 pub mod Persisted
 pub mod Outermost
+pub mod Closing

@@ -22,7 +22,7 @@ pub use laws::{
 };
 pub use ranges::{ranges_are_looked_at, refusals_of_ranges_are_the_models};
 pub use rollback::{give_up, refuse, stop, take_back};
-pub use stages::work_refusal;
+pub use stages::{end_refusal, work_refusal};
 pub use writing::{check_recorded, count_words, do_write, ranges_may_be_written};
 
 #[cfg(test)]
