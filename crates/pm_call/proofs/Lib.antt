@@ -23,7 +23,9 @@ pub mod AddedRanges
 pub mod AddedLanes
 pub mod Calls
 pub mod WriteChecks
-pub mod Committing
+pub mod InnerLevels
 pub mod Persisted
 pub mod Outermost
 pub mod Closing
+pub mod InnerLanes
+pub mod SetEntries

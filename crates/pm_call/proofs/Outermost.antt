@@ -41,7 +41,7 @@ use Rattle.pm_call.specs.Did.{IsOver, next}
 use Rattle.pm_call.specs.GivenUp.{generation_after}
 use Rattle.pm_call.specs.Held.{AreHeld, HasObject}
 use Rattle.pm_call.specs.Plans.{commits, ends_call, ends_records, tells}
-use Rattle.pm_call.proofs.Committing.{commit_unrefused_at, ran_commit, sets_none}
+use Rattle.pm_call.proofs.InnerLevels.{commit_unrefused_at, ran_commit, sets_none}
 use Rattle.pm_call.proofs.Frames.{noting}
 use Rattle.pm_call.proofs.Noting.{data_told, held_so, sound_so}
 use Rattle.pm_call.proofs.Persisted.{IsDrained, drained_at, drained_by, drained_view}

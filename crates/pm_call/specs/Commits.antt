@@ -1,12 +1,17 @@
 -- A LEVEL IS COMMITTED, as laws of data.
 use Rattle.std.specs.Prelude.{◌≡◌, ℕ, suc, ◌-◌, ◌≤◌, []}
 use Rattle.pm_objects.specs.declared.calls.Operation.TheVariants.{Commit}
-use Rattle.pm_world.specs.LaneFields.{Standing, last_number}
+use Rattle.pm_model.specs.declared.stage.Stage.TheVariants as stage
+use Rattle.pm_objects.specs.declared.history.TxErr.TheVariants as error
+use Rattle.pm_view.specs.View.{View}
+use Rattle.pm_world.specs.LaneFields.{Standing, Works, last_number}
+use Rattle.pm_world.specs.declared.lane.Lane.{Lane}
 use Rattle.pm_plan.specs.Plans.{Ready}
 use Rattle.pm_call.specs.At.{At, IsAt}
 use Rattle.pm_call.specs.Did.{IsOver, IsUnrefused, next}
 use Rattle.pm_call.specs.GivenUp.{generation_after}
 use Rattle.pm_call.specs.Plans.{commits, commits_inner}
+use Rattle.pm_call.specs.Stages.{IsPastAt}
 
 -- ---- AN INNER LEVEL: nothing is stored, and the outer one is at work
 pub record LeavesLevel (s : Standing) : Type 0 where
@@ -16,6 +21,11 @@ pub record LeavesLevel (s : Standing) : Type 0 where
 
 abbrev pub InnerLevelsMayBeCommitted : Type 0
 InnerLevelsMayBeCommitted = (s : Standing) → At s → 2 ≤ s.level → LeavesLevel s
+
+-- it was committed so: the lane is past its work
+unfoldable pub CommittedInner : {M : Type 0} → (M → View → Type 0) → Lane M → Lane M → Type 0
+CommittedInner at old new = (s : Standing) → Works at old s → At s → 2 ≤ s.level
+    → IsUnrefused s Commit × IsPastAt at new (next s commits_inner) stage.OnCommit error.None
 
 -- ---- THE OUTERMOST LEVEL: the call has its number, and is over. Its generation ends where it has records
 pub record LeavesCommitted (s : Standing) (found : ℕ → ℕ) (n : ℕ) : Type 0 where

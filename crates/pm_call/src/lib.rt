@@ -9,6 +9,7 @@
 #![tactic(auto)]
 
 mod adding;
+mod committing;
 mod laws;
 mod ranges;
 mod rollback;
@@ -16,6 +17,7 @@ mod stages;
 mod writing;
 
 pub use adding::{do_add, ranges_may_be_added};
+pub use committing::{commit_inner, stage_after};
 pub use laws::{
     calls_without_entries_may_be_committed, inner_levels_may_be_committed,
     transactions_may_be_given_up,

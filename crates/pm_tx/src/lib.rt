@@ -7,8 +7,10 @@
 //! owes. It stands on `pm_call` for the parts that calls share; docs/BEHAVIOUR.md.
 #![tactic(auto)]
 
+mod ending;
 mod outcome;
 
+pub use ending::end;
 pub use outcome::abort;
 
 #[cfg(test)]
