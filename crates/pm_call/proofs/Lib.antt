@@ -29,3 +29,4 @@ pub mod Outermost
 pub mod Closing
 pub mod InnerLanes
 pub mod SetEntries
+pub mod SetChanges
