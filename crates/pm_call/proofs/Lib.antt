@@ -30,3 +30,4 @@ pub mod Closing
 pub mod InnerLanes
 pub mod SetEntries
 pub mod SetChanges
+pub mod LoggedCalls

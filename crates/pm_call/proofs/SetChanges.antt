@@ -42,7 +42,7 @@ first_then : {A : Type 0} (a c d : Option A) → first_of_two (first_of_two a c)
 first_then None c d = refl
 first_then (Some x) c d = refl
 
-first_alone : {A : Type 0} (o x y z : Option A) → given o ≡ true → first_of_two o x ≡ z → first_of_two o y ≡ z
+pub first_alone : {A : Type 0} (o x y z : Option A) → given o ≡ true → first_of_two o x ≡ z → first_of_two o y ≡ z
 first_alone None x y z e same = absurd (both_ways false refl e)
 first_alone (Some a) x y z e same = same
 
@@ -93,10 +93,10 @@ module _ (s : Standing) (level : ℕ) (at : IsAt s level) where
   aligned : (a : SetWord) (may : MaySet s a) → a.id.off + a.off ≡ 8 * ((a.id.off + a.off) / 8)
   aligned a may = let h = (set_at s level at a may).at in let e = may.aligned in omega (arith, h, e)
 
-  is_set_by : (a : SetWord) (may : MaySet s a) (i : ℕ) → (a.id.off + a.off) / 8 ≡ i → is_word_set i (setting a may) ≡ true
+  pub is_set_by : (a : SetWord) (may : MaySet s a) (i : ℕ) → (a.id.off + a.off) / 8 ≡ i → is_word_set i (setting a may) ≡ true
   is_set_by a may i e = let w = aligned a may in and_from (nat_lt (8 * i) (a.id.off + a.off + 8)) (nat_lt (a.id.off + a.off) (8 * i + 8)) (lt-ltb (8 * i) (a.id.off + a.off + 8) (omega (arith, e, w))) (lt-ltb (a.id.off + a.off) (8 * i + 8) (omega (arith, e, w)))
 
-  set_by : (a : SetWord) (may : MaySet s a) (i : ℕ) → is_word_set i (setting a may) ≡ true → (a.id.off + a.off) / 8 ≡ i
+  pub set_by : (a : SetWord) (may : MaySet s a) (i : ℕ) → is_word_set i (setting a may) ≡ true → (a.id.off + a.off) / 8 ≡ i
   set_by a may i e =
       let t = and_parts (nat_lt (8 * i) (a.id.off + a.off + 8)) (nat_lt (a.id.off + a.off) (8 * i + 8)) e in
       let w = aligned a may in let lo = ltb-true (8 * i) (a.id.off + a.off + 8) t.0 in let hi = ltb-true (a.id.off + a.off) (8 * i + 8) t.1 in omega (arith, w, lo, hi)
