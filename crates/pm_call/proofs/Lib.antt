@@ -31,3 +31,4 @@ pub mod InnerLanes
 pub mod SetEntries
 pub mod SetChanges
 pub mod LoggedCalls
+pub mod LoggedCommits

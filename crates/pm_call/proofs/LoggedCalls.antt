@@ -1,6 +1,6 @@
 -- A CALL WHOSE PUBLISHED WORDS ARE LOGGED, and that told its commit, has its fact.
 use Rattle.std.specs.Prelude.{unwrap_or}
-use Rattle.std.proofs.Common.{◌≡◌, ◌≢◌, ◌⊎◌, ℕ, zero, suc, ◌+◌, ◌-◌, ◌*◌, ◌/◌, ◌%◌, ◌^◌, ◌<◌, ◌≤◌, inl, inr, ⊎_elim, nat_le, nat_lt, Bool, true, false, cond, ◌==◌, ◌&&◌, ◌||◌, Contains, List, [], ◌∷◌, ◌++◌, map, length, slice_index_or, refl, sym, ap, ◌∙◌, subst, arith, Option, None, Some}
+use Rattle.std.proofs.Common.{All, ◌≡◌, ◌≢◌, ◌⊎◌, ℕ, zero, suc, ◌+◌, ◌-◌, ◌*◌, ◌/◌, ◌%◌, ◌^◌, ◌<◌, ◌≤◌, inl, inr, ⊎_elim, nat_le, nat_lt, Bool, true, false, cond, ◌==◌, ◌&&◌, ◌||◌, Contains, List, [], ◌∷◌, ◌++◌, map, length, slice_index_or, refl, sym, ap, ◌∙◌, subst, arith, Option, None, Some}
 use Rattle.std.specs.List.{AllByRecursion, range_with_len}
 use Rattle.std.specs.Int.{bit_at}
 use Rattle.std.specs.Option.{option_map}
@@ -11,36 +11,45 @@ use Rattle.pm_model.specs.Inside.{Ran}
 use Rattle.pm_model.specs.Items.{number_bytes}
 use Rattle.pm_model.specs.Pending.{SetWord}
 use Rattle.pm_objects.specs.declared.calls.Operation.TheVariants.{Commit}
+use Rattle.pm_record.specs.declared.redo.Op.TheVariants as op
 use Rattle.pm_record.specs.declared.redo.Redo.{Redo}
 use Rattle.pm_view.specs.Claims.{class, geometry, header_in, pictured, span}
-use Rattle.pm_view.specs.Entries.{Entry, first_of_two, latest, redos, turn}
+use Rattle.pm_view.specs.Entries.{Entry, delta, first_of_two, given_bit, latest, redos, turn}
 use Rattle.pm_view.specs.Log.{Log, old_of}
 use Rattle.pm_view.specs.Parts.{is_entry_word}
-use Rattle.pm_view.specs.Places.{Place, InRun, InHuge, Descr, RootWord, Block, Small, Big, Root, block_of, is_data, word_of}
-use Rattle.pm_view.specs.Steps.Step.{Tell}
+use Rattle.pm_view.specs.Places.{Place, InRun, InHuge, Descr, RootWord, Block, Small, Big, Root, block_of, is_data, same_place, word_of}
+use Rattle.pm_view.specs.Steps.Step.{Draw, Tell}
 use Rattle.pm_view.specs.View.{View, Told}
 use Rattle.pm_view.specs.Views.{after, value_in}
 use Rattle.pm_world.specs.InWorld.{block_bytes}
 use Rattle.pm_world.specs.LaneFields.{Standing, moved}
+use Rattle.pm_world.specs.Lanes.{is_occupancy}
+use Rattle.pm_world.specs.Lawful.{KeepsRoot, MayDraw}
+use Rattle.pm_world.specs.Logs.{AreWhole}
 use Rattle.pm_world.specs.Memory.{bit}
 use Rattle.pm_world.specs.Sights.{fresh, is_made, is_pictured, is_recorded, picture}
 use Rattle.pm_world.specs.States.{given}
 use Rattle.pm_world.proofs.Basics.{given_cases}
 use Rattle.pm_world.proofs.BlockLines.{run_fits}
+use Rattle.pm_world.proofs.PlacesAt.{same_place_true}
+use Rattle.pm_world.proofs.SizesKept.{plain_turn}
 use Rattle.pm_crash.specs.Calls.{Fact}
+use Rattle.pm_crash.specs.Facts.{HaveFacts}
 use Rattle.pm_crash.specs.Footprints.{bit_before, has_found}
 use Rattle.pm_crash.specs.Looked as looked
 use Rattle.pm_crash.specs.Looked.{ChangesAt, Enters, IsChanged, KnowsSize, word_place, words_in}
 use Rattle.pm_crash.specs.Sim.{Grows, Sim, change_so_far, lists_of, sees_at}
-use Rattle.pm_crash.specs.SimCommits.{CanSet, IsSetIn, SetsWords, Setting, Settles, index_of, set_all, set_one, is_word_set, sets_at}
+use Rattle.pm_crash.specs.SimCommits.{CanSet, IsSetIn, SetsWords, Setting, Settles, index_of, is_word_set, set_all, set_one, sets_at}
 use Rattle.pm_crash.specs.SimFacts.{IsOver}
 use Rattle.pm_crash.specs.Writes.{written_word}
 use Rattle.pm_crash.proofs.Composing.{growths_compose}
 use Rattle.pm_crash.proofs.SimCommits.{sim_commits}
-use Rattle.pm_crash.proofs.SimFacts.{sims_are_facts, transactions_end}
+use Rattle.pm_crash.proofs.EntryFacts.{draws_keep_facts}
+use Rattle.pm_crash.proofs.SimFacts.{sims_are_facts, transactions_end, was_recorded}
 use Rattle.pm_crash.proofs.SimWrites.{not_bitmap, not_descriptor}
 use Rattle.pm_crash.proofs.Telling.{tells_grow}
 use Rattle.pm_plan.specs.Notes.{Note, noted}
+use Rattle.pm_plan.proofs.Notes as notes
 use Rattle.pm_redo.specs.Entries.{logged_entry}
 use Rattle.pm_redo.specs.Stages.{IsLogged, all_logged}
 use Rattle.pm_call.specs.At.{IsAt, MaySet, set_entry}
@@ -50,7 +59,7 @@ use Rattle.pm_call.proofs.Frames.{noting, noting_grows}
 use Rattle.pm_call.proofs.InnerLevels.{commit_unrefused_at, ran_commit}
 use Rattle.pm_call.proofs.KnownObjects.{fresh_is, held_object, object_stands, size_known, word_known}
 use Rattle.pm_call.proofs.RangeReads.{begun_more}
-use Rattle.pm_call.proofs.SetChanges.{IsLocated, IsMember, all_words, are_sets, located, member, no_turn_of, none_at, place_set, redos_are, set_redos, setting, settings_of, spot}
+use Rattle.pm_call.proofs.SetChanges.{IsLocated, IsMember, all_words, are_sets, located, member, no_turn_of, none_at, place_set, redos_are, set_redo, set_redos, setting, settings_of, spot}
 use Rattle.pm_call.proofs.SetEntries.{IsSetAt, set_at}
 use Rattle.pm_call.proofs.SmallWords.{written_small}
 
@@ -264,3 +273,109 @@ module _ (s : Standing) (level : ℕ) (at : IsAt s level) where
               are = are_sets s level at (lists_of s.view).sets all ∙ sym (ap (λ l. sets_at l (lists_of s.view).sets) level_is);
               sets = set_words;
             })
+
+        -- ---- what its log changes is of blocks that the lane found
+        changed_place : (xs : List SetWord) (ms : AllByRecursion (MaySet s) xs) (q : Place) (b : ℕ) → given (latest (set_redos s level at xs ms) q b) ≡ true → (a : SetWord) × (may : MaySet s a) × (place_set s level at a may ≡ q)
+        changed_place [] ms q b e = absurd (both_ways false refl e)
+        changed_place (a ∷ xs) ms q b e = ⊎_elim
+            (λ (y : given (latest (set_redos s level at xs ms.1) q b) ≡ true). changed_place xs ms.1 q b y)
+            (λ (y : given (delta (set_redo s level at a ms.0) q b) ≡ true). (a, ms.0, here a ms.0 y))
+            (given_cases (latest (set_redos s level at xs ms.1) q b) (delta (set_redo s level at a ms.0) q b) e)
+          where
+            here : (a : SetWord) (may : MaySet s a) → given (delta (set_redo s level at a may) q b) ≡ true → place_set s level at a may ≡ q
+            here a may y = by (same_place (place_set s level at a may) q) refl where
+              by : (c : Bool) → same_place (place_set s level at a may) q ≡ c → place_set s level at a may ≡ q
+              by true t = same_place_true (place_set s level at a may) q t
+              by false t = absurd (both_ways (given (delta (set_redo s level at a may) q b)) (ap given (cond-false (same_place (place_set s level at a may) q) (given_bit op.Set a.value b) None t)) y)
+
+        place_told : (B : Block) (k : ℕ) → word_place told B k ≡ word_place s.view B k
+        place_told (Small c i) k = λ j. InRun c (8 * (1 + notes.class_same ns s.view.claims j c * i) + k)
+        place_told (Big f) k = refl
+        place_told Root k = refl
+
+        words_told : (B : Block) → words_in told B ≡ words_in s.view B
+        words_told (Small c i) = λ j. 8 * notes.class_same ns s.view.claims j c
+        words_told (Big f) = λ j. 512 * notes.span_same s.view.fixed.shape ns s.view.claims j f
+        words_told Root = refl
+
+        is_changed : (B : Block) (k : ℕ) (q : Place) → q ≡ word_place s.view B k → k < words_in s.view B → has_found s.view B ≡ true → is_occupancy s.view.fixed.shape B ≡ true → 8 ≤ k → IsChanged told q
+        is_changed B k q e within found inside high = (B, k, e ∙ sym (place_told B k), subst (λ n. k < n) (sym (words_told B)) within, inr (notes.found_same s.view.fixed.shape ns s.view.claims is.noted.each B ∙ found, inside, high))
+
+        changed : (q : Place) (b : ℕ) → given (change_so_far told (all_logged s.view s.entries) q b) ≡ true → IsChanged told q
+        changed q b e = ⊎_elim
+            (λ (y : given (latest (set_redos s level at (lists_of s.view).sets all) q b) ≡ true).
+            let c = changed_place (lists_of s.view).sets all q b y in
+            let t = set_at s level at c.0 c.1 in
+            is_changed t.block (8 + c.0.off / 8) q (sym c.2) t.word.within t.word.found t.word.inside (omega arith))
+            (λ (y : given (change_so_far s.view [] q b) ≡ true).
+            let d = at.recorded q (was_recorded s.view q b y) in
+            is_changed d.object.block d.index q d.at d.within d.found d.object.object.inside d.data_)
+            (given_cases (latest (set_redos s level at (lists_of s.view).sets all) q b) (change_so_far s.view [] q b) (sym (ap given (change_is q b)) ∙ e))
+
+        changes_at : (q : Place) → IsChanged told q → ChangesAt told (change_so_far told (all_logged s.view s.entries)) q
+        changes_at (InRun c zero) y = tt
+        changes_at (InRun c (suc k)) y = y
+        changes_at (InHuge c k) y = y
+        changes_at (Descr c) y = absurd (not_descriptor told y.0 c y.1 y.2)
+        changes_at RootWord y = absurd (by y.0 y.1 y.2 y.3)
+          where
+            by : (B : Block) (k : ℕ) → RootWord ≡ word_place told B k → k < words_in told B → ⊥
+            by (Small c i) k e low = both_ways false refl (ap is_run_word e)
+              where
+                is_run_word : Place → Bool
+                is_run_word (InRun c w) = true
+                is_run_word p = false
+            by (Big f) k e low = both_ways false refl (ap is_huge_word e)
+              where
+                is_huge_word : Place → Bool
+                is_huge_word (InHuge c w) = true
+                is_huge_word p = false
+            by Root k e low = omega (arith, low)
+
+        turn_told : (B : Block) → turn (change_so_far told (all_logged s.view s.entries)) B ≡ None
+        turn_told B = plain_turn told B ∙ no_turn_logged B
+
+        none_made : {P : Type 0} (B : Block) (y : Bool) → turn (change_so_far told (all_logged s.view s.entries)) B ≡ Some y → P
+        none_made B y e = absurd (let z : Some y ≡ None = sym e ∙ turn_told B in cc)
+
+        enters : Enters told (all_logged s.view s.entries)
+        enters = record {
+          makes = λ B m. none_made B true m;
+          frees = λ B m. none_made B false m;
+          of_run = λ c i m. none_made (Small c i) true m;
+          of_zone = λ f m. none_made (Big f) true m;
+          says = λ f b m few. none_made (Big f) true m;
+          no_run = λ f c i m t n. none_made (Big f) true m;
+          no_other = λ f c m t n. none_made (Big f) true m;
+          changes = λ q b e. changes_at q (changed q b e);
+        }
+
+        over : IsOver told
+        over = record {
+          begun = begun_more s.view.call (record { operation = Commit; reply = None }) at.begun;
+          over = transactions_end told s.view.call (ran_commit s level at) (record { begun = begun_more s.view.call (record { operation = Commit; reply = None }) at.begun; call = refl; ends = inr (refl, refl, level_is) });
+          enters = enters;
+          sized = λ B m. none_made B true m;
+        }
+
+        -- SO IT HAS ITS FACT
+        pub logged_fact : Fact told
+        logged_fact = sims_are_facts told sim over
+
+        -- ---- AND IT MAY TAKE ITS NUMBER
+        pub logged_may_draw : MayDraw told
+        logged_may_draw = record {
+          is_open = at.working.is_open;
+          whole = at.working.whole;
+          first = at.number.none;
+          drained = inl refl;
+          found = at.number.seen;
+          seen = at.number.told;
+          below = at.number.below;
+          new_blocks = λ B e. absurd (let z : Some true ≡ None = sym e ∙ no_turn_logged B in cc);
+          root = subst (λ (y : View). All (KeepsRoot y) y.log.entries) written_same is.root;
+          entries = inr (subst (λ (y : View). AreWhole y.fixed.shape y.fixed.lane y.log) written_same is.whole);
+        }
+
+        pub logged_facts : (n : ℕ) → HaveFacts (after told (Draw n))
+        logged_facts n = draws_keep_facts told n logged_fact at.facts

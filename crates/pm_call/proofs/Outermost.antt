@@ -36,7 +36,7 @@ use Rattle.pm_undo.specs.Plans.{retires}
 use Rattle.pm_undo.specs.Working.{CanRetire, IsRetired}
 use Rattle.pm_undo.proofs.Retired.{retire_lawful}
 use Rattle.pm_call.specs.At.{At, IsAt, set_entry}
-use Rattle.pm_call.specs.Commits.{CallsWithoutEntriesMayBeCommitted, LeavesCommitted}
+use Rattle.pm_call.specs.Commits.{CallsWithoutEntriesMayBeCommitted, LeavesCommitted, generation_left}
 use Rattle.pm_call.specs.Did.{IsOver, next}
 use Rattle.pm_call.specs.GivenUp.{generation_after}
 use Rattle.pm_call.specs.Held.{AreHeld, HasObject}
@@ -258,7 +258,7 @@ module _ (s : Standing) (at : At s) (one_ : s.level ≡ 1) (none : s.entries ≡
     unrefused = commit_unrefused_at s s.level at;
     ready = subst (Ready s.view) (sym (plan_is found)) (ready_both s.view (persists_all s.view) steps (persists_all_lawful s.view).0 steps_ready);
     over = subst (λ (y : View). IsOver (moved s y)) (sym (ends_at found)) end_.over;
-    generation = ap (λ (y : View). y.log.generation) (ends_at found) ∙ end_.generation;
+    generation = ap (λ (y : View). y.log.generation) (ends_at found) ∙ (end_.generation ∙ sym (ap (λ (es : List Redo). generation_left es recs s.view.log.generation) none));
     number = ap (λ (y : View). last_number y.entries) (ends_at found) ∙ end_.number_is;
   }
 

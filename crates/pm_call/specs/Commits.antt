@@ -1,5 +1,9 @@
 -- A LEVEL IS COMMITTED, as laws of data.
-use Rattle.std.specs.Prelude.{◌≡◌, ℕ, suc, ◌-◌, ◌≤◌, []}
+use Rattle.std.specs.Prelude.{◌≡◌, ◌≢◌, ℕ, suc, ◌+◌, ◌-◌, ◌/◌, ◌<◌, ◌≤◌, List, [], ◌∷◌, length}
+use Rattle.std.specs.List.{AllByRecursion}
+use Rattle.pm_layout.specs.Areas.{redo_entries}
+use Rattle.pm_record.specs.declared.redo.Redo.{Redo}
+use Rattle.pm_view.specs.Log.{Recorded}
 use Rattle.pm_objects.specs.declared.calls.Operation.TheVariants.{Commit}
 use Rattle.pm_model.specs.declared.stage.Stage.TheVariants as stage
 use Rattle.pm_objects.specs.declared.history.TxErr.TheVariants as error
@@ -11,6 +15,7 @@ use Rattle.pm_call.specs.At.{At, IsAt}
 use Rattle.pm_call.specs.Did.{IsOver, IsUnrefused, next}
 use Rattle.pm_call.specs.GivenUp.{generation_after}
 use Rattle.pm_call.specs.Plans.{commits, commits_inner}
+use Rattle.pm_call.specs.Ranges.{KnowsWord}
 use Rattle.pm_call.specs.Stages.{IsPastAt}
 
 -- ---- AN INNER LEVEL: nothing is stored, and the outer one is at work
@@ -27,14 +32,27 @@ unfoldable pub CommittedInner : {M : Type 0} → (M → View → Type 0) → Lan
 CommittedInner at old new = (s : Standing) → Works at old s → At s → 2 ≤ s.level
     → IsUnrefused s Commit × IsPastAt at new (next s commits_inner) stage.OnCommit error.None
 
--- ---- THE OUTERMOST LEVEL: the call has its number, and is over. Its generation ends where it has records
+-- ---- THE OUTERMOST LEVEL: the call has its number, and is over. Its generation ends where it has records or entries
+abbrev pub generation_left : List Redo → List Recorded → ℕ → ℕ
+generation_left [] records generation = generation_after records generation
+generation_left (e ∷ entries) records generation = generation + 1
+
 pub record LeavesCommitted (s : Standing) (found : ℕ → ℕ) (n : ℕ) : Type 0 where
   pub unrefused : IsUnrefused s Commit
   pub ready : Ready s.view (commits s.entries found n s.view)
   pub over : IsOver (next s (commits s.entries found n))
-  pub generation : (next s (commits s.entries found n)).view.log.generation ≡ generation_after s.view.log.records s.view.log.generation
+  pub generation : (next s (commits s.entries found n)).view.log.generation ≡ generation_left s.entries s.view.log.records s.view.log.generation
   pub number : last_number (next s (commits s.entries found n)).view.entries ≡ suc n
 
 -- of a call that published no word, whatever number it takes
 abbrev pub CallsWithoutEntriesMayBeCommitted : Type 0
 CallsWithoutEntriesMayBeCommitted = (s : Standing) (found : ℕ → ℕ) (n : ℕ) → At s → s.level ≡ 1 → s.entries ≡ [] → LeavesCommitted s found n
+
+-- of one whose published words have room in a log, and were looked at; whatever its steps find
+pub record MayBeLogged (s : Standing) : Type 0 where
+  pub some : s.entries ≢ []
+  pub few : length s.entries < redo_entries s.view.fixed.shape
+  pub known : AllByRecursion (λ (e : Redo). KnowsWord s.view (e.place / 8)) s.entries
+
+abbrev pub CallsWithEntriesMayBeCommitted : Type 0
+CallsWithEntriesMayBeCommitted = (s : Standing) (found : ℕ → ℕ) (n : ℕ) → At s → s.level ≡ 1 → MayBeLogged s → LeavesCommitted s found n
