@@ -1,22 +1,19 @@
 -- A LEVEL ENDS: the lane's data at another level, and once all of its locks are given back.
-use Rattle.std.proofs.Common.{◌≡◌, ◌≢◌, ℕ, zero, suc, ◌+◌, ◌-◌, ◌%◌, ◌<◌, ◌≤◌, true, ◌==◌, not, List, [], ◌∷◌, refl, sym, ap, ◌∙◌, subst, Some}
+use Rattle.std.proofs.Common.{◌≡◌, ◌≢◌, ℕ, ◌+◌, ◌%◌, ◌<◌, ◌≤◌, true, ◌==◌, not, List, [], ◌∷◌, refl, sym, ap, ◌∙◌, subst}
 use Rattle.std.proofs.lemmas.Bool.{and_parts}
 use Rattle.pm_layout.specs.declared.shape.Shape.{Shape}
 use Rattle.pm_layout.specs.Sizes.{blocks_of}
 use Rattle.pm_model.specs.Transaction.{Transaction}
-use Rattle.pm_model.specs.declared.stage.Stage.{Stage}
 use Rattle.pm_objects.specs.declared.history.TxErr.{TxErr}
 use Rattle.pm_objects.specs.declared.history.TxErr.TheVariants as error
 use Rattle.pm_view.specs.Claims.{Claim, Gave, class, first, found, header_in, pictured, span}
 use Rattle.pm_view.specs.Places.{Block, Small, Big, in_span}
 use Rattle.pm_view.specs.View.{View}
-use Rattle.pm_view.specs.Views.{after_all}
 use Rattle.pm_world.specs.InWorld.{IsSound}
-use Rattle.pm_world.specs.LaneFields.{Standing, moved}
+use Rattle.pm_world.specs.LaneFields.{Standing}
 use Rattle.pm_world.specs.declared.lane.HeldLock.{HeldLock}
 use Rattle.pm_crash.specs.Sim.{lists_of}
 use Rattle.pm_lock.specs.Holding.{IsHeldAs, MayGiveAll, gave}
-use Rattle.pm_lock.specs.Steps.{gives}
 use Rattle.pm_lock.proofs.HeldLocks.{held_may_be_given}
 use Rattle.pm_lock.proofs.Holds.{gives_given}
 use Rattle.pm_call.specs.At.{AreLists, IsAt, MaySet}
@@ -121,6 +118,7 @@ work_at n level s at = record {
   held = at.held;
   lines = at.lines;
   few = at.few;
+  room = at.room;
   recorded = at.recorded;
   lists = lists_at n level s (lists_of s.view) at.lists;
   sim = at.sim;

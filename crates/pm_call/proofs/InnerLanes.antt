@@ -8,11 +8,11 @@ use Rattle.pm_view.specs.Steps.{Step}
 use Rattle.pm_view.specs.Steps.Step.{Tell}
 use Rattle.pm_view.specs.View.{View}
 use Rattle.pm_view.specs.Views.{after, after_all}
-use Rattle.pm_world.specs.LaneFields.{Fields, Standing, Works, fields_of}
+use Rattle.pm_world.specs.LaneFields.{Standing}
 use Rattle.pm_world.specs.Lawful.{Allowed}
 use Rattle.pm_world.specs.declared.lane.Lane.{Lane}
 use Rattle.pm_plan.specs.Plans.{one}
-use Rattle.pm_call.specs.At.{At, IsAt}
+use Rattle.pm_call.specs.At.{IsAt}
 use Rattle.pm_call.specs.Commits.{CommittedInner}
 use Rattle.pm_call.specs.Did.{IsAtSo, next}
 use Rattle.pm_call.specs.Plans.{commits_inner}

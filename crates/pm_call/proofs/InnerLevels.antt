@@ -1,26 +1,24 @@
 -- AN INNER LEVEL MAY BE COMMITTED: it is told, and the outer one is at work.
-use Rattle.std.proofs.Common.{◌≡◌, ℕ, ◌-◌, ◌≤◌, ◌<◌, nat_le, inr, true, false, cond, Contains, rules, List, [], ◌∷◌, ◌++◌, refl, sym, ap, ◌∙◌, subst, arith, None, Some}
+use Rattle.std.proofs.Common.{◌≡◌, ℕ, ◌-◌, ◌≤◌, nat_le, inr, false, cond, Contains, rules, [], ◌∷◌, ◌++◌, refl, sym, ap, ◌∙◌, subst, arith, None}
 use Rattle.std.proofs.lemmas.Bool.{cond-false, false_from_ne_true, leb-true}
 use Rattle.pm_model.specs.Inside.{Ran}
-use Rattle.pm_model.specs.Pending.{SetWord}
 use Rattle.pm_model.specs.Transaction.{Transaction, committed, idle, is_none, is_working}
 use Rattle.pm_model.specs.declared.stage.Stage.TheVariants as stage
 use Rattle.pm_objects.specs.declared.calls.Operation.TheVariants.{Commit}
 use Rattle.pm_objects.specs.declared.ids.Oid.{Oid}
-use Rattle.pm_view.specs.Steps.Step.{Tell}
 use Rattle.pm_view.specs.View.{View, Told}
-use Rattle.pm_view.specs.Views.{after, after_all}
+use Rattle.pm_view.specs.Views.{after_all}
 use Rattle.pm_world.specs.LaneFields.{Standing, moved}
 use Rattle.pm_crash.specs.Calls.{pending_of}
 use Rattle.pm_crash.specs.Looked.{Enters}
 use Rattle.pm_crash.specs.OpenRuns.{no_pool}
 use Rattle.pm_crash.specs.Sim.{Sim, lists_of}
-use Rattle.pm_crash.specs.SimCommits.{IsCommit, SetsWords, Setting, sets_at}
+use Rattle.pm_crash.specs.SimCommits.{SetsWords, Setting, sets_at}
 use Rattle.pm_crash.proofs.OpenRuns.{told_once_more}
 use Rattle.pm_crash.proofs.SimCommits.{sim_commits}
 use Rattle.pm_crash.proofs.SimFacts.{no_entries}
 use Rattle.pm_crash.proofs.Telling.{no_root_is_asked, tells_grow}
-use Rattle.pm_plan.specs.Plans.{Ready, in_turn, one}
+use Rattle.pm_plan.specs.Plans.{Ready, one}
 use Rattle.pm_call.specs.At.{At, AreLists, IsAt, MaySet}
 use Rattle.pm_call.specs.Commits.{InnerLevelsMayBeCommitted, LeavesLevel}
 use Rattle.pm_call.specs.Did.{IsUnrefused, unseen}

@@ -1,28 +1,27 @@
 -- A CALL WHOSE PUBLISHED WORDS ARE LOGGED, and that told its commit, has its fact.
 use Rattle.std.specs.Prelude.{unwrap_or}
-use Rattle.std.proofs.Common.{All, ◌≡◌, ◌≢◌, ◌⊎◌, ℕ, zero, suc, ◌+◌, ◌-◌, ◌*◌, ◌/◌, ◌%◌, ◌^◌, ◌<◌, ◌≤◌, inl, inr, ⊎_elim, nat_le, nat_lt, Bool, true, false, cond, ◌==◌, ◌&&◌, ◌||◌, Contains, List, [], ◌∷◌, ◌++◌, map, length, slice_index_or, refl, sym, ap, ◌∙◌, subst, arith, Option, None, Some}
+use Rattle.std.proofs.Common.{All, ◌≡◌, ◌≢◌, ℕ, zero, suc, ◌+◌, ◌-◌, ◌*◌, ◌/◌, ◌%◌, ◌^◌, ◌<◌, ◌≤◌, inl, inr, ⊎_elim, nat_le, nat_lt, Bool, true, false, cond, ◌==◌, ◌&&◌, ◌||◌, Contains, List, [], ◌∷◌, map, length, slice_index_or, refl, sym, ap, ◌∙◌, subst, arith, Option, None, Some}
 use Rattle.std.specs.List.{AllByRecursion, range_with_len}
 use Rattle.std.specs.Int.{bit_at}
 use Rattle.std.specs.Option.{option_map}
-use Rattle.std.proofs.lemmas.Bool.{and_parts, both_ways, cond-false, cond-true, false_from_ne_true, leb-true, ltb-true}
+use Rattle.std.proofs.lemmas.Bool.{and_parts, both_ways, cond-false, false_from_ne_true, leb-true, ltb-true}
 use Rattle.pm_layout.specs.declared.shape.Shape.{Shape}
 use Rattle.pm_words.specs.Words.{AreBytes}
-use Rattle.pm_model.specs.Inside.{Ran}
 use Rattle.pm_model.specs.Items.{number_bytes}
 use Rattle.pm_model.specs.Pending.{SetWord}
 use Rattle.pm_objects.specs.declared.calls.Operation.TheVariants.{Commit}
 use Rattle.pm_record.specs.declared.redo.Op.TheVariants as op
 use Rattle.pm_record.specs.declared.redo.Redo.{Redo}
-use Rattle.pm_view.specs.Claims.{class, geometry, header_in, pictured, span}
+use Rattle.pm_view.specs.Claims.{class, geometry, header_in, pictured}
 use Rattle.pm_view.specs.Entries.{Entry, delta, first_of_two, given_bit, latest, redos, turn}
-use Rattle.pm_view.specs.Log.{Log, old_of}
+use Rattle.pm_view.specs.Log.{old_of}
 use Rattle.pm_view.specs.Parts.{is_entry_word}
 use Rattle.pm_view.specs.Places.{Place, InRun, InHuge, Descr, RootWord, Block, Small, Big, Root, block_of, is_data, same_place, word_of}
 use Rattle.pm_view.specs.Steps.Step.{Draw, Tell}
-use Rattle.pm_view.specs.View.{View, Told}
+use Rattle.pm_view.specs.View.{View}
 use Rattle.pm_view.specs.Views.{after, value_in}
 use Rattle.pm_world.specs.InWorld.{block_bytes}
-use Rattle.pm_world.specs.LaneFields.{Standing, moved}
+use Rattle.pm_world.specs.LaneFields.{Standing}
 use Rattle.pm_world.specs.Lanes.{is_occupancy}
 use Rattle.pm_world.specs.Lawful.{KeepsRoot, MayDraw}
 use Rattle.pm_world.specs.Logs.{AreWhole}
@@ -35,10 +34,10 @@ use Rattle.pm_world.proofs.PlacesAt.{same_place_true}
 use Rattle.pm_world.proofs.SizesKept.{plain_turn}
 use Rattle.pm_crash.specs.Calls.{Fact}
 use Rattle.pm_crash.specs.Facts.{HaveFacts}
-use Rattle.pm_crash.specs.Footprints.{bit_before, has_found}
+use Rattle.pm_crash.specs.Footprints.{has_found}
 use Rattle.pm_crash.specs.Looked as looked
 use Rattle.pm_crash.specs.Looked.{ChangesAt, Enters, IsChanged, KnowsSize, word_place, words_in}
-use Rattle.pm_crash.specs.Sim.{Grows, Sim, change_so_far, lists_of, sees_at}
+use Rattle.pm_crash.specs.Sim.{Grows, Sim, change_so_far, lists_of}
 use Rattle.pm_crash.specs.SimCommits.{CanSet, IsSetIn, SetsWords, Setting, Settles, index_of, is_word_set, set_all, set_one, sets_at}
 use Rattle.pm_crash.specs.SimFacts.{IsOver}
 use Rattle.pm_crash.specs.Writes.{written_word}
@@ -46,11 +45,10 @@ use Rattle.pm_crash.proofs.Composing.{growths_compose}
 use Rattle.pm_crash.proofs.SimCommits.{sim_commits}
 use Rattle.pm_crash.proofs.EntryFacts.{draws_keep_facts}
 use Rattle.pm_crash.proofs.SimFacts.{sims_are_facts, transactions_end, was_recorded}
-use Rattle.pm_crash.proofs.SimWrites.{not_bitmap, not_descriptor}
+use Rattle.pm_crash.proofs.SimWrites.{not_descriptor}
 use Rattle.pm_crash.proofs.Telling.{tells_grow}
 use Rattle.pm_plan.specs.Notes.{Note, noted}
 use Rattle.pm_plan.proofs.Notes as notes
-use Rattle.pm_redo.specs.Entries.{logged_entry}
 use Rattle.pm_redo.specs.Stages.{IsLogged, all_logged}
 use Rattle.pm_call.specs.At.{IsAt, MaySet, set_entry}
 use Rattle.pm_call.specs.Held.{HasObject, line_of}
@@ -60,7 +58,7 @@ use Rattle.pm_call.proofs.InnerLevels.{commit_unrefused_at, ran_commit}
 use Rattle.pm_call.proofs.KnownObjects.{fresh_is, held_object, object_stands, size_known, word_known}
 use Rattle.pm_call.proofs.RangeReads.{begun_more}
 use Rattle.pm_call.proofs.SetChanges.{IsLocated, IsMember, all_words, are_sets, located, member, no_turn_of, none_at, place_set, redos_are, set_redo, set_redos, setting, settings_of, spot}
-use Rattle.pm_call.proofs.SetEntries.{IsSetAt, set_at}
+use Rattle.pm_call.proofs.SetEntries.{set_at}
 use Rattle.pm_call.proofs.SmallWords.{written_small}
 
 -- ---- bytes of a number

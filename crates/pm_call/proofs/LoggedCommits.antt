@@ -1,17 +1,15 @@
 -- THE OUTERMOST LEVEL OF A CALL WITH ENTRIES MAY BE COMMITTED, whatever number it takes and whatever its steps find; and the call is over then.
-use Rattle.std.proofs.Common.{◌≡◌, ◌≢◌, ℕ, zero, suc, ◌+◌, ◌*◌, ◌/◌, ◌%◌, ◌<◌, ◌≤◌, inl, inr, ⊎_elim, Bool, true, false, cond, eq-eqb, ◌==◌, List, [], ◌∷◌, ◌++◌, length, map, refl, sym, ap, ◌∙◌, subst, arith, Option, None, Some}
+use Rattle.std.proofs.Common.{◌≡◌, ◌≢◌, ℕ, ◌+◌, ◌/◌, inl, inr, ⊎_elim, cond, eq-eqb, ◌==◌, List, [], ◌∷◌, ◌++◌, map, refl, sym, ap, ◌∙◌, subst, arith, None, Some}
 use Rattle.std.specs.List.{AllByRecursion}
 use Rattle.std.proofs.lemmas.Bool.{cond-true}
 use Rattle.pm_layout.specs.declared.shape.Shape.{Shape}
-use Rattle.pm_layout.specs.Areas.{redo_entries, word_of_generation, word_of_seal}
-use Rattle.pm_layout.specs.Sizes.{blocks_of}
-use Rattle.pm_model.specs.Transaction.{Transaction}
+use Rattle.pm_layout.specs.Areas.{word_of_generation, word_of_seal}
 use Rattle.pm_objects.specs.declared.calls.Operation.TheVariants.{Commit}
 use Rattle.pm_record.specs.Redo.{outcome}
 use Rattle.pm_record.specs.declared.redo.Redo.{Redo}
-use Rattle.pm_view.specs.Claims.{class, found, found_after, making}
+use Rattle.pm_view.specs.Claims.{found, found_after}
 use Rattle.pm_view.specs.Entries.{Entry, first_of_two, latest, redos, turn}
-use Rattle.pm_view.specs.Log.{Idle, Open, Recorded, new_log}
+use Rattle.pm_view.specs.Log.{Idle, Recorded, new_log}
 use Rattle.pm_view.specs.Places.{Block, Small, Big}
 use Rattle.pm_view.specs.Steps.{Step}
 use Rattle.pm_view.specs.Steps.Step.{Draw, Tell}
@@ -33,15 +31,16 @@ use Rattle.pm_redo.proofs.LogWritten.{log_lawful}
 use Rattle.pm_redo.proofs.Numbered.{numbered_lawful}
 use Rattle.pm_redo.proofs.Performed.{perform_lawful}
 use Rattle.pm_call.specs.At.{At, IsAt}
-use Rattle.pm_call.specs.Commits.{CallsWithEntriesMayBeCommitted, LeavesCommitted, MayBeLogged}
-use Rattle.pm_call.specs.Did.{IsOver, next}
+use Rattle.pm_call.specs.Commits.{KnowsEntries, LeavesCommitted, OutermostLevelsMayBeCommitted}
+use Rattle.pm_call.specs.Did.{IsOver}
 use Rattle.pm_call.specs.Held.{AreHeld, HasObject}
 use Rattle.pm_call.specs.Plans.{commits, ends_call}
 use Rattle.pm_call.specs.Ranges.{KnowsWord}
 use Rattle.pm_call.proofs.Frames.{noting}
 use Rattle.pm_call.proofs.InnerLevels.{commit_unrefused_at}
 use Rattle.pm_call.proofs.LoggedCalls as calls
-use Rattle.pm_call.proofs.Noting.{all_map, found_so, held_so, sound_so}
+use Rattle.pm_call.proofs.Noting.{all_map, held_so, sound_so}
+use Rattle.pm_call.proofs.Outermost.{leaves_committed}
 use Rattle.pm_call.proofs.Persisted.{IsDrained, drained_at, drained_by, drained_view}
 use Rattle.pm_call.proofs.SetEntries.{can_enter_all}
 
@@ -76,7 +75,7 @@ generation_some : (es : List Redo) (records : List Recorded) (generation : ℕ) 
 generation_some [] records generation some = absurd (some refl)
 generation_some (e ∷ es) records generation some = refl
 
-module _ (s : Standing) (at : At s) (one_ : s.level ≡ 1) (may : MayBeLogged s) (found_ : ℕ → ℕ) (n : ℕ) where
+module _ (s : Standing) (at : At s) (one_ : s.level ≡ 1) (some : s.entries ≢ []) (knows : KnowsEntries s) (found_ : ℕ → ℕ) (n : ℕ) where
   abbrev v : View
   v = s.view
 
@@ -90,7 +89,7 @@ module _ (s : Standing) (at : At s) (one_ : s.level ≡ 1) (may : MayBeLogged s)
   here = drained_at s s.level at s.view.log.records refl (after_all s.view (persists_all s.view)) d
 
   known : AllByRecursion (λ (e : Redo). KnowsWord p (e.place / 8)) s.entries
-  known = all_map (λ (e : Redo). KnowsWord s.view (e.place / 8)) (λ (e : Redo). KnowsWord p (e.place / 8)) s.entries (λ e k. record { value = k.value; known = d.stays (e.place / 8) ∙ k.known; small = k.small }) may.known
+  known = all_map (λ (e : Redo). KnowsWord s.view (e.place / 8)) (λ (e : Redo). KnowsWord p (e.place / 8)) s.entries (λ e k. record { value = k.value; known = d.stays (e.place / 8) ∙ k.known; small = k.small }) knows
 
   can_log : CanLog p s.entries
   can_log = record {
@@ -102,7 +101,7 @@ module _ (s : Standing) (at : At s) (one_ : s.level ≡ 1) (may : MayBeLogged s)
     lanes = here.working.lanes;
     zones = here.working.zones;
     unmaking = here.working.unmaking;
-    few = may.few;
+    few = at.room;
     each = subst (AllByRecursion (Rattle.pm_redo.specs.Stages.CanEnter p)) (sym here.lists.sets) (can_enter_all (moved s p) s.level here (lists_of p).sets here.lists.may_set);
   }
 
@@ -221,7 +220,7 @@ module _ (s : Standing) (at : At s) (one_ : s.level ≡ 1) (may : MayBeLogged s)
 
   plan_is : commits s.entries found_ n s.view ≡ persists_all s.view ++ rest (after_all s.view (persists_all s.view))
   unfolding in_turn
-  plan_is = ap (λ (plan : Plan). plan s.view) (commits_are s.entries found_ n may.some)
+  plan_is = ap (λ (plan : Plan). plan s.view) (commits_are s.entries found_ n some)
 
   ends_at : after_all s.view (commits s.entries found_ n s.view) ≡ final
   ends_at = ap (after_all s.view) plan_is
@@ -233,9 +232,14 @@ module _ (s : Standing) (at : At s) (one_ : s.level ≡ 1) (may : MayBeLogged s)
     unrefused = commit_unrefused_at s s.level at;
     ready = subst (Ready s.view) (sym plan_is) (ready_both s.view (persists_all s.view) (rest (after_all s.view (persists_all s.view))) (persists_all_lawful s.view).0 (subst (λ (y : View). Ready y (rest y)) (sym d.same) rest_ready));
     over = subst (λ (y : View). IsOver (moved s y)) (sym ends_at) over_end;
-    generation = ap (λ (y : View). y.log.generation) ends_at ∙ generation_some s.entries s.view.log.records s.view.log.generation may.some;
+    generation = ap (λ (y : View). y.log.generation) ends_at ∙ generation_some s.entries s.view.log.records s.view.log.generation some;
     number = ap (λ (y : View). last_number y.entries) ends_at;
   }
 
-pub calls_with_entries_may_be_committed : CallsWithEntriesMayBeCommitted
-calls_with_entries_may_be_committed s found_ n at one_ may = leaves_logged s at one_ may found_ n
+-- THE LAW, for both
+pub outermost_levels_may_be_committed : OutermostLevelsMayBeCommitted
+outermost_levels_may_be_committed s found_ n at one_ knows = by s.entries refl
+  where
+    by : (es : List Redo) → s.entries ≡ es → LeavesCommitted s found_ n
+    by [] none = leaves_committed s at one_ none n found_
+    by (e ∷ es) some = leaves_logged s at one_ (λ z. absurd (let q : [] ≡ e ∷ es = sym z ∙ some in cc)) knows found_ n

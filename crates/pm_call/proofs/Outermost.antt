@@ -1,18 +1,16 @@
 -- THE OUTERMOST LEVEL OF A CALL WITHOUT ENTRIES MAY BE COMMITTED, whatever number it takes; and the call is over then.
-use Rattle.std.proofs.Common.{◌≡◌, ◌≢◌, ℕ, zero, suc, ◌+◌, ◌*◌, ◌<◌, ◌≤◌, inl, inr, ⊎_elim, Bool, true, false, cond, ◌==◌, List, [], ◌∷◌, ◌++◌, length, map, refl, sym, ap, ◌∙◌, subst, arith, Option, None, Some}
+use Rattle.std.proofs.Common.{◌≡◌, ℕ, suc, ◌+◌, inl, inr, ⊎_elim, true, ◌==◌, List, [], ◌∷◌, ◌++◌, length, map, refl, sym, ap, ◌∙◌, subst, arith, None, Some}
 use Rattle.std.proofs.lemmas.Bool.{cond-false, ne_eqb}
 use Rattle.std.proofs.lemmas.List.Elements.{All-nil}
 use Rattle.pm_layout.specs.Areas.{word_of_generation, word_of_seal}
 use Rattle.pm_model.specs.Pending.{SetWord}
-use Rattle.pm_model.specs.Transaction.{Transaction}
 use Rattle.pm_objects.specs.declared.calls.Operation.TheVariants.{Commit}
 use Rattle.pm_record.specs.declared.redo.Redo.{Redo}
-use Rattle.pm_view.specs.Claims.{making}
-use Rattle.pm_view.specs.Log.{Idle, Drawn, Open, Recorded, new_log}
+use Rattle.pm_view.specs.Log.{Idle, Recorded, new_log}
 use Rattle.pm_view.specs.Places.{Place}
 use Rattle.pm_view.specs.Steps.{Step}
 use Rattle.pm_view.specs.Steps.Step.{Draw, Tell}
-use Rattle.pm_view.specs.View.{View, Told}
+use Rattle.pm_view.specs.View.{View}
 use Rattle.pm_view.specs.Views.{after, after_all, value_in}
 use Rattle.pm_world.specs.InWorld.{IsSound}
 use Rattle.pm_world.specs.LaneFields.{Standing, last_number, moved}
@@ -29,18 +27,18 @@ use Rattle.pm_crash.proofs.Rollbacks.{committed_calls}
 use Rattle.pm_crash.proofs.Simulation.{no_turn}
 use Rattle.pm_crash.proofs.Telling.{tells_grow}
 use Rattle.pm_plan.specs.Notes.{AreNotes, Note}
-use Rattle.pm_plan.specs.Plans.{Plan, Ready, in_turn, one, persists_all}
+use Rattle.pm_plan.specs.Plans.{Ready, in_turn, one, persists_all}
 use Rattle.pm_plan.proofs.Going.{persists_all_lawful}
 use Rattle.pm_plan.proofs.Plans.{after_all-append, ready_both}
 use Rattle.pm_undo.specs.Plans.{retires}
 use Rattle.pm_undo.specs.Working.{CanRetire, IsRetired}
 use Rattle.pm_undo.proofs.Retired.{retire_lawful}
 use Rattle.pm_call.specs.At.{At, IsAt, set_entry}
-use Rattle.pm_call.specs.Commits.{CallsWithoutEntriesMayBeCommitted, LeavesCommitted, generation_left}
-use Rattle.pm_call.specs.Did.{IsOver, next}
+use Rattle.pm_call.specs.Commits.{LeavesCommitted, generation_left}
+use Rattle.pm_call.specs.Did.{IsOver}
 use Rattle.pm_call.specs.GivenUp.{generation_after}
 use Rattle.pm_call.specs.Held.{AreHeld, HasObject}
-use Rattle.pm_call.specs.Plans.{commits, ends_call, ends_records, tells}
+use Rattle.pm_call.specs.Plans.{commits, ends_call, ends_records}
 use Rattle.pm_call.proofs.InnerLevels.{commit_unrefused_at, ran_commit, sets_none}
 use Rattle.pm_call.proofs.Frames.{noting}
 use Rattle.pm_call.proofs.Noting.{data_told, held_so, sound_so}
@@ -261,6 +259,3 @@ module _ (s : Standing) (at : At s) (one_ : s.level ≡ 1) (none : s.entries ≡
     generation = ap (λ (y : View). y.log.generation) (ends_at found) ∙ (end_.generation ∙ sym (ap (λ (es : List Redo). generation_left es recs s.view.log.generation) none));
     number = ap (λ (y : View). last_number y.entries) (ends_at found) ∙ end_.number_is;
   }
-
-pub calls_without_entries_may_be_committed : CallsWithoutEntriesMayBeCommitted
-calls_without_entries_may_be_committed s found n at one_ none = leaves_committed s at one_ none n found

@@ -1,11 +1,10 @@
 -- A LANE AT WORK STAYS SO as all that is undrained is made persistent.
-use Rattle.std.proofs.Common.{◌≡◌, ◌⊎◌, ℕ, ◌+◌, ◌-◌, ◌*◌, ◌/◌, ◌≤◌, inl, inr, ⊎_elim, Bool, true, false, cond, ◌==◌, ◌&&◌, List, [], ◌∷◌, length, refl, sym, ap, ◌∙◌, subst, Some, None}
+use Rattle.std.proofs.Common.{◌≡◌, ℕ, ◌+◌, ◌-◌, ◌*◌, ◌/◌, ◌≤◌, inl, ⊎_elim, true, false, cond, ◌==◌, ◌&&◌, List, [], ◌∷◌, length, refl, sym, ap, ◌∙◌, subst, Some, None}
 use Rattle.std.specs.List.{AllByRecursion}
 use Rattle.std.specs.Int.{bit_at}
 use Rattle.std.specs.Option.{option_map}
 use Rattle.pm_layout.specs.Areas.{word_of_seal}
-use Rattle.pm_view.specs.Changes.{Undrained}
-use Rattle.pm_view.specs.Claims.{Claim, Drained, header_in, pictured}
+use Rattle.pm_view.specs.Claims.{Drained, header_in, pictured}
 use Rattle.pm_view.specs.Entries.{first_of_two}
 use Rattle.pm_view.specs.Log.{Log, Open, Recorded, new_log, old_of}
 use Rattle.pm_view.specs.Places.{Place, is_data, word_of}
@@ -15,10 +14,9 @@ use Rattle.pm_world.specs.InWorld.{SizesFit}
 use Rattle.pm_world.specs.LaneFields.{Standing, moved}
 use Rattle.pm_world.specs.Memory.{bit}
 use Rattle.pm_world.specs.Sights.{is_pictured, is_recorded, picture}
-use Rattle.pm_crash.specs.Footprints.{bit_before, has_found}
-use Rattle.pm_crash.specs.Sim.{change_so_far}
+use Rattle.pm_crash.specs.Footprints.{has_found}
 use Rattle.pm_plan.specs.Notes.{AreNotes, DrainedTo, Note, noted}
-use Rattle.pm_plan.specs.Plans.{Ready, claims_persisted, log_persisted, persists_all}
+use Rattle.pm_plan.specs.Plans.{claims_persisted, log_persisted, persists_all}
 use Rattle.pm_plan.proofs.Going.{persists_all_lawful}
 use Rattle.pm_undo.specs.Working.{AreOnce, IsStanding, IsWorking}
 use Rattle.pm_call.specs.At.{IsAt, IsDataOf}

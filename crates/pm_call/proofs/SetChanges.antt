@@ -1,5 +1,5 @@
 -- WHAT A LOG OF PUBLISHED WORDS CHANGES: each word that is set has the value that the last of its settings gives it, and no other bit is another.
-use Rattle.std.proofs.Common.{◌≡◌, ◌≢◌, ℕ, zero, suc, ◌+◌, ◌-◌, ◌*◌, ◌/◌, ◌%◌, ◌^◌, ◌<◌, ◌≤◌, nat_lt, Bool, true, false, cond, ◌&&◌, Contains, List, [], ◌∷◌, ◌++◌, map, length, take, drop, slice_index_or, refl, sym, ap, ◌∙◌, subst, arith, Option, None, Some}
+use Rattle.std.proofs.Common.{◌≡◌, ◌≢◌, ℕ, zero, suc, ◌+◌, ◌-◌, ◌*◌, ◌/◌, ◌^◌, ◌<◌, nat_lt, Bool, true, false, Contains, List, [], ◌∷◌, ◌++◌, map, length, take, drop, slice_index_or, refl, sym, ap, ◌∙◌, subst, arith, Option, None, Some}
 use Rattle.std.specs.List.{AllByRecursion}
 use Rattle.std.proofs.lemmas.Bool.{and_from, and_parts, both_ways, cond-true, cond-false, lt-ltb, ltb-true}
 use Rattle.std.proofs.lemmas.Option.{same_Some}
@@ -8,8 +8,8 @@ use Rattle.pm_words.specs.Words.{bytes_of, patched, word_at}
 use Rattle.pm_model.specs.Items.{number_bytes}
 use Rattle.pm_model.specs.Pending.{SetWord}
 use Rattle.pm_record.specs.declared.redo.Op.TheVariants as op
-use Rattle.pm_view.specs.Entries.{Entry, Redo, delta, first_of_two, given_bit, latest, redos, turn, with_redo}
-use Rattle.pm_view.specs.Places.{Place, InRun, InHuge, Descr, RootWord, Block, Small, Big, Root, same_place, word_of}
+use Rattle.pm_view.specs.Entries.{Redo, delta, first_of_two, given_bit, latest, redos, turn, with_redo}
+use Rattle.pm_view.specs.Places.{Place, InRun, Descr, RootWord, Block, Small, Big, Root, same_place, word_of}
 use Rattle.pm_view.specs.View.{View}
 use Rattle.pm_world.specs.LaneFields.{Standing}
 use Rattle.pm_world.specs.Lawful.{place_in}
@@ -24,7 +24,7 @@ use Rattle.pm_crash.specs.Writes.{written_word}
 use Rattle.pm_crash.proofs.SimWrites.{not_bitmap, not_descriptor}
 use Rattle.pm_redo.specs.Entries.{logged_entry}
 use Rattle.pm_call.specs.At.{IsAt, MaySet, set_entry}
-use Rattle.pm_call.proofs.SetEntries.{IsSetAt, set_at}
+use Rattle.pm_call.proofs.SetEntries.{set_at}
 
 -- ---- eight bytes of a number are the number
 digits : (x : ℕ) (rest : List ℕ) → x < 2 ^ 64 → word_at (number_bytes x ++ rest) 0 ≡ x
@@ -115,9 +115,9 @@ module _ (s : Standing) (level : ℕ) (at : IsAt s level) where
           ∙ whole_word (a.id.off + a.off) i x a.value (omega (arith, w, n)) may.small))
       by false e =
           let none : is_word_set i (setting a may) ≡ false = Rattle.std.proofs.lemmas.Bool.false_from_ne_true (is_word_set i (setting a may)) (λ y.
-              let n = set_by a may i y in
-              let same : place_set a may ≡ q = same_Some (place_set a may) q (sym (set_at s level at a may).use_ ∙ (ap (place_in s.view) n ∙ use_)) in
-              both_ways (same_place (place_set a may) q) e (ap (λ p. same_place p q) same ∙ same_place_refl q)) in
+          let n = set_by a may i y in
+          let same : place_set a may ≡ q = same_Some (place_set a may) q (sym (set_at s level at a may).use_ ∙ (ap (place_in s.view) n ∙ use_)) in
+          both_ways (same_place (place_set a may) q) e (ap (λ p. same_place p q) same ∙ same_place_refl q)) in
           ap (λ o. first_of_two o (Some (bit x b))) (cond-false (same_place (place_set a may) q) (given_bit op.Set a.value b) None e)
           ∙ ap (λ z. Some (bit z b)) (sym (cond-false (is_word_set i (setting a may)) (written_word (a.id.off + a.off) (number_bytes a.value) i x) x none))
 

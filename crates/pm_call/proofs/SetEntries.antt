@@ -6,17 +6,14 @@ use Rattle.std.proofs.Math.Nat.{mul_comm}
 use Rattle.std.proofs.lemmas.Nat.{div-mul-add}
 use Rattle.pm_model.specs.Pending.{SetWord}
 use Rattle.pm_record.specs.declared.redo.Op.TheVariants as op
-use Rattle.pm_record.specs.declared.redo.Redo.{Redo}
 use Rattle.pm_view.specs.Claims.{class, first, header_in, locked, span}
 use Rattle.pm_view.specs.Places.{Place, InRun, InHuge, Descr, RootWord, Block, Small, Big, Root, is_data, word_of}
 use Rattle.pm_view.specs.View.{View}
 use Rattle.pm_view.specs.Views.{value_in}
 use Rattle.pm_world.specs.InWorld.{IsSound, block_bytes}
 use Rattle.pm_world.specs.LaneFields.{Standing}
-use Rattle.pm_world.specs.Lawful.{EntersAt, MayChangeAt, is_guarded, is_here, offset_in, place_in}
+use Rattle.pm_world.specs.Lawful.{EntersAt, MayChangeAt, is_guarded, is_here, place_in}
 use Rattle.pm_world.specs.Logs.{EntryOf}
-use Rattle.pm_world.specs.States.{given}
-use Rattle.pm_world.proofs.BlockLines.{run_fits}
 use Rattle.pm_crash.specs.Footprints.{has_found}
 use Rattle.pm_crash.specs.Looked.{word_place, words_in}
 use Rattle.pm_redo.specs.Stages.{CanEnter}
@@ -24,7 +21,7 @@ use Rattle.pm_call.specs.At.{IsAt, MaySet, set_entry}
 use Rattle.pm_call.specs.Held.{HasObject, IsObjectWord, has_line, line_of}
 use Rattle.pm_call.proofs.KnownObjects.{held_object, word_number}
 use Rattle.pm_call.proofs.LockedRanges.{lock_held}
-use Rattle.pm_call.proofs.ObjectWords.{IsDataPlace, object_place}
+use Rattle.pm_call.proofs.ObjectWords.{object_place}
 
 guarded : (k : ℕ) → 8 ≤ k → is_guarded k ≡ true
 guarded k high = ap (λ t. k == 0 || k == 5 || t) (le-leb 8 k high) ∙ last (k == 0) (k == 5)

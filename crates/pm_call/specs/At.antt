@@ -2,7 +2,7 @@
 -- those of the model's transaction that its operations led to; and from whatever bits it agrees with, what it told leads the model there.
 use Rattle.std.specs.Prelude.{◌≡◌, ℕ, ◌+◌, ◌/◌, ◌%◌, ◌^◌, ◌<◌, ◌≤◌, Bool, true, false, Contains, List, [], length, map, Some, None}
 use Rattle.std.specs.List.{AllByRecursion}
-use Rattle.pm_layout.specs.Areas.{greatest_generation, word_of_seal}
+use Rattle.pm_layout.specs.Areas.{greatest_generation, redo_entries, word_of_seal}
 use Rattle.pm_objects.specs.declared.history.TxErr.TheVariants as error
 use Rattle.pm_model.specs.Pending.{SetWord}
 use Rattle.pm_model.specs.Transaction.{Transaction, is_locked, is_working}
@@ -90,6 +90,8 @@ pub record IsAt (s : Standing) (level : ℕ) : Type 0 where
   pub held : AreHeld s.view s.locks
   pub lines : AreLines s.view.fixed.shape s.locks
   pub few : length s.locks ≤ 64
+  -- its entries have room in a log, beside the one that ends the generation
+  pub room : length s.entries < redo_entries s.view.fixed.shape
   pub recorded : (p : Place) → is_recorded s.view.log.records p ≡ true → IsDataOf s.view p
   pub lists : AreLists s level (lists_of s.view)
   pub sim : Sim s.view (entries_so_far s)

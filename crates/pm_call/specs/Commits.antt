@@ -1,7 +1,6 @@
 -- A LEVEL IS COMMITTED, as laws of data.
-use Rattle.std.specs.Prelude.{◌≡◌, ◌≢◌, ℕ, suc, ◌+◌, ◌-◌, ◌/◌, ◌<◌, ◌≤◌, List, [], ◌∷◌, length}
+use Rattle.std.specs.Prelude.{◌≡◌, ℕ, suc, ◌+◌, ◌-◌, ◌/◌, ◌≤◌, List, [], ◌∷◌}
 use Rattle.std.specs.List.{AllByRecursion}
-use Rattle.pm_layout.specs.Areas.{redo_entries}
 use Rattle.pm_record.specs.declared.redo.Redo.{Redo}
 use Rattle.pm_view.specs.Log.{Recorded}
 use Rattle.pm_objects.specs.declared.calls.Operation.TheVariants.{Commit}
@@ -44,15 +43,10 @@ pub record LeavesCommitted (s : Standing) (found : ℕ → ℕ) (n : ℕ) : Type
   pub generation : (next s (commits s.entries found n)).view.log.generation ≡ generation_left s.entries s.view.log.records s.view.log.generation
   pub number : last_number (next s (commits s.entries found n)).view.entries ≡ suc n
 
--- of a call that published no word, whatever number it takes
-abbrev pub CallsWithoutEntriesMayBeCommitted : Type 0
-CallsWithoutEntriesMayBeCommitted = (s : Standing) (found : ℕ → ℕ) (n : ℕ) → At s → s.level ≡ 1 → s.entries ≡ [] → LeavesCommitted s found n
+-- the lane knows each word that it published, as it stands
+abbrev pub KnowsEntries : Standing → Type 0
+KnowsEntries s = AllByRecursion (λ (e : Redo). KnowsWord s.view (e.place / 8)) s.entries
 
--- of one whose published words have room in a log, and were looked at; whatever its steps find
-pub record MayBeLogged (s : Standing) : Type 0 where
-  pub some : s.entries ≢ []
-  pub few : length s.entries < redo_entries s.view.fixed.shape
-  pub known : AllByRecursion (λ (e : Redo). KnowsWord s.view (e.place / 8)) s.entries
-
-abbrev pub CallsWithEntriesMayBeCommitted : Type 0
-CallsWithEntriesMayBeCommitted = (s : Standing) (found : ℕ → ℕ) (n : ℕ) → At s → s.level ≡ 1 → MayBeLogged s → LeavesCommitted s found n
+-- THE LAW: so it is whatever number the call takes, and whatever its steps find
+abbrev pub OutermostLevelsMayBeCommitted : Type 0
+OutermostLevelsMayBeCommitted = (s : Standing) (found : ℕ → ℕ) (n : ℕ) → At s → s.level ≡ 1 → KnowsEntries s → LeavesCommitted s found n

@@ -11,7 +11,7 @@ use Rattle.pm_redo.specs.Plans.{performs, writes_log}
 use Rattle.pm_view.specs.Steps.Step.{Draw, Tell}
 use Rattle.pm_crash.specs.Looked.{bytes_seen}
 use Rattle.pm_crash.specs.Writes.{written_word}
-use Rattle.pm_plan.specs.Plans.{Plan, in_turn, known_word, looks, nothing, one, persists_all, repeated, stores}
+use Rattle.pm_plan.specs.Plans.{Plan, in_turn, known_word, looks, one, persists_all, repeated, stores}
 use Rattle.pm_undo.specs.Plans.{restores, retires, snapshots}
 
 -- an operation is told, with its reply

@@ -1,4 +1,4 @@
-ghost use Rattle.pm_call.specs.Commits.{CallsWithEntriesMayBeCommitted, CallsWithoutEntriesMayBeCommitted, InnerLevelsMayBeCommitted};
+ghost use Rattle.pm_call.specs.Commits.{InnerLevelsMayBeCommitted, OutermostLevelsMayBeCommitted};
 ghost use Rattle.pm_call.specs.GivenUp.{TransactionsMayBeGivenUp};
 
 /// A law: a lane at work may give its transaction up, for an operation that is refused or that aborts
@@ -13,15 +13,9 @@ pub fn inner_levels_may_be_committed()
     ensures { InnerLevelsMayBeCommitted }
 {}
 
-/// A law: a lane at work whose call published no word may commit its outermost level, whatever
-/// number it takes; the call is over then, and has the fact that it owes. No code runs.
-pub fn calls_without_entries_may_be_committed()
-    ensures { CallsWithoutEntriesMayBeCommitted }
-{}
-
-/// A law: a lane at work may commit its outermost level where it published words, which have room in
-/// a log and were looked at, whatever number it takes; the call is over then, and has the fact that it
-/// owes. No code runs.
-pub fn calls_with_entries_may_be_committed()
-    ensures { CallsWithEntriesMayBeCommitted }
+/// A law: a lane at work that knows each word that it published may commit its outermost level,
+/// whatever number it takes, and whatever its steps find; the call is over then, and has the fact that
+/// it owes. No code runs.
+pub fn outermost_levels_may_be_committed()
+    ensures { OutermostLevelsMayBeCommitted }
 {}

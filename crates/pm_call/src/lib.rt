@@ -19,7 +19,7 @@ mod writing;
 pub use adding::{do_add, ranges_may_be_added};
 pub use committing::{commit_inner, stage_after};
 pub use laws::{
-    calls_with_entries_may_be_committed, calls_without_entries_may_be_committed, inner_levels_may_be_committed,
+    inner_levels_may_be_committed, outermost_levels_may_be_committed,
     transactions_may_be_given_up,
 };
 pub use ranges::{ranges_are_looked_at, refusals_of_ranges_are_the_models};
