@@ -1,5 +1,5 @@
 //! What the calls of a transaction share: a lane at work as plain data, what an operation did to it,
-//! and the laws of both; and how a transaction is given up.
+//! and the laws of both; and how a transaction is given up, and a level of it is committed and ends.
 //!
 //! Promises, over any lawful memory and whatever other lanes do, that a transaction that is given up
 //! makes exactly the memory calls of its plan, or the first of them up to the lane's stop; and a law
@@ -19,8 +19,8 @@ mod writing;
 pub use adding::{do_add, ranges_may_be_added};
 pub use committing::{commit_inner, stage_after};
 pub use laws::{
-    inner_levels_may_be_committed, outermost_levels_may_be_committed,
-    transactions_may_be_given_up,
+    calls_given_up_are_past_work, inner_levels_may_be_committed,
+    outermost_levels_may_be_committed, transactions_may_be_given_up,
 };
 pub use ranges::{ranges_are_looked_at, refusals_of_ranges_are_the_models};
 pub use rollback::{give_up, refuse, stop, take_back};
