@@ -67,6 +67,13 @@ module _ (tx : Transaction) (works : is_working tx.stage ≡ true) (some : 1 ≤
       cond-false (nat_le 1 tx.level && not (is_working tx.stage)) (Some Rattle.pm_objects.specs.declared.refusal.Refusal.TheVariants.NotWork) (first_of ((Rattle.pm_objects.specs.declared.refusal.Refusal.TheVariants.NoTx, tx.level == 0) ∷ [])) at_work
       ∙ cond-false (tx.level == 0) (Some Rattle.pm_objects.specs.declared.refusal.Refusal.TheVariants.NoTx) None open_
 
+  -- A COMMIT at work is not refused
+  pub commit_unrefused : (seen : Seen) → refusal_of seen tx Commit ≡ None
+  unfolding first_of
+  commit_unrefused seen =
+      cond-false (nat_le 1 tx.level && not (is_working tx.stage)) (Some Rattle.pm_objects.specs.declared.refusal.Refusal.TheVariants.NotWork) (first_of ((Rattle.pm_objects.specs.declared.refusal.Refusal.TheVariants.NoTx, tx.level == 0) ∷ [])) at_work
+      ∙ cond-false (tx.level == 0) (Some Rattle.pm_objects.specs.declared.refusal.Refusal.TheVariants.NoTx) None open_
+
 -- ---- what it leaves of the lane's lists of actions: nothing is another
 pub refused_actions : (op : Operation) (r : Refusal) (actions : List Told) → actions_told op (Some (Refused r)) actions ≡ actions
 refused_actions op r actions = go op where

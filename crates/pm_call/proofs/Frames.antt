@@ -16,7 +16,7 @@ use Rattle.pm_plan.specs.Notes.{Note, Valued, DrainedTo, Looked, noted, AreNotes
 use Rattle.pm_plan.proofs.Notes as notes
 
 module _ (sh : Shape) (ns : List Note) (t : List Claim) (are : AreNotes sh t ns) (none : (c : ℕ) → making sh t c ≡ false) where
-  making_so : (c : ℕ) → making sh (noted ns t) c ≡ making sh t c
+  pub making_so : (c : ℕ) → making sh (noted ns t) c ≡ making sh t c
   making_so c = notes.making_same sh ns t are none c ∙ sym (none c)
 
   -- what it holds, and which blocks words are in

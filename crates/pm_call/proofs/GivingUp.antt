@@ -160,6 +160,7 @@ module _ (s : Standing) (is : At s) (op : Operation) (reply : Option Value) (giv
     known = b.known;
     sealed = b.others (word_of_seal v.fixed.shape v.fixed.lane) (λ p r e. let d = is.recorded p r in far_seal v d.object.block d.index is.working.lane is.working.lanes d.within (e ∙ ap (word_of v.fixed.shape) d.at)) (λ e. omega (arith, e)) ∙ is.sealed;
     held = all_held n s.locks (held_so v b.notes [] b.calls (new_log Open b.generation) b.each is.working.unmaking s.locks is.held);
+    lines = is.lines;
     facts = facts n;
   }
     where

@@ -36,3 +36,12 @@ pub mod TakenLocks
 pub mod LockedObjects
 pub mod LockRefusals
 pub mod TriedLocks
+pub mod InnerLevels
+pub mod Persisted
+pub mod Outermost
+pub mod Closing
+pub mod InnerLanes
+pub mod SetEntries
+pub mod SetChanges
+pub mod LoggedCalls
+pub mod LoggedCommits

@@ -245,7 +245,9 @@ module _ (s : Standing) (level : ℕ) (at : IsAt s level) (ns : List Note) (chan
     sealed = k.seal;
     number = record { seen = at.number.seen; told = at.number.told; below = at.number.below; none = at.number.none };
     held = held_told next_view call actions published s.locks (held_so s.view ns changes calls log k.each at.working.unmaking s.locks at.held);
+    lines = at.lines;
     few = at.few;
+    room = at.room;
     recorded = λ p e. data_told next_view call actions published (sound_so s.view ns changes calls log k.each at.working.unmaking at.sound) p (k.recorded p e);
     lists = lists;
     sim = sim;

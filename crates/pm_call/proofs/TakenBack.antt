@@ -56,7 +56,7 @@ pub persisted_log : (changes : List Undrained) (log : Log) → log.phase ≡ Ope
 persisted_log [] log open_ = refl
 persisted_log (c ∷ changes) log open_ = ap (λ ph. log_drained ph log) open_
 
-persisted_claims : (changes : List Undrained) (log : Log) (claims : List Claim) → log.phase ≡ Open → (claims_persisted changes log claims ≡ claims) ⊎ (claims_persisted changes log claims ≡ Drained [] ∷ claims)
+pub persisted_claims : (changes : List Undrained) (log : Log) (claims : List Claim) → log.phase ≡ Open → (claims_persisted changes log claims ≡ claims) ⊎ (claims_persisted changes log claims ≡ Drained [] ∷ claims)
 persisted_claims [] log claims open_ = inl refl
 persisted_claims (c ∷ changes) log claims open_ = inr (ap (λ ph. decided_by ph log.entries (Drained [] ∷ claims)) open_)
 

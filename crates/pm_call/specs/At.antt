@@ -2,7 +2,7 @@
 -- those of the model's transaction that its operations led to; and from whatever bits it agrees with, what it told leads the model there.
 use Rattle.std.specs.Prelude.{◌≡◌, ℕ, ◌+◌, ◌/◌, ◌%◌, ◌^◌, ◌<◌, ◌≤◌, Bool, true, false, Contains, List, [], length, map, Some, None}
 use Rattle.std.specs.List.{AllByRecursion}
-use Rattle.pm_layout.specs.Areas.{greatest_generation, word_of_seal}
+use Rattle.pm_layout.specs.Areas.{greatest_generation, redo_entries, word_of_seal}
 use Rattle.pm_objects.specs.declared.history.TxErr.TheVariants as error
 use Rattle.pm_model.specs.Pending.{SetWord}
 use Rattle.pm_model.specs.Transaction.{Transaction, is_locked, is_working}
@@ -24,7 +24,7 @@ use Rattle.pm_crash.specs.SimFacts.{is_begun}
 use Rattle.pm_undo.specs.Records.{kept_by}
 use Rattle.pm_undo.specs.Spans as spans
 use Rattle.pm_undo.specs.Working.{IsWorking}
-use Rattle.pm_call.specs.Held.{AreHeld, is_in_locks}
+use Rattle.pm_call.specs.Held.{AreHeld, AreLines, is_in_locks}
 
 -- the entries of the blocks that the call made and freed so far: none, as long as no call of a transaction makes or frees a block
 abbrev pub entries_so_far : Standing → List Entry
@@ -88,7 +88,10 @@ pub record IsAt (s : Standing) (level : ℕ) : Type 0 where
   pub sealed : value_in s.view (word_of_seal s.view.fixed.shape s.view.fixed.lane) ≡ Some 0
   pub number : MayTakeNumber s.view
   pub held : AreHeld s.view s.locks
+  pub lines : AreLines s.view.fixed.shape s.locks
   pub few : length s.locks ≤ 64
+  -- its entries have room in a log, beside the one that ends the generation
+  pub room : length s.entries < redo_entries s.view.fixed.shape
   pub recorded : (p : Place) → is_recorded s.view.log.records p ≡ true → IsDataOf s.view p
   pub lists : AreLists s level (lists_of s.view)
   pub sim : Sim s.view (entries_so_far s)

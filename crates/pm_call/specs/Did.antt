@@ -22,7 +22,7 @@ use Rattle.pm_crash.specs.Looked.{refusal_by}
 use Rattle.pm_crash.specs.SimOps.{LookedAt}
 use Rattle.pm_plan.specs.Plans.{Plan, Ready}
 use Rattle.pm_call.specs.At.{At, entries_so_far}
-use Rattle.pm_call.specs.Held.{AreHeld, Looks}
+use Rattle.pm_call.specs.Held.{AreHeld, AreLines, Looks}
 use Rattle.pm_call.specs.Plans.{gives_up}
 
 -- ---- STAGES OF A LANE
@@ -95,6 +95,7 @@ pub record IsOver (s : Standing) : Type 0 where
   pub known : value_in s.view (word_of_generation s.view.fixed.shape s.view.fixed.lane) ≡ Some s.view.log.generation
   pub sealed : value_in s.view (word_of_seal s.view.fixed.shape s.view.fixed.lane) ≡ Some 0
   pub held : AreHeld s.view s.locks
+  pub lines : AreLines s.view.fixed.shape s.locks
   pub facts : HaveFacts s.view
 
 -- the fields of a lane whose call was given up for this reason

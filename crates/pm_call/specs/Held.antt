@@ -1,6 +1,8 @@
 -- WHICH OBJECTS A LANE HOLDS, by its list of locks and by its claims; and what it looks at under these locks.
 use Rattle.std.specs.Prelude.{◌≡◌, ◌⊎◌, ℕ, zero, suc, ◌+◌, ◌-◌, ◌/◌, ◌%◌, ◌^◌, ◌<◌, ◌≤◌, nat_le, Bool, true, ◌==◌, ◌&&◌, ◌||◌, not, List}
 use Rattle.std.specs.List.{AllByRecursion, list_any}
+use Rattle.pm_layout.specs.Chunks.{words_of}
+use Rattle.pm_layout.specs.declared.shape.Shape.{Shape}
 use Rattle.pm_view.specs.Claims.{header_in}
 use Rattle.pm_view.specs.Founds.{FindsKnown}
 use Rattle.pm_view.specs.Places.{Block, word_of}
@@ -12,7 +14,7 @@ use Rattle.pm_world.specs.Lanes.{is_occupancy}
 use Rattle.pm_world.specs.declared.lane.HeldLock.{HeldLock}
 use Rattle.pm_crash.specs.Footprints.{has_found}
 use Rattle.pm_crash.specs.Looked.{word_place, words_in}
-use Rattle.pm_lock.specs.Holding.{IsHeldAs}
+use Rattle.pm_lock.specs.Holding.{AreOnce, IsHeldAs}
 
 -- ---- the list of locks
 
@@ -44,6 +46,11 @@ pub record IsHeld (v : View) (l : HeldLock) : Type 0 where
 
 abbrev pub AreHeld : View → List HeldLock → Type 0
 AreHeld v locks = AllByRecursion (IsHeld v) locks
+
+-- they are of lines of the pool, no two of one line
+pub record AreLines (sh : Shape) (locks : List HeldLock) : Type 0 where
+  pub once : AreOnce locks
+  pub inside : AllByRecursion (λ (l : HeldLock). l.line < words_of sh / 8) locks
 
 -- ---- the words of an object
 

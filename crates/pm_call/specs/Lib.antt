@@ -10,3 +10,5 @@ pub mod Writing
 pub mod Adding
 pub mod Locking
 pub mod LockRefusals
+pub mod Stages
+pub mod Commits

@@ -1,11 +1,13 @@
 -- THE PLANS OF A TRANSACTION'S OPERATIONS on objects that it found, as functions of the lane's view before them: docs/FORMAT.md, "Sequences".
-use Rattle.std.specs.Prelude.{ℕ, ◌+◌, ◌/◌, if◌then◌else◌, ◌==◌, List, length, Option, Some, None}
+use Rattle.std.specs.Prelude.{ℕ, ◌+◌, ◌/◌, if◌then◌else◌, ◌==◌, List, [], ◌∷◌, length, Option, Some, None}
 use Rattle.pm_objects.specs.declared.calls.Operation.{Operation}
-use Rattle.pm_objects.specs.declared.calls.Operation.TheVariants.{AddRange, Write, Read}
+use Rattle.pm_objects.specs.declared.calls.Operation.TheVariants.{AddRange, Write, Read, Commit}
 use Rattle.pm_objects.specs.declared.history.Value.{Value}
 use Rattle.pm_objects.specs.declared.history.Value.TheVariants.{Bytes}
 use Rattle.pm_objects.specs.declared.ids.Oid.{Oid}
 use Rattle.pm_model.specs.Transaction.{covered_words}
+use Rattle.pm_record.specs.declared.redo.Redo.{Redo}
+use Rattle.pm_redo.specs.Plans.{performs, writes_log}
 use Rattle.pm_view.specs.Steps.Step.{Draw, Tell}
 use Rattle.pm_crash.specs.Looked.{bytes_seen}
 use Rattle.pm_crash.specs.Writes.{written_word}
@@ -43,3 +45,17 @@ ends_call op reply n = in_turn (tells op reply) (one (Draw n))
 
 abbrev pub gives_up : Operation → Option Value → ℕ → Plan
 gives_up op reply n = in_turn takes_back (ends_call op reply n)
+
+-- ---- A LEVEL IS COMMITTED: an inner one is only told
+abbrev pub commits_inner : Plan
+commits_inner = tells Commit None
+
+-- the generation of a call with its number ends, where it has records
+abbrev pub ends_records : Plan
+ends_records v = if length v.log.records == 0 then [] else retires v
+
+-- at the outermost level all is made persistent, and the call takes its number; then its records end. Entries are logged before the number is
+-- taken, and performed after it, which ends the records too
+abbrev pub commits : List Redo → (ℕ → ℕ) → ℕ → Plan
+commits [] found n = in_turn persists_all (in_turn (ends_call Commit None n) ends_records)
+commits (e ∷ entries) found n = in_turn persists_all (in_turn (writes_log (e ∷ entries)) (in_turn (ends_call Commit None n) (performs found)))

@@ -1,5 +1,5 @@
 //! What the calls of a transaction share: a lane at work as plain data, what an operation did to it,
-//! and the laws of both; and how a transaction is given up.
+//! and the laws of both; and how a transaction is given up, and a level of it is committed and ends.
 //!
 //! Promises, over any lawful memory and whatever other lanes do, that a transaction that is given up
 //! makes exactly the memory calls of its plan, or the first of them up to the lane's stop; and a law
@@ -10,6 +10,7 @@
 
 mod adding;
 mod checking;
+mod committing;
 mod holding;
 mod laws;
 mod locking;
@@ -21,8 +22,12 @@ mod writing;
 
 pub use adding::{do_add, ranges_may_be_added};
 pub use checking::{check_range, check_words, holds};
+pub use committing::{commit_inner, stage_after};
 pub use holding::is_held;
-pub use laws::transactions_may_be_given_up;
+pub use laws::{
+    calls_given_up_are_past_work, inner_levels_may_be_committed,
+    outermost_levels_may_be_committed, transactions_may_be_given_up,
+};
 pub use locking::{
     locks_may_be_wanted, objects_may_be_locked, refusals_of_locks_are_the_models,
     refused_locks_give_up, tried_locks_leave_work,
@@ -30,7 +35,7 @@ pub use locking::{
 pub use ranges::{ranges_are_looked_at, refusals_of_ranges_are_the_models};
 pub use reading::{do_read, ranges_may_be_read};
 pub use rollback::{give_up, refuse, stop, take_back};
-pub use stages::work_refusal;
+pub use stages::{end_refusal, work_refusal};
 pub use writing::{check_recorded, count_words, do_write, ranges_may_be_written};
 
 #[cfg(test)]

@@ -7,9 +7,11 @@
 //! owes. It stands on `pm_call` for the parts that calls share; docs/BEHAVIOUR.md.
 #![tactic(auto)]
 
+mod ending;
 mod outcome;
 mod ranges;
 
+pub use ending::end;
 pub use outcome::abort;
 pub use ranges::{add_range, read, write};
 

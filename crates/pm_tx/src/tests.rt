@@ -1,5 +1,6 @@
 ghost use Rattle.std.specs.Prelude.{◌≡◌, ◌^◌, ◌<◌, IfOk};
 ghost use Rattle.pm_call.specs.Did.{stage_refusal, work_refusal};
+ghost use Rattle.pm_call.specs.Stages.{end_refusal, stage_end_refusal};
 
 use super::*;
 use arrayvec::ArrayVec;
@@ -13,7 +14,8 @@ use std::test::Fail;
 
 /// Lane 0 of a pool of one lane and one zone, at a level and a stage of a transaction.
 fn lane_at(alloc: Global, level: u64, stage: Stage) -> Result<Lane<SoloLane>, Fail>
-    ensures { IfOk result (λ lane. work_refusal lane ≡ stage_refusal stage level) }
+    ensures works { IfOk result (λ lane. work_refusal lane ≡ stage_refusal stage level) }
+    ensures ends { IfOk result (λ lane. end_refusal lane ≡ stage_end_refusal stage level) }
 {
     let words = vec![in alloc; 0; 34816]?;
     Ok(Lane {
@@ -84,5 +86,16 @@ fn reads_are_refused(rt: HostRuntime) -> Result<(), Fail> {
     assert_eq!(rt; read(&mut late, id, 0, &mut buffer), Err(Refusal::NotWork));
     assert_eq!(rt; late.error, TxErr::None);
     assert_eq!(rt; buffer, [1, 2, 3, 4]);
+    Ok(())
+}
+
+/// Where no transaction is open, and while a level is in work, its end is refused.
+#[test]
+fn ends_are_refused(rt: HostRuntime) -> Result<(), Fail> {
+    let mut idle = lane_at(rt.alloc(), 0, Stage::None)?;
+    assert_eq!(rt; end(&mut idle), Err(Refusal::NoTx));
+    let mut working = lane_at(rt.alloc(), 2, Stage::Work)?;
+    assert_eq!(rt; end(&mut working), Err(Refusal::InTx));
+    assert_eq!(rt; working.level, 2);
     Ok(())
 }

@@ -1,0 +1,245 @@
+-- THE OUTERMOST LEVEL OF A CALL WITH ENTRIES MAY BE COMMITTED, whatever number it takes and whatever its steps find; and the call is over then.
+use Rattle.std.proofs.Common.{◌≡◌, ◌≢◌, ℕ, ◌+◌, ◌/◌, inl, inr, ⊎_elim, cond, eq-eqb, ◌==◌, List, [], ◌∷◌, ◌++◌, map, refl, sym, ap, ◌∙◌, subst, arith, None, Some}
+use Rattle.std.specs.List.{AllByRecursion}
+use Rattle.std.proofs.lemmas.Bool.{cond-true}
+use Rattle.pm_layout.specs.declared.shape.Shape.{Shape}
+use Rattle.pm_layout.specs.Areas.{word_of_generation, word_of_seal}
+use Rattle.pm_objects.specs.declared.calls.Operation.TheVariants.{Commit}
+use Rattle.pm_record.specs.Redo.{outcome}
+use Rattle.pm_record.specs.declared.redo.Redo.{Redo}
+use Rattle.pm_view.specs.Claims.{found, found_after}
+use Rattle.pm_view.specs.Entries.{Entry, first_of_two, latest, redos, turn}
+use Rattle.pm_view.specs.Log.{Idle, Recorded, new_log}
+use Rattle.pm_view.specs.Places.{Block, Small, Big}
+use Rattle.pm_view.specs.Steps.{Step}
+use Rattle.pm_view.specs.Steps.Step.{Draw, Tell}
+use Rattle.pm_view.specs.View.{View}
+use Rattle.pm_view.specs.Views.{after, after_all, value_in}
+use Rattle.pm_world.specs.InWorld.{IsSound}
+use Rattle.pm_world.specs.LaneFields.{Standing, last_number, moved}
+use Rattle.pm_world.specs.Logs.{ends_with}
+use Rattle.pm_world.specs.declared.lane.HeldLock.{HeldLock}
+use Rattle.pm_crash.specs.Footprints.{has_found}
+use Rattle.pm_crash.specs.Sim.{lists_of}
+use Rattle.pm_plan.specs.Plans.{Plan, Ready, in_turn, one, persists_all}
+use Rattle.pm_plan.proofs.Going.{persists_all_lawful}
+use Rattle.pm_plan.proofs.Plans.{after_all-append, ready_both}
+use Rattle.pm_redo.specs.Entries.{last_made}
+use Rattle.pm_redo.specs.Plans.{performs, writes_log}
+use Rattle.pm_redo.specs.Stages.{CanLog, CanSeal, IsLogged, IsOfPlace, IsPerformed, all_logged, decided}
+use Rattle.pm_redo.proofs.LogWritten.{log_lawful}
+use Rattle.pm_redo.proofs.Numbered.{numbered_lawful}
+use Rattle.pm_redo.proofs.Performed.{perform_lawful}
+use Rattle.pm_call.specs.At.{At, IsAt}
+use Rattle.pm_call.specs.Commits.{KnowsEntries, LeavesCommitted, OutermostLevelsMayBeCommitted}
+use Rattle.pm_call.specs.Did.{IsOver}
+use Rattle.pm_call.specs.Held.{AreHeld, HasObject}
+use Rattle.pm_call.specs.Plans.{commits, ends_call}
+use Rattle.pm_call.specs.Ranges.{KnowsWord}
+use Rattle.pm_call.proofs.Frames.{noting}
+use Rattle.pm_call.proofs.InnerLevels.{commit_unrefused_at}
+use Rattle.pm_call.proofs.LoggedCalls as calls
+use Rattle.pm_call.proofs.Noting.{all_map, held_so, sound_so}
+use Rattle.pm_call.proofs.Outermost.{leaves_committed}
+use Rattle.pm_call.proofs.Persisted.{IsDrained, drained_at, drained_by, drained_view}
+use Rattle.pm_call.proofs.SetEntries.{can_enter_all}
+
+-- the last entry ends the generation
+last_end : (found : ℕ → ℕ) (sh : Shape) (lane generation : ℕ) (front : List Entry) → last_made found (front ++ ends_with sh lane generation ∷ []) (word_of_generation sh lane) ≡ Some (generation + 1)
+last_end found sh lane generation [] = cond-true (word_of_generation sh lane == word_of_generation sh lane) (Some (generation + 1)) None (eq-eqb (word_of_generation sh lane) (word_of_generation sh lane) refl)
+last_end found sh lane generation (e ∷ front) = ap (λ o. first_of_two o (cond (e.word == word_of_generation sh lane) (Some (outcome e.op e.value (found 0))) None)) (last_end (λ i. found (i + 1)) sh lane generation front)
+
+-- an operation that is told changes nothing of a log
+seal_told : (y : View) (n : ℕ) → CanSeal (after y (Draw n)) → CanSeal (after (after y (Tell Commit None)) (Draw n))
+seal_told y n c = record {
+  number = c.number;
+  drawn = c.drawn;
+  log_ = record {
+    front = c.log_.front;
+    are = c.log_.are;
+    each = all_map (IsOfPlace (after y (Draw n))) (IsOfPlace (after (after y (Tell Commit None)) (Draw n))) c.log_.front (λ e o. record { place = o.place; is = o.is; at = o.at; root = o.root; small = o.small }) c.log_.each;
+    few = c.log_.few;
+    below = c.log_.below;
+    lane = c.log_.lane;
+  };
+  drained = c.drained;
+  seal = c.seal;
+  generation = c.generation;
+}
+
+commits_are : (es : List Redo) (found : ℕ → ℕ) (n : ℕ) → es ≢ [] → commits es found n ≡ in_turn persists_all (in_turn (writes_log es) (in_turn (ends_call Commit None n) (performs found)))
+commits_are [] found n some = absurd (some refl)
+commits_are (e ∷ es) found n some = refl
+
+generation_some : (es : List Redo) (records : List Recorded) (generation : ℕ) → es ≢ [] → generation + 1 ≡ Rattle.pm_call.specs.Commits.generation_left es records generation
+generation_some [] records generation some = absurd (some refl)
+generation_some (e ∷ es) records generation some = refl
+
+module _ (s : Standing) (at : At s) (one_ : s.level ≡ 1) (some : s.entries ≢ []) (knows : KnowsEntries s) (found_ : ℕ → ℕ) (n : ℕ) where
+  abbrev v : View
+  v = s.view
+
+  d : IsDrained s.view (after_all s.view (persists_all s.view)) s.view.log.records
+  d = drained_by s.view at.working at.unbumped s.view.log.records refl
+
+  abbrev p : View
+  p = drained_view s s.level at s.view.log.records refl (after_all s.view (persists_all s.view)) d
+
+  here : IsAt (moved s p) s.level
+  here = drained_at s s.level at s.view.log.records refl (after_all s.view (persists_all s.view)) d
+
+  known : AllByRecursion (λ (e : Redo). KnowsWord p (e.place / 8)) s.entries
+  known = all_map (λ (e : Redo). KnowsWord s.view (e.place / 8)) (λ (e : Redo). KnowsWord p (e.place / 8)) s.entries (λ e k. record { value = k.value; known = d.stays (e.place / 8) ∙ k.known; small = k.small }) knows
+
+  can_log : CanLog p s.entries
+  can_log = record {
+    is_open = refl;
+    whole = (refl, refl);
+    unentered = refl;
+    below = here.working.below;
+    lane = here.working.lane;
+    lanes = here.working.lanes;
+    zones = here.working.zones;
+    unmaking = here.working.unmaking;
+    few = at.room;
+    each = subst (AllByRecursion (Rattle.pm_redo.specs.Stages.CanEnter p)) (sym here.lists.sets) (can_enter_all (moved s p) s.level here (lists_of p).sets here.lists.may_set);
+  }
+
+  -- ---- the log is written
+  abbrev w : View
+  w = after_all p (writes_log s.entries p)
+
+  written_log : IsLogged p s.entries w
+  written_log = (log_lawful p s.entries can_log).1
+
+  abbrev g : View
+  g = calls.written (moved s p) s.level here known w written_log
+
+  same_g : w ≡ g
+  same_g = calls.written_same (moved s p) s.level here known w written_log
+
+  no_turn : (B : Block) → turn (latest (redos (all_logged p s.entries))) B ≡ None
+  no_turn B = calls.no_turn_logged (moved s p) s.level here known w written_log B
+
+  abbrev done : View
+  done = after (after g (Tell Commit None)) (Draw n)
+
+  -- ---- it is performed once the call has its number
+  can_seal : CanSeal done
+  can_seal = seal_told g n (subst (λ (y : View). CanSeal (after y (Draw n))) same_g (numbered_lawful p w s.entries n can_log written_log here.sealed here.working.known))
+
+  abbrev end_ : View
+  end_ = after_all done (performs found_ done)
+
+  performed : IsPerformed done found_ end_
+  performed = (perform_lawful done found_ can_seal).1
+
+  abbrev final : View
+  final = noting (decided done) performed.noted.notes [] end_.calls (new_log Idle (s.view.log.generation + 1))
+
+  same_end : end_ ≡ final
+  same_end = performed.same ∙ ap (λ c. record done { claims = c; changes = []; calls = end_.calls; log = new_log Idle (s.view.log.generation + 1) }) performed.noted.are
+
+  -- ---- and the lane holds what it held
+  found_decided : (B : Block) → has_found (decided done) B ≡ has_found g B
+  found_decided B = ap (λ o. found_after o (has_found g B)) (no_turn B)
+
+  sound_g : IsSound g
+  sound_g = sound_so p written_log.noted.notes [] w.calls (record p.log { entries = all_logged p s.entries }) written_log.noted.each here.working.unmaking here.sound
+
+  sound_decided : IsSound (decided done)
+  sound_decided = record {
+    small = λ c i e. sound_g.small c i (sym (found_decided (Small c i)) ∙ e);
+    some = λ f e. sound_g.some f (sym (found_decided (Big f)) ∙ e);
+    zone = λ f e. sound_g.zone f (sym (found_decided (Big f)) ∙ e);
+    huge = λ f c e i. sound_g.huge f c (sym (found_decided (Big f)) ∙ e) i;
+  }
+
+  held_decided : (locks : List HeldLock) → AreHeld g locks → AreHeld (decided done) locks
+  held_decided [] all = tt
+  held_decided (l ∷ locks) all = (
+    record {
+      held = all.0.held;
+      object = ⊎_elim (λ (e : l.line ≡ 0). inl e) (λ (o : HasObject g l.line). inr (record { block = o.block; found = found_decided o.block ∙ o.found; at = o.at; inside = o.inside })) all.0.object;
+    },
+    held_decided locks all.1,
+  )
+
+  held_g : AreHeld g s.locks
+  held_g = held_so p written_log.noted.notes [] w.calls (record p.log { entries = all_logged p s.entries }) written_log.noted.each here.working.unmaking s.locks here.held
+
+  known_end : value_in final (word_of_generation s.view.fixed.shape s.view.fixed.lane) ≡ Some (s.view.log.generation + 1)
+  known_end = sym (ap (λ (y : View). value_in y (word_of_generation s.view.fixed.shape s.view.fixed.lane)) same_end)
+      ∙ (performed.made (word_of_generation s.view.fixed.shape s.view.fixed.lane) (λ e. omega (arith, e))
+      ∙ ap (λ o. first_of_two o (value_in done (word_of_generation s.view.fixed.shape s.view.fixed.lane))) (last_end found_ s.view.fixed.shape s.view.fixed.lane s.view.log.generation (map (Rattle.pm_redo.specs.Entries.logged_entry p) s.entries)))
+
+  over_end : IsOver (moved s final)
+  over_end =
+      let sound = sound_so (decided done) performed.noted.notes [] end_.calls (new_log Idle (s.view.log.generation + 1)) performed.noted.each (λ c. refl) sound_decided in record {
+        log = refl;
+        drained = refl;
+        sound = record { small = sound.small; some = sound.some; zone = sound.zone; huge = sound.huge };
+        known = known_end;
+        sealed = sym (ap (λ (y : View). value_in y (word_of_seal s.view.fixed.shape s.view.fixed.lane)) same_end) ∙ performed.seal;
+        held = held_so (decided done) performed.noted.notes [] end_.calls (new_log Idle (s.view.log.generation + 1)) performed.noted.each (λ c. refl) s.locks (held_decided s.locks held_g);
+        lines = here.lines;
+        facts = calls.logged_facts (moved s p) s.level here known w written_log one_ n;
+      }
+
+  -- ---- the steps
+  abbrev ends : View → List Step
+  ends y = Tell Commit None ∷ Draw n ∷ performs found_ (after (after y (Tell Commit None)) (Draw n))
+
+  ends_are : (y : View) → in_turn (ends_call Commit None n) (performs found_) y ≡ ends y
+  unfolding in_turn one after_all
+  ends_are y = refl
+
+  ends_ready : Ready w (ends w)
+  unfolding Ready
+  ends_ready = subst (λ (y : View). Ready y (ends y)) (sym same_g) (refl, tt, (calls.logged_may_draw (moved s p) s.level here known w written_log one_, tt, (perform_lawful done found_ can_seal).0))
+
+  ends_after : (y : View) → after_all y (ends y) ≡ after_all (after (after y (Tell Commit None)) (Draw n)) (performs found_ (after (after y (Tell Commit None)) (Draw n)))
+  unfolding after_all
+  ends_after y = refl
+
+  abbrev rest : Plan
+  rest = in_turn (writes_log s.entries) (in_turn (ends_call Commit None n) (performs found_))
+
+  rest_are : rest p ≡ writes_log s.entries p ++ ends w
+  unfolding in_turn
+  rest_are = ap (λ z. writes_log s.entries p ++ z) (ends_are w)
+
+  rest_ready : Ready p (rest p)
+  rest_ready = subst (Ready p) (sym rest_are) (ready_both p (writes_log s.entries p) (ends w) (log_lawful p s.entries can_log).0 ends_ready)
+
+  rest_after : after_all p (rest p) ≡ final
+  rest_after = ap (after_all p) rest_are
+      ∙ (after_all-append p (writes_log s.entries p) (ends w)
+      ∙ (ap (λ (y : View). after_all y (ends y)) same_g
+      ∙ (ends_after g ∙ same_end)))
+
+  plan_is : commits s.entries found_ n s.view ≡ persists_all s.view ++ rest (after_all s.view (persists_all s.view))
+  unfolding in_turn
+  plan_is = ap (λ (plan : Plan). plan s.view) (commits_are s.entries found_ n some)
+
+  ends_at : after_all s.view (commits s.entries found_ n s.view) ≡ final
+  ends_at = ap (after_all s.view) plan_is
+      ∙ (after_all-append s.view (persists_all s.view) (rest (after_all s.view (persists_all s.view)))
+      ∙ (ap (λ (y : View). after_all y (rest y)) d.same ∙ rest_after))
+
+  pub leaves_logged : LeavesCommitted s found_ n
+  leaves_logged = record {
+    unrefused = commit_unrefused_at s s.level at;
+    ready = subst (Ready s.view) (sym plan_is) (ready_both s.view (persists_all s.view) (rest (after_all s.view (persists_all s.view))) (persists_all_lawful s.view).0 (subst (λ (y : View). Ready y (rest y)) (sym d.same) rest_ready));
+    over = subst (λ (y : View). IsOver (moved s y)) (sym ends_at) over_end;
+    generation = ap (λ (y : View). y.log.generation) ends_at ∙ generation_some s.entries s.view.log.records s.view.log.generation some;
+    number = ap (λ (y : View). last_number y.entries) ends_at;
+  }
+
+-- THE LAW, for both
+pub outermost_levels_may_be_committed : OutermostLevelsMayBeCommitted
+outermost_levels_may_be_committed s found_ n at one_ knows = by s.entries refl
+  where
+    by : (es : List Redo) → s.entries ≡ es → LeavesCommitted s found_ n
+    by [] none = leaves_committed s at one_ none n found_
+    by (e ∷ es) some = leaves_logged s at one_ (λ z. absurd (let q : [] ≡ e ∷ es = sym z ∙ some in cc)) knows found_ n
