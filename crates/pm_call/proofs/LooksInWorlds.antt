@@ -1,5 +1,5 @@
 -- A LOOK AT A WORD OF AN OBJECT is as operations take it, where the lane's view is one of a world in which the word has the value found.
-use Rattle.std.proofs.Common.{ℕ, ◌+◌, ◌*◌, ◌^◌, ◌<◌, ap, ◌∙◌, refl, subst}
+use Rattle.std.proofs.Common.{◌≡◌, ℕ, ◌+◌, ◌*◌, ◌^◌, ◌<◌, ◌≤◌, sym, ap, ◌∙◌, subst}
 use Rattle.pm_view.specs.Claims.{header_in}
 use Rattle.pm_view.specs.Founds.{FindsKnown}
 use Rattle.pm_view.specs.Places.{Block, word_of}

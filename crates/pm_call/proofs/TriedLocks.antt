@@ -153,9 +153,9 @@ module _ (s : Standing) (wants : List Want) (x : View) (at : At s) (h : HoldsLoc
   pics : KeepsPictures s.view claims
   pics = ⊎_elim
       (λ (w : IsOfWorld x). pictures_on s.view claims tk.taken.seen keeps at.sound sound
-          (subst SeesInside next_is (world_inside x w.word w.value (ap (λ (u : View). u.log.phase) next_is ∙ at.working.is_open) w.there)))
+      (subst SeesInside next_is (world_inside x w.word w.value (ap (λ (u : View). u.log.phase) next_is ∙ at.working.is_open) w.there)))
       (λ (e : tk.looks ≡ []). λ p b y f q. known.pictured_alike v.fixed.shape v.claims claims p b
-          (ap (λ t. pictured v.fixed.shape t (word_of v.fixed.shape p)) (none e) ∙ took_word v.fixed.shape got v.claims (word_of v.fixed.shape p) some_got) ∙ q)
+      (ap (λ t. pictured v.fixed.shape t (word_of v.fixed.shape p)) (none e) ∙ took_word v.fixed.shape got v.claims (word_of v.fixed.shape p) some_got) ∙ q)
       tk.world
 
   -- what it held it holds
@@ -182,7 +182,9 @@ module _ (s : Standing) (wants : List Want) (x : View) (at : At s) (h : HoldsLoc
     sealed = seal_on s s.level at claims tk.taken.seen keeps h.own sound pics;
     number = record { seen = at.number.seen; told = tk.told (NumberSeen at.number.seen) at.number.told; below = at.number.below; none = at.number.none };
     held = held;
+    lines = at.lines;
     few = at.few;
+    room = at.room;
     recorded = λ p e. data_on s s.level at claims tk.taken.seen keeps h.own sound pics p (at.recorded p e);
     lists = record {
       level_is = at.lists.level_is;
