@@ -68,7 +68,8 @@ fn look_words<M: LawfulMem>(lane: &mut Lane<M>, id: Oid, off: u64, len: u64)
     }
 }
 
-/// Checks that the lane has a range of an object, as `check_range` does, and looks at each word of it.
+/// Checks that the lane has a range of an object: it holds the object, for writing if so asked, and
+/// the range ends within it. It looks at the object's size and at each word of the range.
 ///
 /// # Errors
 ///

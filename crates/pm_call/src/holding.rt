@@ -15,7 +15,8 @@ pub fn is_held(locks: &[HeldLock], off: u64, write: bool) -> bool
 
 /// Whether the lock of a line is among these, for writing if so asked.
 fn has_line(locks: &[HeldLock], line: u64, write: bool) -> bool
-    ensures { result ≡ list_any (λ (l : HeldLock). l.line == line && (l.write || not write)) locks.now }
+    ensures { result
+        ≡ list_any (λ (l : HeldLock). l.line == line && (l.write || not write)) locks.now }
 {
     locks
         .iter()

@@ -15,8 +15,8 @@ use pm_layout::WORD_BYTES;
 use pm_objects::{Oid, Operation};
 use pm_world::{Lane, LawfulMem, LentOperation, LentValue};
 
-/// A law: a lane at work that knows the words of a range may tell their bytes, and is at work then. No
-/// code runs.
+/// A law: a lane at work that knows the words of a range may tell their bytes, and is at work then.
+/// No code runs.
 pub fn ranges_may_be_read()
     ensures { RangesMayBeRead }
 {}
@@ -58,9 +58,9 @@ fn read_words<M: LawfulMem>(lane: &mut Lane<M>, id: Oid, off: u64, into: &mut [u
     }
 }
 
-/// Reads bytes of an object from its byte `off` on, where the lane has the range, and adds the read to
-/// the call, with its bytes. It looks at each word of the range. Makes exactly the memory calls of
-/// `gets` then.
+/// Reads bytes of an object from its byte `off` on, where the lane has the range, and adds the read
+/// to the call, with its bytes. It looks at each word of the range. Makes exactly the memory calls
+/// of `gets` then.
 pub fn do_read<M: LawfulMem>(lane: &mut Lane<M>, id: Oid, off: u64, into: &mut [u8])
     requires { IsAtSo M.at lane.old (λ s. HasRange s id off (length into.old) false) }
     ensures as_long { length into.new ≡ length into.old }

@@ -30,7 +30,8 @@ fn bytes_beside_a_range_stay(rt: HostRuntime) -> Result<(), Fail> {
     Ok(())
 }
 
-/// Four bytes from the seventh of a word on are the last two of this word and the first two of the next.
+/// Four bytes from the seventh of a word on: the last two of this word, and the first two of the
+/// next.
 #[test]
 fn bytes_of_two_words(rt: HostRuntime) -> Result<(), Fail> {
     let mut into = [0; 4];

@@ -26,15 +26,15 @@ fn try_add<M: LawfulMem>(lane: &mut Lane<M>, id: Oid, off: u64, len: u64) -> Res
     }
 }
 
-/// Records what a range of an object holds, `len` bytes from byte `off` of the object on, so that it
-/// may be written and is put back if the transaction is given up: pmemobj_tx_add_range(3). The object's
-/// lock is held for writing. Whole words are recorded, none twice: how many words had no record yet.
-/// Makes exactly the memory calls of `adds`.
+/// Records what a range of an object holds, `len` bytes from byte `off` of the object on, so that
+/// it may be written and is put back if the transaction is given up: pmemobj_tx_add_range(3). The
+/// object's lock is held for writing. Whole words are recorded, none twice: how many words had no
+/// record yet. Makes exactly the memory calls of `adds`.
 ///
 /// # Errors
 ///
-/// - `Stopped`: the lane had stopped, and nothing is done; or it comes to its stop, the first of the
-///   calls are made, and the lane says that it stopped.
+/// - `Stopped`: the lane had stopped, and nothing is done; or it comes to its stop, the first of
+///   the calls are made, and the lane says that it stopped.
 /// - `NoTx`: no transaction is open; nothing is done.
 /// - `NotWork`: the transaction is past its work; nothing is done.
 /// - `NotLocked`: the object is not locked for writing; the transaction is given up.
@@ -63,7 +63,8 @@ pub fn add_range<M: LawfulMem>(
     }
 }
 
-/// Checks that the lane has a range of an object for writing, and that each word of it has a record.
+/// Checks that the lane has a range of an object for writing, and that each word of it has a
+/// record.
 fn check_write<M: LawfulMem>(
     lane: &mut Lane<M>,
     id: Oid,
@@ -98,15 +99,15 @@ fn try_write<M: LawfulMem>(
     }
 }
 
-/// Writes bytes into an object from its byte `off` on, in place; each word that they cover was recorded
-/// by `add_range`, so that they are put back if the transaction is given up. The object's lock is held
-/// for writing. Makes exactly the memory calls of `puts`. PMDK has no such call: it stores through a
-/// pointer, pmemobj_direct(3).
+/// Writes bytes into an object from its byte `off` on, in place; each word that they cover was
+/// recorded by `add_range`, so that they are put back if the transaction is given up. The object's
+/// lock is held for writing. Makes exactly the memory calls of `puts`. PMDK has no such call: it
+/// stores through a pointer, pmemobj_direct(3).
 ///
 /// # Errors
 ///
-/// - `Stopped`: the lane had stopped, and nothing is done; or it comes to its stop, the first of the
-///   calls are made, and the lane says that it stopped.
+/// - `Stopped`: the lane had stopped, and nothing is done; or it comes to its stop, the first of
+///   the calls are made, and the lane says that it stopped.
 /// - `NoTx`: no transaction is open; nothing is done.
 /// - `NotWork`: the transaction is past its work; nothing is done.
 /// - `NotLocked`: the object is not locked for writing; the transaction is given up.
@@ -153,15 +154,15 @@ fn try_read<M: LawfulMem>(
     }
 }
 
-/// Reads bytes of an object from its byte `off` on, as many as the buffer has, as the transaction has
-/// them. The object's lock is held. Makes exactly the memory calls of `gets`, and loads of the range's
-/// words before them; an error leaves the buffer as it was. PMDK has no such call: it reads through a
-/// pointer, pmemobj_direct(3).
+/// Reads bytes of an object from its byte `off` on, as many as the buffer has, as the transaction
+/// has them. The object's lock is held. Makes exactly the memory calls of `gets`, and loads of the
+/// range's words before them; an error leaves the buffer as it was. PMDK has no such call: it reads
+/// through a pointer, pmemobj_direct(3).
 ///
 /// # Errors
 ///
-/// - `Stopped`: the lane had stopped, and nothing is done; or it comes to its stop as the transaction is
-///   given up, the first of the calls are made, and the lane says that it stopped.
+/// - `Stopped`: the lane had stopped, and nothing is done; or it comes to its stop as the
+///   transaction is given up, the first of the calls are made, and the lane says that it stopped.
 /// - `NoTx`: no transaction is open; nothing is done.
 /// - `NotWork`: the transaction is past its work; nothing is done.
 /// - `NotLocked`: the object is not locked; the transaction is given up.
