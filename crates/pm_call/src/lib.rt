@@ -19,8 +19,8 @@ mod writing;
 pub use adding::{do_add, ranges_may_be_added};
 pub use committing::{commit_inner, stage_after};
 pub use laws::{
-    calls_given_up_are_past_work, inner_levels_may_be_committed,
-    outermost_levels_may_be_committed, transactions_may_be_given_up,
+    calls_given_up_are_past_work, inner_levels_may_be_committed, outermost_levels_may_be_committed,
+    transactions_may_be_given_up,
 };
 pub use ranges::{ranges_are_looked_at, refusals_of_ranges_are_the_models};
 pub use rollback::{give_up, refuse, stop, take_back};
