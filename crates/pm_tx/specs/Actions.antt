@@ -1,19 +1,21 @@
 -- ACTIONS ARE ASKED FOR in a transaction at work: pmemobj_set_value(3) and its kin. A refusal leaves it at work, and is told.
-use Rattle.std.specs.Prelude.{◌≡◌, ◌≢◌, ℕ, ◌%◌, ◌<◌, ◌≤◌, length, Option, Some, None, Result, Ok, Err}
+use Rattle.std.specs.Prelude.{◌≡◌, ◌≢◌, ℕ, ◌%◌, ◌<◌, ◌≤◌, List, length, Option, Some, None, Result, Ok, Err}
 use Rattle.pm_model.specs.Pending.{max_actions, pending_count}
 use Rattle.pm_objects.specs.declared.calls.Operation.{Operation}
 use Rattle.pm_objects.specs.declared.history.Value.{Value}
 use Rattle.pm_objects.specs.declared.history.Value.TheVariants.{Refused}
+use Rattle.pm_objects.specs.declared.ids.Oid.{Oid}
 use Rattle.pm_objects.specs.declared.refusal.Refusal.{Refusal}
 use Rattle.pm_objects.specs.declared.refusal.Refusal.TheVariants as refusal
 use Rattle.pm_view.specs.View.{View}
-use Rattle.pm_world.specs.LaneFields.{Standing, Works, listed}
+use Rattle.pm_world.specs.LaneFields.{Standing, Works, listed, moved}
 use Rattle.pm_world.specs.declared.lane.Lane.{Lane}
 use Rattle.pm_crash.specs.Sim.{lists_of}
-use Rattle.pm_plan.specs.Plans.{Ready}
+use Rattle.pm_plan.specs.Plans.{Plan, Ready}
 use Rattle.pm_call.specs.At.{At}
 use Rattle.pm_call.specs.Did.{IsRefused, IsUnrefused, next, work_refusal}
-use Rattle.pm_call.specs.Plans.{tells}
+use Rattle.pm_call.specs.Held.{Looks}
+use Rattle.pm_call.specs.Plans.{adds, commits_inner, gets, puts, tells}
 
 -- the lane lists as many actions as are pending in the model's transaction
 abbrev pub ListsActions : Standing → Type 0
@@ -48,3 +50,17 @@ AskedSo None at old new op result = (s : Standing) → Works at old s → At s �
 
 unfoldable pub Asked : {M : Type 0} → (M → View → Type 0) → Lane M → Lane M → Operation → Result (Unit {0}) Refusal → Type 0
 Asked at old new op result = AskedSo (work_refusal old) at old new op result
+
+-- ---- A LANE LISTS ITS ACTIONS STILL, as it goes on
+
+-- after a plan
+abbrev pub KeepsActions : (View → Plan) → Type 0
+KeepsActions plan = (s : Standing) → ListsActions s → ListsActions (next s (plan s.view))
+
+-- after looks, and after what is made of a range or told of a level within
+pub record ActionsStay : Type 0 where
+  pub looked : (s : Standing) (u : View) (n : ℕ) → Looks n s.view u → ListsActions s → ListsActions (moved s u)
+  pub added : (id : Oid) (off len : ℕ) → KeepsActions (λ v. adds id off len)
+  pub written : (id : Oid) (off : ℕ) (bytes : List ℕ) → KeepsActions (λ v. puts id off bytes)
+  pub read : (id : Oid) (off len : ℕ) → KeepsActions (λ v. gets id off len)
+  pub committed : KeepsActions (λ v. commits_inner)

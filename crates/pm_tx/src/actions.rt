@@ -3,7 +3,7 @@ ghost use Rattle.pm_objects.specs.declared.calls.Operation.TheVariants.{SetValue
 ghost use Rattle.pm_objects.specs.declared.history.Value.TheVariants.{Refused};
 ghost use Rattle.pm_call.specs.Did as did;
 ghost use Rattle.pm_call.specs.Did.{IsAt, IsAtSo};
-ghost use Rattle.pm_tx.specs.Actions.{Asked, HasTold, JudgedSet, ListsActions};
+ghost use Rattle.pm_tx.specs.Actions.{ActionsStay, Asked, HasTold, JudgedSet, ListsActions};
 
 use pm_call::work_refusal;
 use pm_layout::WORD_BYTES;
@@ -13,8 +13,14 @@ use pm_world::{Lane, LawfulMem, LentOperation, LentValue, PendingAction};
 /// How many actions may be pending.
 const MAX_ACTIONS: usize = 63;
 
+/// A law: a lane that lists as many actions as are pending does so still after looks, and after what
+/// adds, writes and reads a range or commits a level within another. No code runs.
+pub fn actions_stay()
+    ensures { ActionsStay }
+{}
+
 /// Why a word at this byte of an object may not be asked for with so many actions pending, if so.
-fn judge_set(off: u64, many: usize) -> Result<(), Refusal>
+pub(crate) fn judge_set(off: u64, many: usize) -> Result<(), Refusal>
     ensures { JudgedSet off many result }
 {
     if off % WORD_BYTES != 0 {

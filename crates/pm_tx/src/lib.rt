@@ -14,7 +14,7 @@ mod outcome;
 mod ranges;
 mod stages;
 
-pub use actions::set_value;
+pub use actions::{actions_stay, set_value};
 pub use ending::end;
 pub use outcome::abort;
 pub use ranges::{add_range, read, write};

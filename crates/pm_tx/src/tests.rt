@@ -114,3 +114,14 @@ fn ends_are_refused(rt: HostRuntime) -> Result<(), Fail> {
     assert_eq!(rt; errno(&working), TxErr::None);
     Ok(())
 }
+
+/// A word begins at a multiple of eight, and 63 actions may be pending.
+#[test]
+fn words_are_judged(rt: HostRuntime) -> Result<(), Fail> {
+    assert_eq!(rt; actions::judge_set(0, 0), Ok(()));
+    assert_eq!(rt; actions::judge_set(8, 62), Ok(()));
+    assert_eq!(rt; actions::judge_set(8, 63), Err(Refusal::ActionsFull));
+    assert_eq!(rt; actions::judge_set(12, 0), Err(Refusal::Unaligned));
+    assert_eq!(rt; actions::judge_set(12, 63), Err(Refusal::Unaligned));
+    Ok(())
+}
