@@ -1,4 +1,5 @@
--- A LANE AT WORK THAT HAS AND KNOWS WHAT IT DID, in a world: what it recorded is data of objects that it finds still, and its call goes on.
+-- A LANE AT WORK THAT HAS AND KNOWS WHAT IT DID, in a world: what it recorded is data of objects
+-- that it finds still, and its call goes on.
 use Rattle.std.proofs.Common.{◌≡◌, ⊎_elim, inl, inr, ℕ, ◌+◌, ◌*◌, ◌-◌, ◌/◌, ◌%◌, ◌<◌, nat_le, Bool, true, false, cond, ◌==◌, ◌&&◌, List, [], ◌∷◌, refl, sym, ap, ◌∙◌, subst, arith, Option, None, Some}
 use Rattle.std.specs.List.{AllByRecursion}
 use Rattle.std.specs.Option.{option_map}

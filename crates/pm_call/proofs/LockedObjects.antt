@@ -152,7 +152,7 @@ module _ (s : Standing) (op : Operation) (wants : List Want) (level : ℕ) (x : 
   pics : KeepsPictures s.view taken.claims
   pics = ⊎_elim
       (λ (w : IsOfWorld (after x (Tell op None))). pictures_on s.view taken.claims taken.seen taken.keeps at.sound sound
-          (subst (λ (u : View). SeesInside (after u (Tell op None))) taken.same (world_inside (after x (Tell op None)) w.word w.value (ap (λ (u : View). u.log.phase) taken.same ∙ at.working.is_open) w.there)))
+      (subst (λ (u : View). SeesInside (after u (Tell op None))) taken.same (world_inside (after x (Tell op None)) w.word w.value (ap (λ (u : View). u.log.phase) taken.same ∙ at.working.is_open) w.there)))
       (λ (e : wants ≡ []). λ p b y f q. ap (λ t. picture s.view.fixed.shape t p b) (taken.none e) ∙ q)
       tk.world
 

@@ -1,4 +1,5 @@
--- A LANE WHOSE LOCK WAS REFUSED is at work with the list of locks that it had, whatever it got by then.
+-- A LANE WHOSE LOCK WAS REFUSED is at work with the list of locks that it had, whatever it got by
+-- then.
 use Rattle.std.specs.Prelude.{take}
 use Rattle.std.proofs.Common.{◌≡◌, ◌≢◌, ⊎_elim, inl, inr, ℕ, zero, suc, ◌+◌, ◌*◌, ◌<◌, ◌≤◌, true, ◌==◌, ◌&&◌, List, [], ◌∷◌, refl, sym, ap, ◌∙◌, subst, arith, None}
 use Rattle.std.specs.List.{AllByRecursion}
@@ -153,9 +154,9 @@ module _ (s : Standing) (wants : List Want) (x : View) (at : At s) (h : HoldsLoc
   pics : KeepsPictures s.view claims
   pics = ⊎_elim
       (λ (w : IsOfWorld x). pictures_on s.view claims tk.taken.seen keeps at.sound sound
-          (subst SeesInside next_is (world_inside x w.word w.value (ap (λ (u : View). u.log.phase) next_is ∙ at.working.is_open) w.there)))
+      (subst SeesInside next_is (world_inside x w.word w.value (ap (λ (u : View). u.log.phase) next_is ∙ at.working.is_open) w.there)))
       (λ (e : tk.looks ≡ []). λ p b y f q. known.pictured_alike v.fixed.shape v.claims claims p b
-          (ap (λ t. pictured v.fixed.shape t (word_of v.fixed.shape p)) (none e) ∙ took_word v.fixed.shape got v.claims (word_of v.fixed.shape p) some_got) ∙ q)
+      (ap (λ t. pictured v.fixed.shape t (word_of v.fixed.shape p)) (none e) ∙ took_word v.fixed.shape got v.claims (word_of v.fixed.shape p) some_got) ∙ q)
       tk.world
 
   -- what it held it holds

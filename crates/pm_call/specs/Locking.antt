@@ -1,5 +1,7 @@
--- A LANE AT WORK LOCKS OBJECTS, as a law: it takes the locks that are wanted, finds an object under each, raises those that are to be written, and tells the
--- operation; and it is at work then, with the longer list of locks. pmemobj_tx_lock(3), and pmemobj_tx_begin(3) of an inner level.
+-- A LANE AT WORK LOCKS OBJECTS, as a law: it takes the locks that are wanted, finds an object
+-- under each, raises those that are to be written, and tells the
+-- operation; and it is at work then, with the longer list of locks. pmemobj_tx_lock(3), and
+-- pmemobj_tx_begin(3) of an inner level.
 use Rattle.std.specs.Prelude.{◌≡◌, ◌≢◌, ◌⊎◌, ℕ, ◌+◌, ◌<◌, ◌≤◌, Bool, true, false, Contains, List, [], ◌∷◌, ◌++◌, length, None}
 use Rattle.std.specs.List.{AllByRecursion}
 use Rattle.pm_objects.specs.declared.calls.Operation.{Operation}
@@ -38,7 +40,8 @@ to_write s wants = wants_to_write s.view.fixed.shape s.view.fixed.pool wants
 abbrev pub locks_with : Standing → List Want → List HeldLock
 locks_with s wants = raised (to_write s wants) (s.locks ++ to_take s wants)
 
--- THE LANE'S LOCKS ARE THOSE OF ITS LIST: of lines of the pool, no two of one line, and it holds no other; they are as many as its transaction has. Blocks of
+-- THE LANE'S LOCKS ARE THOSE OF ITS LIST: of lines of the pool, no two of one line, and it holds
+-- no other; they are as many as its transaction has. Blocks of
 -- its own are of runs that it knows
 pub record HoldsLocks (s : Standing) : Type 0 where
   pub each : HoldsEach s.view s.locks
@@ -54,17 +57,21 @@ pub record IsOfWorld (v : View) : Type 0 where
   pub value : ℕ
   pub there : InWorld v word value
 
--- it takes them, by tries or by waits; looks under each, and finds an object; raises those that are to be written. Once the operation is told its view is one
+-- it takes them, by tries or by waits; looks under each, and finds an object; raises those that
+-- are to be written. Once the operation is told its view is one
 -- of a world, as its next look tells; or nothing is wanted
-pub record TakesLocks (s : Standing) (op : Operation) (wants : List Want) (x : View) : Type 0 where
+pub record TakesLocks (s : Standing) (op : Operation) (wants : List Want) (x : View)
+    : Type 0 where
   pub taken : View
   pub takes : IsTaken s.view (to_take s wants) taken
   pub told : (n : Step) → Contains s.view.seen n → Contains taken.seen n
   pub looks : List Step
   pub finds : AreFinds s.view.fixed.shape (to_take s wants) looks
   pub stays : HasLooked taken (after_all taken looks)
-  pub objects : AllByRecursion (λ (l : HeldLock). StandsAt (after_all taken looks) l.line) (to_take s wants)
-  pub raises_ : x ≡ after_all (after_all taken looks) (raises (to_write s wants) (s.locks ++ to_take s wants))
+  pub objects : AllByRecursion (λ (l : HeldLock). StandsAt (after_all taken looks) l.line)
+      (to_take s wants)
+  pub raises_ : x ≡ after_all (after_all taken looks)
+      (raises (to_write s wants) (s.locks ++ to_take s wants))
   pub world : IsOfWorld (after x (Tell op None)) ⊎ (wants ≡ [])
 
 -- the operation that wants them, and the level then
@@ -74,7 +81,8 @@ IsLocking (Begin these) wants level next = (wants ≡ these) × (next ≡ level 
 IsLocking op wants level next = ⊥
 
 -- it is not refused: each id has a place, and the locks are not too many
-pub record MayLock (s : Standing) (op : Operation) (wants : List Want) (level : ℕ) : Type 0 where
+pub record MayLock (s : Standing) (op : Operation) (wants : List Want) (level : ℕ)
+    : Type 0 where
   pub is : IsLocking op wants s.level level
   pub placed : has_unplaced s.view.fixed.shape s.view.fixed.pool wants ≡ false
   pub few : length s.locks + length (to_take s wants) ≤ 64
@@ -82,9 +90,14 @@ pub record MayLock (s : Standing) (op : Operation) (wants : List Want) (level : 
 -- ---- WHAT THAT LEAVES
 
 abbrev pub locked_with : Standing → Operation → List Want → ℕ → View → Standing
-locked_with s op wants level x = record s { view = after x (Tell op None); locks = locks_with s wants; level = level }
+locked_with s op wants level x = record s {
+  view = after x (Tell op None);
+  locks = locks_with s wants;
+  level = level;
+}
 
-pub record LeadsLocks (s : Standing) (op : Operation) (wants : List Want) (level : ℕ) (x : View) : Type 0 where
+pub record LeadsLocks (s : Standing) (op : Operation) (wants : List Want) (level : ℕ)
+    (x : View) : Type 0 where
   pub unrefused : IsUnrefused (moved s x) op
   pub allowed : Allowed x (Tell op None)
   pub stands : At (locked_with s op wants level x)
@@ -92,9 +105,11 @@ pub record LeadsLocks (s : Standing) (op : Operation) (wants : List Want) (level
 
 -- THE LAW: a lane at work whose locks are those of its list may take more, and tell the operation
 abbrev pub ObjectsMayBeLocked : Type 0
-ObjectsMayBeLocked = (s : Standing) (op : Operation) (wants : List Want) (level : ℕ) (x : View) → At s → HoldsLocks s → MayLock s op wants level → TakesLocks s op wants x
+ObjectsMayBeLocked = (s : Standing) (op : Operation) (wants : List Want) (level : ℕ) (x : View)
+    → At s → HoldsLocks s → MayLock s op wants level → TakesLocks s op wants x
     → LeadsLocks s op wants level x
 
 -- and pm_lock may be asked for them
 abbrev pub LocksMayBeWanted : Type 0
-LocksMayBeWanted = (s : Standing) → At s → HoldsLocks s → MayWant s.view s.view.fixed.shape s.locks []
+LocksMayBeWanted = (s : Standing) → At s → HoldsLocks s
+    → MayWant s.view s.view.fixed.shape s.locks []
