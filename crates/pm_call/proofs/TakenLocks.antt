@@ -28,7 +28,7 @@ use Rattle.pm_lock.proofs.HeldLocks.{held_are_raised, held_grow, held_stay}
 use Rattle.pm_lock.proofs.KeptBlocks.{raised_keep}
 use Rattle.pm_lock.proofs.RaisedClaims.{are_raised}
 use Rattle.pm_call.specs.At.{At}
-use Rattle.pm_call.specs.Locking.{HoldsLocks, LocksMayBeWanted, TakesLocks, locks_with, to_take, to_write}
+use Rattle.pm_call.specs.Locking.{CanLock, HoldsLocks, LocksMayBeWanted, TakesLocks, locks_with, to_take, to_write}
 use Rattle.pm_call.proofs.KeptByLooks.{keeps_looked}
 use Rattle.pm_call.proofs.KeptClaims.{IsFree, KeepsAll, claiming, keeps_more, keeps_rose, keeps_taken}
 use Rattle.pm_call.proofs.KeptGrows.{locking}
@@ -39,8 +39,28 @@ pub all_with : {A : Type 0} (P Q R : A → Type 0) (xs : List A) → ((x : A) �
 all_with P Q R [] f a b = tt
 all_with P Q R (x ∷ xs) f a b = (f x a.0 b.0, all_with P Q R xs f a.1 b.1)
 
+pub locks_wanted : (s : Standing) → CanLock s → HoldsLocks s → MayWant s.view s.view.fixed.shape s.locks []
+locks_wanted s at h = record { shape = refl; area = at.working.lane; early = ap is_early at.working.is_open; unmaking = at.working.unmaking; listed = h.only }
+
+-- a lane at work may lock
+pub can_lock : (s : Standing) → At s → CanLock s
+can_lock s at = record {
+  working = at.working;
+  unbumped = at.unbumped;
+  sound = at.sound;
+  sizes = at.sizes;
+  sealed = at.sealed;
+  number = at.number;
+  held = at.held;
+  recorded = at.recorded;
+  lists = record { locks = at.lists.locks; recorded = at.lists.recorded; records = at.lists.records; blocks = at.lists.blocks; sets = at.lists.sets; may_set = at.lists.may_set; error_is = at.lists.error_is };
+  sim = at.sim;
+  facts = at.facts;
+  tells = inr at.lists.works;
+}
+
 pub locks_may_be_wanted : LocksMayBeWanted
-locks_may_be_wanted s at h = record { shape = refl; area = at.working.lane; early = ap is_early at.working.is_open; unmaking = at.working.unmaking; listed = h.only }
+locks_may_be_wanted s at h = locks_wanted s (can_lock s at) h
 
 -- what was seen, was seen
 seen_raises : (locks : List HeldLock) (v : View) (n : Step) → Contains v.seen n → Contains (after_all v (map (λ (l : HeldLock). Raise l.line true) locks)).seen n
@@ -142,7 +162,7 @@ no_finds : (sh : Shape) (looks : List Step) → AreFinds sh [] looks → looks �
 unfolding AreFinds
 no_finds sh looks f = f
 
-module _ (s : Standing) (op : Operation) (wants : List Want) (x : View) (at : At s) (h : HoldsLocks s) (tk : TakesLocks s op wants x) where
+module _ (s : Standing) (op : Operation) (wants : List Want) (x : View) (at : CanLock s) (h : HoldsLocks s) (tk : TakesLocks s op wants x) where
   abbrev v : View
   v = s.view
 
@@ -156,7 +176,7 @@ module _ (s : Standing) (op : Operation) (wants : List Want) (x : View) (at : At
   up = filter (is_raised (to_write s wants)) (s.locks ++ to_take s wants)
 
   may : MayWant s.view s.view.fixed.shape s.locks []
-  may = locks_may_be_wanted s at h
+  may = locks_wanted s at h
 
   lines : AllByRecursion (λ (l : HeldLock). is_chunk_line s.view.fixed.shape l.line ≡ true) (to_take s wants)
   lines = all_map (λ (l : HeldLock). CanLook tk.taken s.view.fixed.shape l.line) (λ (l : HeldLock). is_chunk_line s.view.fixed.shape l.line ≡ true) plan (λ l c. c.chunk)

@@ -2,30 +2,39 @@
 -- under each, raises those that are to be written, and tells the
 -- operation; and it is at work then, with the longer list of locks. pmemobj_tx_lock(3), and
 -- pmemobj_tx_begin(3) of an inner level.
-use Rattle.std.specs.Prelude.{◌≡◌, ◌≢◌, ◌⊎◌, ℕ, ◌+◌, ◌<◌, ◌≤◌, Bool, true, false, Contains, List, [], ◌∷◌, ◌++◌, length, None}
+use Rattle.std.specs.Prelude.{◌≡◌, ◌≢◌, ◌⊎◌, ℕ, ◌+◌, ◌<◌, ◌≤◌, Bool, true, false, Contains, List, [], ◌∷◌, ◌++◌, length, map, None, Some}
 use Rattle.std.specs.List.{AllByRecursion}
+use Rattle.pm_layout.specs.Areas.{word_of_seal}
+use Rattle.pm_model.specs.Transaction.{Transaction, is_locked}
+use Rattle.pm_objects.specs.declared.history.TxErr.TheVariants as error
 use Rattle.pm_objects.specs.declared.calls.Operation.{Operation}
 use Rattle.pm_objects.specs.declared.calls.Operation.TheVariants.{Begin, Lock}
 use Rattle.pm_objects.specs.declared.calls.Want.{Want}
 use Rattle.pm_view.specs.Claims.{class, holds}
-use Rattle.pm_view.specs.Places.{Small}
+use Rattle.pm_view.specs.Places.{Place, Small}
 use Rattle.pm_view.specs.Steps.{Step}
 use Rattle.pm_view.specs.Steps.Step.{Tell}
 use Rattle.pm_view.specs.View.{View}
-use Rattle.pm_view.specs.Views.{after, after_all}
-use Rattle.pm_world.specs.InWorld.{InWorld}
+use Rattle.pm_view.specs.Views.{after, after_all, value_in}
+use Rattle.pm_world.specs.InWorld.{InWorld, IsSound, SizesFit}
+use Rattle.pm_world.specs.Sights.{is_recorded}
+use Rattle.pm_crash.specs.Facts.{HaveFacts}
 use Rattle.pm_world.specs.LaneFields.{Standing, moved}
 use Rattle.pm_world.specs.Lawful.{Allowed}
 use Rattle.pm_world.specs.declared.lane.HeldLock.{HeldLock}
 use Rattle.pm_crash.specs.Footprints.{has_own}
-use Rattle.pm_crash.specs.Sim.{lists_of}
+use Rattle.pm_crash.specs.Sim.{MayTell, Sim, lists_of}
+use Rattle.pm_undo.specs.Records.{kept_by}
+use Rattle.pm_undo.specs.Spans as spans
+use Rattle.pm_undo.specs.Working.{IsWorking}
 use Rattle.pm_lock.specs.Acquiring.{AreFinds, MayWant}
 use Rattle.pm_lock.specs.Held.{HoldsEach}
 use Rattle.pm_lock.specs.Holding.{IsTaken}
 use Rattle.pm_lock.specs.Objects.{HasLooked, StandsAt}
 use Rattle.pm_lock.specs.Raising.{raised, raises}
 use Rattle.pm_lock.specs.Wants.{has_unplaced, is_listed, wanted, wants_to_write}
-use Rattle.pm_call.specs.At.{At}
+use Rattle.pm_call.specs.At.{At, IsDataOf, MaySet, MayTakeNumber, entries_so_far, set_entry}
+use Rattle.pm_call.specs.Held.{AreHeld, is_in_locks}
 use Rattle.pm_call.specs.Did.{IsUnrefused}
 
 -- ---- WHICH LOCKS
@@ -74,6 +83,31 @@ pub record TakesLocks (s : Standing) (op : Operation) (wants : List Want) (x : V
       (raises (to_write s wants) (s.locks ++ to_take s wants))
   pub world : IsOfWorld (after x (Tell op None)) ⊎ (wants ≡ [])
 
+-- THE LANE MAY LOCK: its call is open, and its lists are the model's, whatever the level
+pub record AgreesOn (s : Standing) (tx : Transaction) : Type 0 where
+  pub locks : (off : ℕ) (write : Bool)
+      → is_locked tx.locks off write ≡ is_in_locks s.locks off write
+  pub recorded : tx.recorded ≡ spans.words_in (kept_by s.view)
+  pub records : tx.records ≡ length s.view.log.records
+  pub blocks : (tx.made ≡ []) × (tx.dropped ≡ []) × (tx.freed ≡ [])
+  pub sets : s.entries ≡ map set_entry tx.sets
+  pub may_set : AllByRecursion (MaySet s) tx.sets
+  pub error_is : tx.error ≡ error.None
+
+pub record CanLock (s : Standing) : Type 0 where
+  pub working : IsWorking s.view
+  pub unbumped : s.view.log.bumped ≡ false
+  pub sound : IsSound s.view
+  pub sizes : SizesFit s.view
+  pub sealed : value_in s.view (word_of_seal s.view.fixed.shape s.view.fixed.lane) ≡ Some 0
+  pub number : MayTakeNumber s.view
+  pub held : AreHeld s.view s.locks
+  pub recorded : (p : Place) → is_recorded s.view.log.records p ≡ true → IsDataOf s.view p
+  pub lists : AgreesOn s (lists_of s.view)
+  pub sim : Sim s.view (entries_so_far s)
+  pub facts : HaveFacts s.view
+  pub tells : MayTell s.view
+
 -- the operation that wants them, and the level then
 abbrev pub IsLocking : Operation → List Want → ℕ → ℕ → Type 0
 IsLocking (Lock want) wants level next = (wants ≡ want ∷ []) × (next ≡ level)
@@ -113,3 +147,26 @@ ObjectsMayBeLocked = (s : Standing) (op : Operation) (wants : List Want) (level 
 abbrev pub LocksMayBeWanted : Type 0
 LocksMayBeWanted = (s : Standing) → At s → HoldsLocks s
     → MayWant s.view s.view.fixed.shape s.locks []
+
+-- ---- THE OUTERMOST LEVEL BEGINS
+
+-- the call is open, and told nothing and recorded nothing; the lane holds no lock
+pub record IsOpened (s : Standing) : Type 0 where
+  pub working : IsWorking s.view
+  pub unbumped : s.view.log.bumped ≡ false
+  pub sound : IsSound s.view
+  pub sizes : SizesFit s.view
+  pub sealed : value_in s.view (word_of_seal s.view.fixed.shape s.view.fixed.lane) ≡ Some 0
+  pub number : MayTakeNumber s.view
+  pub call : s.view.call ≡ []
+  pub records : s.view.log.records ≡ []
+  pub locks : s.locks ≡ []
+  pub entries : s.entries ≡ []
+  pub facts : HaveFacts s.view
+
+-- THE LAW: such a lane may take the locks that are wanted, and tell the begin; it is at work then
+abbrev pub TransactionsMayBegin : Type 0
+TransactionsMayBegin = (s : Standing) (wants : List Want) (x : View) → IsOpened s → HoldsLocks s
+    → has_unplaced s.view.fixed.shape s.view.fixed.pool wants ≡ false
+    → length s.locks + length (to_take s wants) ≤ 64 → TakesLocks s (Begin wants) wants x
+    → LeadsLocks s (Begin wants) wants 1 x

@@ -1,5 +1,5 @@
 ghost use Rattle.pm_call.specs.LockRefusals.{LockRefusals, RefusedLocksGiveUp, TriedLocksLeaveWork};
-ghost use Rattle.pm_call.specs.Locking.{LocksMayBeWanted, ObjectsMayBeLocked};
+ghost use Rattle.pm_call.specs.Locking.{LocksMayBeWanted, ObjectsMayBeLocked, TransactionsMayBegin};
 
 /// A law: a lane at work whose locks are those of its list may ask `pm_lock` for more, of any objects
 /// that it wants. No code runs.
@@ -32,4 +32,10 @@ pub fn refused_locks_give_up()
 /// code runs.
 pub fn tried_locks_leave_work()
     ensures { TriedLocksLeaveWork }
+{}
+
+/// A law: a lane in whose open call nothing is told or recorded yet, and that holds no lock, may take the
+/// locks that are wanted, and tell the begin of an outermost level; it is at work then. No code runs.
+pub fn transactions_may_begin()
+    ensures { TransactionsMayBegin }
 {}
