@@ -33,3 +33,4 @@ pub mod TakenLocks
 pub mod LockedObjects
 pub mod LockRefusals
 pub mod TriedLocks
+pub mod OpenedCalls

@@ -27,8 +27,7 @@ use Rattle.pm_lock.proofs.Acquired.{may_lock_wanted}
 use Rattle.pm_lock.proofs.HeldLocks.{held_are_raised, held_grow, held_stay}
 use Rattle.pm_lock.proofs.KeptBlocks.{raised_keep}
 use Rattle.pm_lock.proofs.RaisedClaims.{are_raised}
-use Rattle.pm_call.specs.At.{At}
-use Rattle.pm_call.specs.Locking.{CanLock, HoldsLocks, LocksMayBeWanted, TakesLocks, locks_with, to_take, to_write}
+use Rattle.pm_call.specs.Locking.{CanLock, HoldsLocks, LanesAtWorkMayLock, LocksMayBeWanted, TakesLocks, locks_with, to_take, to_write}
 use Rattle.pm_call.proofs.KeptByLooks.{keeps_looked}
 use Rattle.pm_call.proofs.KeptClaims.{IsFree, KeepsAll, claiming, keeps_more, keeps_rose, keeps_taken}
 use Rattle.pm_call.proofs.KeptGrows.{locking}
@@ -39,11 +38,11 @@ pub all_with : {A : Type 0} (P Q R : A → Type 0) (xs : List A) → ((x : A) �
 all_with P Q R [] f a b = tt
 all_with P Q R (x ∷ xs) f a b = (f x a.0 b.0, all_with P Q R xs f a.1 b.1)
 
-pub locks_wanted : (s : Standing) → CanLock s → HoldsLocks s → MayWant s.view s.view.fixed.shape s.locks []
-locks_wanted s at h = record { shape = refl; area = at.working.lane; early = ap is_early at.working.is_open; unmaking = at.working.unmaking; listed = h.only }
+pub locks_may_be_wanted : LocksMayBeWanted
+locks_may_be_wanted s at h = record { shape = refl; area = at.working.lane; early = ap is_early at.working.is_open; unmaking = at.working.unmaking; listed = h.only }
 
 -- a lane at work may lock
-pub can_lock : (s : Standing) → At s → CanLock s
+pub can_lock : LanesAtWorkMayLock
 can_lock s at = record {
   working = at.working;
   unbumped = at.unbumped;
@@ -58,9 +57,6 @@ can_lock s at = record {
   facts = at.facts;
   tells = inr at.lists.works;
 }
-
-pub locks_may_be_wanted : LocksMayBeWanted
-locks_may_be_wanted s at h = locks_wanted s (can_lock s at) h
 
 -- what was seen, was seen
 seen_raises : (locks : List HeldLock) (v : View) (n : Step) → Contains v.seen n → Contains (after_all v (map (λ (l : HeldLock). Raise l.line true) locks)).seen n
@@ -176,7 +172,7 @@ module _ (s : Standing) (op : Operation) (wants : List Want) (x : View) (at : Ca
   up = filter (is_raised (to_write s wants)) (s.locks ++ to_take s wants)
 
   may : MayWant s.view s.view.fixed.shape s.locks []
-  may = locks_wanted s at h
+  may = locks_may_be_wanted s at h
 
   lines : AllByRecursion (λ (l : HeldLock). is_chunk_line s.view.fixed.shape l.line ≡ true) (to_take s wants)
   lines = all_map (λ (l : HeldLock). CanLook tk.taken s.view.fixed.shape l.line) (λ (l : HeldLock). is_chunk_line s.view.fixed.shape l.line ≡ true) plan (λ l c. c.chunk)

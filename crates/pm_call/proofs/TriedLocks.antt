@@ -84,7 +84,7 @@ took_fits v seen locks some f B n there o e =
 -- ---- the lines of the locks that are wanted
 module _ (s : Standing) (wants : List Want) (at : At s) (h : HoldsLocks s) where
   may : MayWant s.view s.view.fixed.shape s.locks []
-  may = locks_may_be_wanted s at h
+  may = locks_may_be_wanted s (can_lock s at) h
 
   lines : AllByRecursion (λ (l : HeldLock). is_chunk_line s.view.fixed.shape l.line ≡ true) (to_take s wants)
   lines = all_map (λ (l : HeldLock). CanLook (after_all s.view (tries (to_take s wants))) s.view.fixed.shape l.line) (λ (l : HeldLock). is_chunk_line s.view.fixed.shape l.line ≡ true) (to_take s wants) (λ l c. c.chunk)

@@ -4,16 +4,17 @@
 -- pmemobj_tx_begin(3) of an inner level.
 use Rattle.std.specs.Prelude.{◌≡◌, ◌≢◌, ◌⊎◌, ℕ, ◌+◌, ◌<◌, ◌≤◌, Bool, true, false, Contains, List, [], ◌∷◌, ◌++◌, length, map, None, Some}
 use Rattle.std.specs.List.{AllByRecursion}
-use Rattle.pm_layout.specs.Areas.{word_of_seal}
+use Rattle.pm_layout.specs.Areas.{greatest_generation, word_of_generation, word_of_seal}
 use Rattle.pm_model.specs.Transaction.{Transaction, is_locked}
 use Rattle.pm_objects.specs.declared.history.TxErr.TheVariants as error
 use Rattle.pm_objects.specs.declared.calls.Operation.{Operation}
 use Rattle.pm_objects.specs.declared.calls.Operation.TheVariants.{Begin, Lock}
 use Rattle.pm_objects.specs.declared.calls.Want.{Want}
-use Rattle.pm_view.specs.Claims.{class, holds}
+use Rattle.pm_view.specs.Claims.{class, holds, making}
+use Rattle.pm_view.specs.Log.{Idle, new_log}
 use Rattle.pm_view.specs.Places.{Place, Small}
 use Rattle.pm_view.specs.Steps.{Step}
-use Rattle.pm_view.specs.Steps.Step.{Tell}
+use Rattle.pm_view.specs.Steps.Step.{NumberSeen, Tell}
 use Rattle.pm_view.specs.View.{View}
 use Rattle.pm_view.specs.Views.{after, after_all, value_in}
 use Rattle.pm_world.specs.InWorld.{InWorld, IsSound, SizesFit}
@@ -145,8 +146,12 @@ ObjectsMayBeLocked = (s : Standing) (op : Operation) (wants : List Want) (level 
 
 -- and pm_lock may be asked for them
 abbrev pub LocksMayBeWanted : Type 0
-LocksMayBeWanted = (s : Standing) → At s → HoldsLocks s
+LocksMayBeWanted = (s : Standing) → CanLock s → HoldsLocks s
     → MayWant s.view s.view.fixed.shape s.locks []
+
+-- so may a lane at work
+abbrev pub LanesAtWorkMayLock : Type 0
+LanesAtWorkMayLock = (s : Standing) → At s → CanLock s
 
 -- ---- THE OUTERMOST LEVEL BEGINS
 
@@ -170,3 +175,33 @@ TransactionsMayBegin = (s : Standing) (wants : List Want) (x : View) → IsOpene
     → has_unplaced s.view.fixed.shape s.view.fixed.pool wants ≡ false
     → length s.locks + length (to_take s wants) ≤ 64 → TakesLocks s (Begin wants) wants x
     → LeadsLocks s (Begin wants) wants 1 x
+
+-- ---- A CALL OPENS
+
+-- between two calls: the log is retired, all is drained, and the lane holds no lock
+pub record IsBetweenCalls (s : Standing) : Type 0 where
+  pub log : s.view.log ≡ new_log Idle s.view.log.generation
+  pub drained : s.view.changes ≡ []
+  pub below : s.view.log.generation < greatest_generation s.view.fixed.shape
+  pub lane : s.view.fixed.lane < s.view.fixed.shape.lanes
+  pub lanes : s.view.fixed.shape.lanes ≤ 32
+  pub zones : s.view.fixed.shape.zones ≤ 32
+  pub unmaking : (c : ℕ) → making s.view.fixed.shape s.view.claims c ≡ false
+  pub sound : IsSound s.view
+  pub sizes : SizesFit s.view
+  pub known : value_in s.view (word_of_generation s.view.fixed.shape s.view.fixed.lane)
+      ≡ Some s.view.log.generation
+  pub sealed : value_in s.view (word_of_seal s.view.fixed.shape s.view.fixed.lane) ≡ Some 0
+  pub locks : s.locks ≡ []
+  pub entries : s.entries ≡ []
+  pub facts : HaveFacts s.view
+
+-- IT IS OPEN once the lane saw a number that is not the last, and the lane may lock
+pub record OpensCall (s : Standing) : Type 0 where
+  pub opened : IsOpened s
+  pub may : CanLock s
+
+abbrev pub CallsMayOpen : Type 0
+CallsMayOpen = (s : Standing) (n : ℕ) → IsBetweenCalls s
+    → n < greatest_generation s.view.fixed.shape
+    → OpensCall (moved s (after s.view (NumberSeen n)))

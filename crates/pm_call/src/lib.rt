@@ -19,8 +19,9 @@ mod writing;
 pub use adding::{do_add, ranges_may_be_added};
 pub use laws::transactions_may_be_given_up;
 pub use locking::{
-    locks_may_be_wanted, objects_may_be_locked, refusals_of_locks_are_the_models,
-    refused_locks_give_up, transactions_may_begin, tried_locks_leave_work,
+    calls_may_open, lanes_at_work_may_lock, locks_may_be_wanted, objects_may_be_locked,
+    refusals_of_locks_are_the_models, refused_locks_give_up, transactions_may_begin,
+    tried_locks_leave_work,
 };
 pub use ranges::{ranges_are_looked_at, refusals_of_ranges_are_the_models};
 pub use rollback::{give_up, refuse, stop, take_back};

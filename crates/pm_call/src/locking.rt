@@ -1,8 +1,8 @@
 ghost use Rattle.pm_call.specs.LockRefusals.{LockRefusals, RefusedLocksGiveUp, TriedLocksLeaveWork};
-ghost use Rattle.pm_call.specs.Locking.{LocksMayBeWanted, ObjectsMayBeLocked, TransactionsMayBegin};
+ghost use Rattle.pm_call.specs.Locking.{CallsMayOpen, LanesAtWorkMayLock, LocksMayBeWanted, ObjectsMayBeLocked, TransactionsMayBegin};
 
-/// A law: a lane at work whose locks are those of its list may ask `pm_lock` for more, of any objects
-/// that it wants. No code runs.
+/// A law: a lane that may lock, and whose locks are those of its list, may ask `pm_lock` for more, of
+/// any objects that it wants. No code runs.
 pub fn locks_may_be_wanted()
     ensures { LocksMayBeWanted }
 {}
@@ -38,4 +38,15 @@ pub fn tried_locks_leave_work()
 /// locks that are wanted, and tell the begin of an outermost level; it is at work then. No code runs.
 pub fn transactions_may_begin()
     ensures { TransactionsMayBegin }
+{}
+
+/// A law: a lane between two calls opens its call as it sees a number that is not the last, and may lock
+/// then. No code runs.
+pub fn calls_may_open()
+    ensures { CallsMayOpen }
+{}
+
+/// A law: a lane at work may lock. No code runs.
+pub fn lanes_at_work_may_lock()
+    ensures { LanesAtWorkMayLock }
 {}
