@@ -11,8 +11,14 @@ use Rattle.pm_view.specs.View.{View}
 use Rattle.pm_view.specs.Views.{after, begun, with_seen}
 use Rattle.pm_world.specs.InWorld.{SizesFit}
 use Rattle.pm_world.specs.LaneFields.{Standing, moved}
+use Rattle.std.specs.Prelude.{length}
+use Rattle.std.proofs.lemmas.Bool.{both_ways}
+use Rattle.pm_view.specs.Claims.{holds}
+use Rattle.pm_crash.specs.OpenRuns.{after_told}
+use Rattle.pm_crash.specs.Sim.{lists_of}
+use Rattle.pm_lock.specs.Held.{HoldsEach}
 use Rattle.pm_plan.specs.Notes.{IsBeyond}
-use Rattle.pm_call.specs.Locking.{CallsMayOpen, IsBetweenCalls, IsOpened, OpensCall}
+use Rattle.pm_call.specs.Locking.{CallsMayOpen, HoldsLocks, IsBetweenCalls, IsOpened, OpensCall}
 use Rattle.pm_call.proofs.LockedObjects.{opened_can_lock}
 
 module _ (s : Standing) (n : ℕ) (is : IsBetweenCalls s) (below : n < greatest_generation s.view.fixed.shape) where
@@ -59,8 +65,20 @@ module _ (s : Standing) (n : ℕ) (is : IsBetweenCalls s) (below : n < greatest_
     facts = is.facts;
   }
 
+  no_locks : length (lists_of next).locks ≡ length s.locks
+  unfolding after_told
+  no_locks = sym (ap length is.locks)
+
+  locks : HoldsLocks (moved s next)
+  locks = record {
+    each = subst (HoldsEach next) (sym is.locks) (record { once = tt; inside = tt; held = tt });
+    only = λ line e. absurd (both_ways (holds s.view.claims line) (is.free line) e);
+    count = no_locks;
+    own = is.own;
+  }
+
   pub opens_call : OpensCall (moved s (after s.view (NumberSeen n)))
-  opens_call = subst (λ (y : View). OpensCall (moved s y)) (sym opens) (record { opened = opened; may = opened_can_lock (moved s next) opened })
+  opens_call = subst (λ (y : View). OpensCall (moved s y)) (sym opens) (record { opened = opened; may = opened_can_lock (moved s next) opened; locks = locks })
 
 pub calls_may_open : CallsMayOpen
 calls_may_open s n is below = opens_call s n is below

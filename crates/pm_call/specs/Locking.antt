@@ -193,6 +193,8 @@ pub record IsBetweenCalls (s : Standing) : Type 0 where
       ≡ Some s.view.log.generation
   pub sealed : value_in s.view (word_of_seal s.view.fixed.shape s.view.fixed.lane) ≡ Some 0
   pub locks : s.locks ≡ []
+  pub free : (line : ℕ) → holds s.view.claims line ≡ false
+  pub own : (c i : ℕ) → has_own s.view (Small c i) ≡ true → class s.view.claims c ≢ 0
   pub entries : s.entries ≡ []
   pub facts : HaveFacts s.view
 
@@ -200,6 +202,7 @@ pub record IsBetweenCalls (s : Standing) : Type 0 where
 pub record OpensCall (s : Standing) : Type 0 where
   pub opened : IsOpened s
   pub may : CanLock s
+  pub locks : HoldsLocks s
 
 abbrev pub CallsMayOpen : Type 0
 CallsMayOpen = (s : Standing) (n : ℕ) → IsBetweenCalls s
