@@ -1,9 +1,10 @@
 -- WHY A LOCK, OR A BEGIN OF AN INNER LEVEL, IS REFUSED, as laws: by the lane's list of locks and
 -- by what its tries and looks told, the plain model's first
 -- refusal is found; and such an operation gives the transaction up.
-use Rattle.std.specs.Prelude.{◌≡◌, ◌⊎◌, ℕ, ◌+◌, ◌&&◌, nat_lt, not, false, Contains, List, [], ◌∷◌, length, take, Some, None}
+use Rattle.std.specs.Prelude.{◌≡◌, ◌⊎◌, ℕ, ◌+◌, ◌≤◌, ◌&&◌, nat_lt, not, false, Contains, List, [], ◌∷◌, length, take, Some, None}
 use Rattle.std.specs.List.{list_any}
 use Rattle.pm_objects.specs.declared.calls.Operation.{Operation}
+use Rattle.pm_objects.specs.declared.calls.Operation.TheVariants.{Begin}
 use Rattle.pm_objects.specs.declared.calls.Want.{Want}
 use Rattle.pm_objects.specs.declared.history.Value.TheVariants.{Refused}
 use Rattle.pm_objects.specs.declared.refusal.Refusal.{Refusal}
@@ -58,6 +59,11 @@ abbrev pub RefusedLocksGiveUp : Type 0
 RefusedLocksGiveUp = (s : Standing) (op : Operation) (wants : List Want) (level : ℕ)
     (seen : Seen) (r : Refusal) → At s → HasAsMany s → IsLocking op wants s.level level
     → first_of (locking_tests seen s wants) ≡ Some r → GivesUp s op (Some (Refused r))
+
+-- and so does a begin at the deepest level
+abbrev pub DeepBeginsGiveUp : Type 0
+DeepBeginsGiveUp = (s : Standing) (wants : List Want) → At s → 64 ≤ s.level
+    → GivesUp s (Begin wants) (Some (Refused refusal.Deep))
 
 -- ---- WHAT IT DID BY THEN
 

@@ -1,5 +1,5 @@
 //! What the calls of a transaction share: a lane at work as plain data, what an operation did to it,
-//! and the laws of both; and how a transaction is given up.
+//! and the laws of both; how objects are locked, and how a transaction is given up.
 //!
 //! Promises, over any lawful memory and whatever other lanes do, that a transaction that is given up
 //! makes exactly the memory calls of its plan, or the first of them up to the lane's stop; and a law
@@ -19,9 +19,9 @@ mod writing;
 pub use adding::{do_add, ranges_may_be_added};
 pub use laws::transactions_may_be_given_up;
 pub use locking::{
-    calls_may_open, lanes_at_work_may_lock, locks_may_be_wanted, objects_may_be_locked,
-    refusals_of_locks_are_the_models, refused_locks_give_up, transactions_may_begin,
-    tried_locks_leave_work,
+    calls_may_open, deep_begins_give_up, lanes_at_work_may_lock, locks_may_be_wanted,
+    objects_may_be_locked, refusals_of_locks_are_the_models, refused_locks_give_up,
+    transactions_may_begin, tried_locks_leave_work,
 };
 pub use ranges::{ranges_are_looked_at, refusals_of_ranges_are_the_models};
 pub use rollback::{give_up, refuse, stop, take_back};

@@ -1,4 +1,4 @@
-ghost use Rattle.pm_call.specs.LockRefusals.{LockRefusals, RefusedLocksGiveUp, TriedLocksLeaveWork};
+ghost use Rattle.pm_call.specs.LockRefusals.{DeepBeginsGiveUp, LockRefusals, RefusedLocksGiveUp, TriedLocksLeaveWork};
 ghost use Rattle.pm_call.specs.Locking.{CallsMayOpen, LanesAtWorkMayLock, LocksMayBeWanted, ObjectsMayBeLocked, TransactionsMayBegin};
 
 /// A law: a lane that may lock, and whose locks are those of its list, may ask `pm_lock` for more, of
@@ -49,4 +49,9 @@ pub fn calls_may_open()
 /// A law: a lane at work may lock. No code runs.
 pub fn lanes_at_work_may_lock()
     ensures { LanesAtWorkMayLock }
+{}
+
+/// A law: a begin at the deepest level, 64, is refused, and gives the transaction up. No code runs.
+pub fn deep_begins_give_up()
+    ensures { DeepBeginsGiveUp }
 {}
