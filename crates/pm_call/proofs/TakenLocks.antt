@@ -1,6 +1,6 @@
 -- A LANE THAT TOOK LOCKS, looked under them and raised some has a view that is as it was but for
--- its claims and for what the tries told; it has and knows what
--- it did, and holds the longer list of locks, and no other.
+-- its claims and for what the tries told; it has and knows what it did, and holds the longer list
+-- of locks, and no other.
 use Rattle.std.specs.Prelude.{filter, map}
 use Rattle.std.proofs.Common.{◌≡◌, ◌≢◌, ⊎_elim, inl, inr, ◌⊎◌, ℕ, ◌<◌, ◌≤◌, Bool, true, false, cond, not, ◌==◌, ◌&&◌, ◌||◌, Contains, List, [], ◌∷◌, ◌++◌, refl, sym, ap, ◌∙◌, subst}
 use Rattle.std.specs.List.{AllByRecursion, list_any}

@@ -1,6 +1,6 @@
 -- WHY A LOCK, OR A BEGIN OF AN INNER LEVEL, IS REFUSED, as laws: by the lane's list of locks and
--- by what its tries and looks told, the plain model's first
--- refusal is found; and such an operation gives the transaction up.
+-- by what its tries and looks told, the plain model's first refusal is found; and such an
+-- operation gives the transaction up.
 use Rattle.std.specs.Prelude.{◌≡◌, ◌⊎◌, ℕ, ◌+◌, ◌≤◌, ◌&&◌, nat_lt, not, false, Contains, List, [], ◌∷◌, length, take, Some, None}
 use Rattle.std.specs.List.{list_any}
 use Rattle.pm_objects.specs.declared.calls.Operation.{Operation}

@@ -1,7 +1,7 @@
 -- A LANE AT WORK LOCKS OBJECTS, as a law: it takes the locks that are wanted, finds an object
--- under each, raises those that are to be written, and tells the
--- operation; and it is at work then, with the longer list of locks. pmemobj_tx_lock(3), and
--- pmemobj_tx_begin(3) of an inner level.
+-- under each, raises those that are to be written, and tells the operation; and it is at work
+-- then, with the longer list of locks. pmemobj_tx_lock(3), and pmemobj_tx_begin(3) of an inner
+-- level.
 use Rattle.std.specs.Prelude.{◌≡◌, ◌≢◌, ◌⊎◌, ℕ, ◌+◌, ◌<◌, ◌≤◌, Bool, true, false, Contains, List, [], ◌∷◌, ◌++◌, length, map, None, Some}
 use Rattle.std.specs.List.{AllByRecursion}
 use Rattle.pm_layout.specs.Areas.{greatest_generation, word_of_generation, word_of_seal}
@@ -51,8 +51,7 @@ abbrev pub locks_with : Standing → List Want → List HeldLock
 locks_with s wants = raised (to_write s wants) (s.locks ++ to_take s wants)
 
 -- THE LANE'S LOCKS ARE THOSE OF ITS LIST: of lines of the pool, no two of one line, and it holds
--- no other; they are as many as its transaction has. Blocks of
--- its own are of runs that it knows
+-- no other; they are as many as its transaction has. Blocks of its own are of runs that it knows
 pub record HoldsLocks (s : Standing) : Type 0 where
   pub each : HoldsEach s.view s.locks
   pub only : (line : ℕ) → holds s.view.claims line ≡ true → is_listed s.locks [] line ≡ true
@@ -68,8 +67,8 @@ pub record IsOfWorld (v : View) : Type 0 where
   pub there : InWorld v word value
 
 -- it takes them, by tries or by waits; looks under each, and finds an object; raises those that
--- are to be written. Once the operation is told its view is one
--- of a world, as its next look tells; or nothing is wanted
+-- are to be written. Once the operation is told its view is one of a world, as its next look
+-- tells; or nothing is wanted
 pub record TakesLocks (s : Standing) (op : Operation) (wants : List Want) (x : View)
     : Type 0 where
   pub taken : View
