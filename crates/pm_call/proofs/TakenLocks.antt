@@ -1,5 +1,6 @@
--- A LANE THAT TOOK LOCKS, looked under them and raised some has a view that is as it was but for its claims and for what the tries told; it has and knows what
--- it did, and holds the longer list of locks, and no other.
+-- A LANE THAT TOOK LOCKS, looked under them and raised some has a view that is as it was but for
+-- its claims and for what the tries told; it has and knows what it did, and holds the longer list
+-- of locks, and no other.
 use Rattle.std.specs.Prelude.{filter, map}
 use Rattle.std.proofs.Common.{◌≡◌, ◌≢◌, ⊎_elim, inl, inr, ◌⊎◌, ℕ, ◌<◌, ◌≤◌, Bool, true, false, cond, not, ◌==◌, ◌&&◌, ◌||◌, Contains, List, [], ◌∷◌, ◌++◌, refl, sym, ap, ◌∙◌, subst}
 use Rattle.std.specs.List.{AllByRecursion, list_any}
@@ -26,8 +27,7 @@ use Rattle.pm_lock.proofs.Acquired.{may_lock_wanted}
 use Rattle.pm_lock.proofs.HeldLocks.{held_are_raised, held_grow, held_stay}
 use Rattle.pm_lock.proofs.KeptBlocks.{raised_keep}
 use Rattle.pm_lock.proofs.RaisedClaims.{are_raised}
-use Rattle.pm_call.specs.At.{At}
-use Rattle.pm_call.specs.Locking.{HoldsLocks, LocksMayBeWanted, TakesLocks, locks_with, to_take, to_write}
+use Rattle.pm_call.specs.Locking.{CanLock, HoldsLocks, LanesAtWorkMayLock, LocksMayBeWanted, TakesLocks, locks_with, to_take, to_write}
 use Rattle.pm_call.proofs.KeptByLooks.{keeps_looked}
 use Rattle.pm_call.proofs.KeptClaims.{IsFree, KeepsAll, claiming, keeps_more, keeps_rose, keeps_taken}
 use Rattle.pm_call.proofs.KeptGrows.{locking}
@@ -40,6 +40,24 @@ all_with P Q R (x ∷ xs) f a b = (f x a.0 b.0, all_with P Q R xs f a.1 b.1)
 
 pub locks_may_be_wanted : LocksMayBeWanted
 locks_may_be_wanted s at h = record { shape = refl; area = at.working.lane; early = ap is_early at.working.is_open; unmaking = at.working.unmaking; listed = h.only }
+
+-- a lane at work may lock
+pub can_lock : LanesAtWorkMayLock
+can_lock s at = record {
+  working = at.working;
+  unbumped = at.unbumped;
+  sound = at.sound;
+  sizes = at.sizes;
+  sealed = at.sealed;
+  number = at.number;
+  held = at.held;
+  room = at.room;
+  recorded = at.recorded;
+  lists = record { locks = at.lists.locks; recorded = at.lists.recorded; records = at.lists.records; blocks = at.lists.blocks; sets = at.lists.sets; may_set = at.lists.may_set; error_is = at.lists.error_is };
+  sim = at.sim;
+  facts = at.facts;
+  tells = inr at.lists.works;
+}
 
 -- what was seen, was seen
 seen_raises : (locks : List HeldLock) (v : View) (n : Step) → Contains v.seen n → Contains (after_all v (map (λ (l : HeldLock). Raise l.line true) locks)).seen n
@@ -141,7 +159,7 @@ no_finds : (sh : Shape) (looks : List Step) → AreFinds sh [] looks → looks �
 unfolding AreFinds
 no_finds sh looks f = f
 
-module _ (s : Standing) (op : Operation) (wants : List Want) (x : View) (at : At s) (h : HoldsLocks s) (tk : TakesLocks s op wants x) where
+module _ (s : Standing) (op : Operation) (wants : List Want) (x : View) (at : CanLock s) (h : HoldsLocks s) (tk : TakesLocks s op wants x) where
   abbrev v : View
   v = s.view
 

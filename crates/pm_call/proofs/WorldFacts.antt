@@ -1,4 +1,5 @@
--- WHAT A LANE'S VIEW IS IN A WORLD: sizes fit, what it found is sound, and what it sees and pictures is of the pool.
+-- WHAT A LANE'S VIEW IS IN A WORLD: sizes fit, what it found is sound, and what it sees and
+-- pictures is of the pool.
 use Rattle.std.proofs.Common.{◌≡◌, ℕ, true, sym, subst, ap, ◌∙◌}
 use Rattle.pm_view.specs.Log.{Open}
 use Rattle.pm_view.specs.Places.{is_place}
