@@ -8,11 +8,13 @@
 //! docs/BEHAVIOUR.md.
 #![tactic(auto)]
 
+mod actions;
 mod ending;
 mod outcome;
 mod ranges;
 mod stages;
 
+pub use actions::set_value;
 pub use ending::end;
 pub use outcome::abort;
 pub use ranges::{add_range, read, write};
