@@ -25,7 +25,7 @@ use Rattle.pm_view.specs.View.{Told, View}
 use Rattle.pm_view.specs.Views.{after}
 use Rattle.pm_world.specs.InWorld.{IsSound, SizesFit}
 use Rattle.pm_world.specs.LaneFields.{Standing, kept_of}
-use Rattle.pm_world.specs.Sights.{is_recorded, picture}
+use Rattle.pm_world.specs.Sights.{is_recorded}
 use Rattle.pm_world.specs.declared.lane.HeldLock.{HeldLock}
 use Rattle.pm_crash.specs.Looked.{IsChanged, items_seen, pool_seen, refusal_by}
 use Rattle.pm_crash.specs.Looks.{ids_freed, ids_sized}
