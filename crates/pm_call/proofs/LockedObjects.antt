@@ -25,7 +25,7 @@ use Rattle.pm_view.specs.View.{Told, View}
 use Rattle.pm_view.specs.Views.{after}
 use Rattle.pm_world.specs.InWorld.{IsSound, SizesFit}
 use Rattle.pm_world.specs.LaneFields.{Standing, kept_of}
-use Rattle.pm_world.specs.Sights.{is_recorded, picture}
+use Rattle.pm_world.specs.Sights.{is_recorded}
 use Rattle.pm_world.specs.declared.lane.HeldLock.{HeldLock}
 use Rattle.pm_crash.specs.Looked.{IsChanged, items_seen, pool_seen, refusal_by}
 use Rattle.pm_crash.specs.Looks.{ids_freed, ids_sized}
@@ -52,15 +52,14 @@ use Rattle.pm_lock.proofs.ModelPlans.{plans_as}
 use Rattle.pm_call.specs.At.{AreLists, At, IsDataOf, MaySet, entries_so_far}
 use Rattle.pm_call.specs.Did.{unseen}
 use Rattle.pm_call.specs.Held.{AreHeld, HasObject, IsHeld, has_line, is_in_locks, line_of}
-use Rattle.pm_call.specs.Locking.{AgreesOn, CanLock, HoldsLocks, IsOpened, TransactionsMayBegin, IsOfWorld, LeadsLocks, ObjectsMayBeLocked, TakesLocks, locks_with, to_take, to_write}
-use Rattle.pm_call.proofs.KeptGrows.{KeepsPictures, SeesInside, locking, pictures_on}
+use Rattle.pm_call.specs.Locking.{AgreesOn, CanLock, HoldsLocks, IsOpened, TransactionsMayBegin, LeadsLocks, ObjectsMayBeLocked, TakesLocks, locks_with, to_take, to_write}
+use Rattle.pm_call.proofs.KeptGrows.{KeepsPictures, locking}
 use Rattle.pm_call.proofs.KeptWork.{data_on, held_size_on, object_on, seal_on, sim_on, working_on}
 use Rattle.pm_call.proofs.KnownObjects.{held_object, object_stands}
 use Rattle.pm_call.proofs.LockLists.{all_locked_is, any_at, chunk_high, listed_is, locks_are, locks_count, none_any, wants_off}
 use Rattle.pm_call.proofs.Noting.{all_map, data_told, held_told, sizes_told, sound_told, working_told}
 use Rattle.pm_call.proofs.RangeReads.{begun_more}
 use Rattle.pm_call.proofs.TakenLocks.{IsTakenView, can_lock, is_taken_view}
-use Rattle.pm_call.proofs.WorldFacts.{world_inside, world_sizes, world_sound}
 
 -- ---- lists
 all_on : {A : Type 0} (P : A → Type 0) (xs ys : List A) → AllByRecursion P xs → AllByRecursion P ys → AllByRecursion P (xs ++ ys)
@@ -102,12 +101,6 @@ each_wanted wants (want ∷ more) so = (
   each_wanted wants more (λ off e. so off (or_right (want.id.off == off && (want.write || true)) (wants_off more off false) e)),
 )
 
--- sizes fit whatever was seen
-sizes_seen : (v : View) (seen : List Step) → SizesFit v → SizesFit (locking v v.claims seen)
-sizes_seen v seen f (Small c i) n = f (Small c i) n
-sizes_seen v seen f (Rattle.pm_view.specs.Places.Big g) n = f (Rattle.pm_view.specs.Places.Big g) n
-sizes_seen v seen f Rattle.pm_view.specs.Places.Root n = f Rattle.pm_view.specs.Places.Root n
-
 -- WHAT THE OPERATION IS to the model
 pub record IsOp (v : View) (op : Operation) (wants : List Want) (level : ℕ) : Type 0 where
   pub leaves : leaves_copy op ≡ true
@@ -119,7 +112,7 @@ pub record IsOp (v : View) (op : Operation) (wants : List Want) (level : ℕ) : 
   pub works : is_working stage_then ≡ true
   pub done : after_reply op None (lists_of v) ≡ record (with_locks wants (lists_of v)) { level = level; stage = stage_then }
 
-module _ (s : Standing) (op : Operation) (wants : List Want) (level : ℕ) (x : View) (at : CanLock s) (h : HoldsLocks s) (tk : TakesLocks s op wants x)
+module _ (s : Standing) (op : Operation) (wants : List Want) (level : ℕ) (x : View) (at : CanLock s) (h : HoldsLocks s) (tk : TakesLocks s wants x)
     (placed : has_unplaced s.view.fixed.shape s.view.fixed.pool wants ≡ false) (few : length s.locks + length (to_take s wants) ≤ 64) where
   abbrev v : View
   v = s.view
@@ -128,7 +121,7 @@ module _ (s : Standing) (op : Operation) (wants : List Want) (level : ℕ) (x : 
   sh = s.view.fixed.shape
 
   pub taken : IsTakenView s wants x
-  taken = is_taken_view s op wants x at h tk
+  taken = is_taken_view s wants x at h tk
 
   abbrev pub next : View
   next = locking s.view taken.claims taken.seen
@@ -136,28 +129,14 @@ module _ (s : Standing) (op : Operation) (wants : List Want) (level : ℕ) (x : 
   pub next_is : x ≡ next
   next_is = taken.same
 
-  -- in a world, as it is once the operation is told; or as it was
-  abbrev told_then : View
-  told_then = after next (Tell op None)
-
   sound : IsSound next
-  sound = ⊎_elim
-      (λ (w : IsOfWorld (after x (Tell op None))). sound_told told_then next.call next.actions next.published (subst (λ (u : View). IsSound (after u (Tell op None))) taken.same (world_sound (after x (Tell op None)) w.word w.value w.there)))
-      (λ (e : wants ≡ []). subst (λ t. IsSound (locking s.view t taken.seen)) (sym (taken.none e)) (record { small = at.sound.small; some = at.sound.some; zone = at.sound.zone; huge = at.sound.huge }))
-      tk.world
+  sound = subst IsSound taken.same taken.sound
 
   fit : SizesFit next
-  fit = ⊎_elim
-      (λ (w : IsOfWorld (after x (Tell op None))). sizes_told told_then next.call next.actions next.published (subst (λ (u : View). SizesFit (after u (Tell op None))) taken.same (world_sizes (after x (Tell op None)) w.word w.value w.there)))
-      (λ (e : wants ≡ []). subst (λ t. SizesFit (locking s.view t taken.seen)) (sym (taken.none e)) (sizes_seen s.view taken.seen at.sizes))
-      tk.world
+  fit = subst SizesFit taken.same taken.sizes
 
   pics : KeepsPictures s.view taken.claims
-  pics = ⊎_elim
-      (λ (w : IsOfWorld (after x (Tell op None))). pictures_on s.view taken.claims taken.seen taken.keeps at.sound sound
-      (subst (λ (u : View). SeesInside (after u (Tell op None))) taken.same (world_inside (after x (Tell op None)) w.word w.value (ap (λ (u : View). u.log.phase) taken.same ∙ at.working.is_open) w.there)))
-      (λ (e : wants ≡ []). λ p b y f q. ap (λ t. picture s.view.fixed.shape t p b) (taken.none e) ∙ q)
-      tk.world
+  pics = taken.pictures
 
   abbrev L : List HeldLock
   L = locks_with s wants
@@ -371,7 +350,7 @@ module _ (s : Standing) (at : At s) (h : HoldsLocks s) (x : View) where
   at_work : (nat_le 1 (lists_of s.view).level && not (is_working (lists_of s.view).stage)) ≡ false
   at_work = and_right (nat_le 1 (lists_of s.view).level) (not (is_working (lists_of s.view).stage)) (ap not at.lists.works)
 
-  lock_leads : (want : Want) → has_unplaced s.view.fixed.shape s.view.fixed.pool (want ∷ []) ≡ false → length s.locks + length (to_take s (want ∷ [])) ≤ 64 → TakesLocks s (Lock want) (want ∷ []) x
+  lock_leads : (want : Want) → has_unplaced s.view.fixed.shape s.view.fixed.pool (want ∷ []) ≡ false → length s.locks + length (to_take s (want ∷ [])) ≤ 64 → TakesLocks s (want ∷ []) x
       → LeadsLocks s (Lock want) (want ∷ []) s.level x
   lock_leads want placed few tk = leads s (Lock want) (want ∷ []) s.level x (can_lock s at) h tk placed few (record {
     leaves = refl;
@@ -396,7 +375,7 @@ module _ (s : Standing) (at : At s) (h : HoldsLocks s) (x : View) where
     ),
   ))
 
-  begin_leads : (wants : List Want) → s.level < 64 → has_unplaced s.view.fixed.shape s.view.fixed.pool wants ≡ false → length s.locks + length (to_take s wants) ≤ 64 → TakesLocks s (Begin wants) wants x
+  begin_leads : (wants : List Want) → s.level < 64 → has_unplaced s.view.fixed.shape s.view.fixed.pool wants ≡ false → length s.locks + length (to_take s wants) ≤ 64 → TakesLocks s wants x
       → LeadsLocks s (Begin wants) wants (s.level + 1) x
   begin_leads wants deep placed few tk = leads s (Begin wants) wants (s.level + 1) x (can_lock s at) h tk placed few (record {
     leaves = refl;
@@ -431,10 +410,10 @@ module _ (s : Standing) (at : At s) (h : HoldsLocks s) (x : View) where
 pub objects_may_be_locked : ObjectsMayBeLocked
 objects_may_be_locked s (Lock want) wants level x at h may tk =
     subst (λ n. LeadsLocks s (Lock want) wants n x) (sym may.is.1)
-    (subst (λ ws. has_unplaced s.view.fixed.shape s.view.fixed.pool ws ≡ false → length s.locks + length (to_take s ws) ≤ 64 → TakesLocks s (Lock want) ws x → LeadsLocks s (Lock want) ws s.level x) (sym may.is.0) (lock_leads s at h x want) may.placed may.few tk)
+    (subst (λ ws. has_unplaced s.view.fixed.shape s.view.fixed.pool ws ≡ false → length s.locks + length (to_take s ws) ≤ 64 → TakesLocks s ws x → LeadsLocks s (Lock want) ws s.level x) (sym may.is.0) (lock_leads s at h x want) may.placed may.few tk)
 objects_may_be_locked s (Begin these) wants level x at h may tk =
     subst (λ n. LeadsLocks s (Begin these) wants n x) (sym may.is.1)
-    (subst (λ ws. has_unplaced s.view.fixed.shape s.view.fixed.pool ws ≡ false → length s.locks + length (to_take s ws) ≤ 64 → TakesLocks s (Begin these) ws x → LeadsLocks s (Begin these) ws (s.level + 1) x) (sym may.is.0) (begin_leads s at h x these may.is.2) may.placed may.few tk)
+    (subst (λ ws. has_unplaced s.view.fixed.shape s.view.fixed.pool ws ≡ false → length s.locks + length (to_take s ws) ≤ 64 → TakesLocks s ws x → LeadsLocks s (Begin these) ws (s.level + 1) x) (sym may.is.0) (begin_leads s at h x these may.is.2) may.placed may.few tk)
 objects_may_be_locked s op wants level x at h may tk = absurd may.is
 
 -- ---- THE OUTERMOST LEVEL begins
@@ -478,7 +457,7 @@ module _ (s : Standing) (op : IsOpened s) where
   no_level : (lists_of s.view).level ≡ 0
   no_level = ap (λ (tx : Transaction). tx.level) none_told
 
-  pub first_leads : (wants : List Want) (x : View) → HoldsLocks s → has_unplaced s.view.fixed.shape s.view.fixed.pool wants ≡ false → length s.locks + length (to_take s wants) ≤ 64 → TakesLocks s (Begin wants) wants x
+  pub first_leads : (wants : List Want) (x : View) → HoldsLocks s → has_unplaced s.view.fixed.shape s.view.fixed.pool wants ≡ false → length s.locks + length (to_take s wants) ≤ 64 → TakesLocks s wants x
       → LeadsLocks s (Begin wants) wants 1 x
   first_leads wants x h placed few tk = leads s (Begin wants) wants 1 x opened_can_lock h tk placed few (record {
     leaves = refl;

@@ -22,14 +22,14 @@ use Rattle.pm_crash.specs.Sim.{lists_of}
 use Rattle.pm_crash.proofs.StepKnows as known
 use Rattle.pm_lock.specs.Acquiring.{MayWant}
 use Rattle.pm_lock.specs.Holding.{IsHeldAs, Rises, took}
-use Rattle.pm_lock.specs.Objects.{CanLook, HasLooked, is_chunk_line}
+use Rattle.pm_lock.specs.Objects.{CanLook, HasLooked, IsOfWorld, is_chunk_line}
 use Rattle.pm_lock.specs.Steps.{tries}
 use Rattle.pm_lock.proofs.Acquired.{may_lock_wanted}
 use Rattle.pm_lock.proofs.Holds.{still_locked, still_reads, tries_taken}
 use Rattle.pm_lock.proofs.KeptBlocks.{taken_keep}
 use Rattle.pm_call.specs.At.{At, MaySet}
 use Rattle.pm_call.specs.Held.{AreHeld, HasObject, IsHeld}
-use Rattle.pm_call.specs.Locking.{HoldsLocks, IsOfWorld, to_take}
+use Rattle.pm_call.specs.Locking.{HoldsLocks, to_take}
 use Rattle.pm_call.specs.LockRefusals.{HasAsMany, TriedLocks, TriedLocksLeaveWork}
 use Rattle.pm_call.proofs.KeptByLooks.{keeps_looked}
 use Rattle.pm_call.proofs.KeptClaims.{IsFree, KeepsAll, claiming, keeps_more, keeps_taken, no_root_lock}

@@ -19,12 +19,12 @@ use Rattle.pm_crash.specs.Looked.{refusal_by}
 use Rattle.pm_crash.specs.Sim.{lists_of}
 use Rattle.pm_lock.specs.Acquiring.{AreFinds}
 use Rattle.pm_lock.specs.Holding.{IsTaken}
-use Rattle.pm_lock.specs.Objects.{HasLooked}
+use Rattle.pm_lock.specs.Objects.{HasLooked, IsOfWorld}
 use Rattle.pm_lock.specs.Wants.{has_unplaced}
 use Rattle.pm_call.specs.At.{At}
 use Rattle.pm_call.specs.GivenUp.{GivesUp}
 use Rattle.pm_call.specs.Held.{is_in_locks}
-use Rattle.pm_call.specs.Locking.{HoldsLocks, IsLocking, IsOfWorld, to_take}
+use Rattle.pm_call.specs.Locking.{HoldsLocks, IsLocking, to_take}
 
 -- in their order: too many locks; an id without a place; a lock that is to be taken or raised was
 -- another lane's; under one that was taken no object was found
@@ -68,7 +68,7 @@ DeepBeginsGiveUp = (s : Standing) (wants : List Want) → At s → 64 ≤ s.leve
 -- ---- WHAT IT DID BY THEN
 
 -- it got the first so many of the locks, and looked under the first so many; its view is one of a
--- world then, as a look tells, or it did not look
+-- world then, as the last look tells, or it did not look
 pub record TriedLocks (s : Standing) (wants : List Want) (x : View) : Type 0 where
   pub count : ℕ
   pub taken : View

@@ -17,7 +17,7 @@ use Rattle.pm_view.specs.Steps.{Step}
 use Rattle.pm_view.specs.Steps.Step.{NumberSeen, Tell}
 use Rattle.pm_view.specs.View.{View}
 use Rattle.pm_view.specs.Views.{after, after_all, value_in}
-use Rattle.pm_world.specs.InWorld.{InWorld, IsSound, SizesFit}
+use Rattle.pm_world.specs.InWorld.{IsSound, SizesFit}
 use Rattle.pm_world.specs.Sights.{is_recorded}
 use Rattle.pm_crash.specs.Facts.{HaveFacts}
 use Rattle.pm_world.specs.LaneFields.{Standing, moved}
@@ -31,7 +31,7 @@ use Rattle.pm_undo.specs.Working.{IsWorking}
 use Rattle.pm_lock.specs.Acquiring.{AreFinds, MayWant}
 use Rattle.pm_lock.specs.Held.{HoldsEach}
 use Rattle.pm_lock.specs.Holding.{IsTaken}
-use Rattle.pm_lock.specs.Objects.{HasLooked, StandsAt}
+use Rattle.pm_lock.specs.Objects.{HasLooked, IsOfWorld, StandsAt}
 use Rattle.pm_lock.specs.Raising.{raised, raises}
 use Rattle.pm_lock.specs.Wants.{has_unplaced, is_listed, wanted, wants_to_write}
 use Rattle.pm_call.specs.At.{At, IsDataOf, MaySet, MayTakeNumber, entries_so_far, set_entry}
@@ -60,17 +60,9 @@ pub record HoldsLocks (s : Standing) : Type 0 where
 
 -- ---- WHAT IT DOES
 
--- the view is one of a world, as a look tells
-pub record IsOfWorld (v : View) : Type 0 where
-  pub word : ℕ
-  pub value : ℕ
-  pub there : InWorld v word value
-
--- it takes them, by tries or by waits; looks under each, and finds an object; raises those that
--- are to be written. Once the operation is told its view is one of a world, as its next look
--- tells; or nothing is wanted
-pub record TakesLocks (s : Standing) (op : Operation) (wants : List Want) (x : View)
-    : Type 0 where
+-- it takes them, by tries or by waits; looks under each, and finds an object, and its view is one
+-- of a world then, or none was to be taken; and it raises those that are to be written
+pub record TakesLocks (s : Standing) (wants : List Want) (x : View) : Type 0 where
   pub taken : View
   pub takes : IsTaken s.view (to_take s wants) taken
   pub told : (n : Step) → Contains s.view.seen n → Contains taken.seen n
@@ -79,9 +71,9 @@ pub record TakesLocks (s : Standing) (op : Operation) (wants : List Want) (x : V
   pub stays : HasLooked taken (after_all taken looks)
   pub objects : AllByRecursion (λ (l : HeldLock). StandsAt (after_all taken looks) l.line)
       (to_take s wants)
+  pub world : IsOfWorld (after_all taken looks) ⊎ (to_take s wants ≡ [])
   pub raises_ : x ≡ after_all (after_all taken looks)
       (raises (to_write s wants) (s.locks ++ to_take s wants))
-  pub world : IsOfWorld (after x (Tell op None)) ⊎ (wants ≡ [])
 
 -- THE LANE MAY LOCK: its call is open, and its lists are the model's, whatever the level
 pub record AgreesOn (s : Standing) (tx : Transaction) : Type 0 where
@@ -141,7 +133,7 @@ pub record LeadsLocks (s : Standing) (op : Operation) (wants : List Want) (level
 -- THE LAW: a lane at work whose locks are those of its list may take more, and tell the operation
 abbrev pub ObjectsMayBeLocked : Type 0
 ObjectsMayBeLocked = (s : Standing) (op : Operation) (wants : List Want) (level : ℕ) (x : View)
-    → At s → HoldsLocks s → MayLock s op wants level → TakesLocks s op wants x
+    → At s → HoldsLocks s → MayLock s op wants level → TakesLocks s wants x
     → LeadsLocks s op wants level x
 
 -- and pm_lock may be asked for them
@@ -173,7 +165,7 @@ pub record IsOpened (s : Standing) : Type 0 where
 abbrev pub TransactionsMayBegin : Type 0
 TransactionsMayBegin = (s : Standing) (wants : List Want) (x : View) → IsOpened s → HoldsLocks s
     → has_unplaced s.view.fixed.shape s.view.fixed.pool wants ≡ false
-    → length s.locks + length (to_take s wants) ≤ 64 → TakesLocks s (Begin wants) wants x
+    → length s.locks + length (to_take s wants) ≤ 64 → TakesLocks s wants x
     → LeadsLocks s (Begin wants) wants 1 x
 
 -- ---- A CALL OPENS
