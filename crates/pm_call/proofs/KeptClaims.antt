@@ -1,5 +1,5 @@
--- WHAT A LANE HAS AND KNOWS STAYS as it takes locks, looks under them and raises them: it holds no fewer lines, has and finds no fewer blocks, and knows of
--- their words what it knew.
+-- WHAT A LANE HAS AND KNOWS STAYS as it takes locks, looks under them and raises them: it holds no
+-- fewer lines, has and finds no fewer blocks, and knows of their words what it knew.
 use Rattle.std.proofs.Common.{◌≡◌, ◌≢◌, ⊎_elim, ℕ, ◌<◌, Bool, true, false, not, ◌==◌, ◌&&◌, ◌||◌, List, [], ◌∷◌, refl, sym, ap, ◌∙◌, subst, arith, ne_eqb, None}
 use Rattle.std.specs.List.{AllByRecursion}
 use Rattle.std.proofs.lemmas.Bool.{and_from, and_left, both_ways, cond-false, eqb-true, false_from_ne_true, or_cases, or_left, or_right}

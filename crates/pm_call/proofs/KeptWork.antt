@@ -1,4 +1,5 @@
--- A LANE AT WORK THAT HAS AND KNOWS WHAT IT DID, in a world: what it recorded is data of objects that it finds still, and its call goes on.
+-- A LANE AT WORK THAT HAS AND KNOWS WHAT IT DID, in a world: what it recorded is data of objects
+-- that it finds still, and its call goes on.
 use Rattle.std.proofs.Common.{◌≡◌, ⊎_elim, inl, inr, ℕ, ◌+◌, ◌*◌, ◌-◌, ◌/◌, ◌%◌, ◌<◌, nat_le, Bool, true, false, cond, ◌==◌, ◌&&◌, List, [], ◌∷◌, refl, sym, ap, ◌∙◌, subst, arith, Option, None, Some}
 use Rattle.std.specs.List.{AllByRecursion}
 use Rattle.std.specs.Option.{option_map}
@@ -25,7 +26,8 @@ use Rattle.pm_plan.proofs.AreaParts.{no_place, place_outside}
 use Rattle.pm_undo.specs.Working.{IsStanding, IsWorking}
 use Rattle.pm_undo.proofs.Putting.{old_at}
 use Rattle.pm_lock.specs.Objects.{has}
-use Rattle.pm_call.specs.At.{IsAt, IsDataOf, entries_so_far}
+use Rattle.pm_call.specs.At.{IsDataOf, entries_so_far}
+use Rattle.pm_call.specs.Locking.{CanLock}
 use Rattle.pm_call.specs.Held.{HasObject, IsObjectWord, has_line, line_of}
 use Rattle.pm_call.proofs.KeptClaims.{KeepsAll}
 use Rattle.pm_call.proofs.KeptGrows.{KeepsPictures, KnowsOwnRuns, keeps_grows, locking}
@@ -41,7 +43,7 @@ seal_no_place sh cl lane low = go (place_at sh cl (word_of_seal sh lane)) refl
     go None e = refl
     go (Some p) e = absurd (⊎_elim (λ (root : word_of_seal sh lane ≡ 64). let r = root in omega (arith, r)) (λ (far : IsBeyond sh (word_of_seal sh lane)). omega (arith, far, low)) (place_outside sh lane (word_of_seal sh lane) cl p e))
 
-module _ (s : Standing) (level : ℕ) (at : IsAt s level) (t : List Claim) (seen : List Step) (k : KeepsAll s.view t) (own : KnowsOwnRuns s.view) (sound : IsSound (locking s.view t seen)) (pics : KeepsPictures s.view t) where
+module _ (s : Standing) (at : CanLock s) (t : List Claim) (seen : List Step) (k : KeepsAll s.view t) (own : KnowsOwnRuns s.view) (sound : IsSound (locking s.view t seen)) (pics : KeepsPictures s.view t) where
   abbrev v : View
   v = s.view
 

@@ -45,3 +45,4 @@ pub mod SetEntries
 pub mod SetChanges
 pub mod LoggedCalls
 pub mod LoggedCommits
+pub mod OpenedCalls

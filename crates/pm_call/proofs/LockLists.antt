@@ -1,4 +1,5 @@
--- THE LIST OF A LANE'S LOCKS once it took those that are wanted and raised those that are to be written is that of the model's transaction.
+-- THE LIST OF A LANE'S LOCKS once it took those that are wanted and raised those that are to be
+-- written is that of the model's transaction.
 use Rattle.std.specs.Prelude.{length}
 use Rattle.std.proofs.Common.{◌≡◌, ◌≢◌, ⊎_elim, ℕ, zero, suc, ◌+◌, ◌%◌, ◌<◌, ◌≤◌, nat_le, nat_lt, Bool, true, false, cond, not, ◌==◌, ◌&&◌, ◌||◌, List, [], ◌∷◌, ◌++◌, refl, sym, ap, ◌∙◌, arith, ne_eqb, eq-eqb, Option, None, Some}
 use Rattle.std.specs.List.{AllByRecursion, list_any}

@@ -1,7 +1,7 @@
 -- WHY A LOCK IS REFUSED: the tests by the lane's list are the plain model's.
 use Rattle.std.proofs.Common.{◌≡◌, inl, inr, ℕ, ◌%◌, nat_le, Bool, true, false, cond, not, ◌==◌, ◌&&◌, ◌||◌, Contains, List, [], ◌∷◌, refl, sym, ap, ◌∙◌, subst, arith, rules, ne_eqb, eq-eqb, None, Some}
 use Rattle.std.specs.List.{list_any}
-use Rattle.std.proofs.lemmas.Bool.{and_from, and_left, and_right, both_ways, cond-false, false_from_ne_true, le-leb, leb-true}
+use Rattle.std.proofs.lemmas.Bool.{and_from, and_left, and_right, both_ways, cond-false, cond-true, false_from_ne_true, le-leb, leb-true}
 use Rattle.pm_objects.specs.declared.calls.Operation.{Operation}
 use Rattle.pm_objects.specs.declared.calls.Operation.TheVariants.{Begin, Lock}
 use Rattle.pm_objects.specs.declared.calls.Want.{Want}
@@ -26,8 +26,10 @@ use Rattle.pm_lock.specs.Wants.{is_listed}
 use Rattle.pm_lock.proofs.CanBegin.{has_header}
 use Rattle.pm_lock.proofs.ModelPlans.{plans_as}
 use Rattle.pm_call.specs.At.{At, entries_so_far}
+use Rattle.pm_call.specs.Did.{unseen}
+use Rattle.pm_objects.specs.declared.refusal.Refusal.TheVariants.{Deep}
 use Rattle.pm_call.specs.Held.{has_line, is_in_locks, line_of}
-use Rattle.pm_call.specs.LockRefusals.{HasAsMany, LockRefusals, RefusedLocksGiveUp, locking_tests}
+use Rattle.pm_call.specs.LockRefusals.{DeepBeginsGiveUp, HasAsMany, LockRefusals, RefusedLocksGiveUp, locking_tests}
 use Rattle.pm_call.proofs.LockLists.{any_at, chunk_high, listed_is, none_any, same_any}
 
 first_skip : (t : Test) (rest : List Test) → t.1 ≡ false → first_of (t ∷ rest) ≡ first_of rest
@@ -127,3 +129,22 @@ refused_locks_give_up s (Lock want) wants level seen r at count is first =
 refused_locks_give_up s (Begin these) wants level seen r at count is first =
     inl (record { inside = refl; plain = refl; seen = seen; root = None; looks = locks_look s (Begin these) at refl refl; refusal = r; first = lock_refusals s (Begin these) wants level seen at count is ∙ first; replied = refl })
 refused_locks_give_up s op wants level seen r at count is first = absurd is
+
+-- ---- a begin at the deepest level
+first_here : (t : Test) (rest : List Test) → t.1 ≡ true → first_of (t ∷ rest) ≡ Some t.0
+unfolding first_of
+first_here t rest e = cond-true t.1 (Some t.0) (first_of rest) e
+
+pub deep_begins_give_up : DeepBeginsGiveUp
+deep_begins_give_up s wants at deep = inl (record {
+  inside = refl;
+  plain = refl;
+  seen = unseen;
+  root = None;
+  looks = locks_look s (Begin wants) at refl refl;
+  refusal = Deep;
+  first = first_skip _ _ (and_right (nat_le 1 (lists_of s.view).level) (not (is_working (lists_of s.view).stage)) (ap not at.lists.works))
+      ∙ (first_skip _ _ (and_right ((lists_of s.view).level == 0) false refl)
+      ∙ first_here _ _ (le-leb 64 (lists_of s.view).level (let l = at.lists.level_is in omega (arith, l, deep))));
+  replied = refl;
+})

@@ -14,7 +14,7 @@ use Rattle.pm_model.specs.Inside.{Ran, after_reply, wants_of}
 use Rattle.pm_model.specs.Items.{is_among}
 use Rattle.pm_model.specs.Places.{has_place}
 use Rattle.pm_model.specs.Refusals.{Test, first_of, is_first_lock, is_tried, passes_locks}
-use Rattle.pm_model.specs.Transaction.{Transaction, all_locked, is_gone, is_locked, is_new, is_working, wants_of_old, with_locks}
+use Rattle.pm_model.specs.Transaction.{Transaction, idle, all_locked, is_gone, is_locked, is_new, is_working, wants_of_old, with_locks}
 use Rattle.pm_model.specs.declared.stage.Stage.{Stage}
 use Rattle.pm_model.specs.declared.stage.Stage.TheVariants as stage
 use Rattle.pm_view.specs.Claims.{holds}
@@ -24,13 +24,16 @@ use Rattle.pm_view.specs.Steps.Step.{Tell}
 use Rattle.pm_view.specs.View.{Told, View}
 use Rattle.pm_view.specs.Views.{after}
 use Rattle.pm_world.specs.InWorld.{IsSound, SizesFit}
-use Rattle.pm_world.specs.LaneFields.{Standing}
-use Rattle.pm_world.specs.Sights.{is_recorded, picture}
+use Rattle.pm_world.specs.LaneFields.{Standing, kept_of}
+use Rattle.pm_world.specs.Sights.{is_recorded}
 use Rattle.pm_world.specs.declared.lane.HeldLock.{HeldLock}
 use Rattle.pm_crash.specs.Looked.{IsChanged, items_seen, pool_seen, refusal_by}
 use Rattle.pm_crash.specs.Looks.{ids_freed, ids_sized}
 use Rattle.pm_crash.specs.Calls.{pending_of}
-use Rattle.pm_crash.specs.OpenRuns.{no_pool}
+use Rattle.pm_crash.specs.OpenRuns.{after_told, no_pool}
+use Rattle.pm_crash.specs.SimFacts.{is_begun}
+use Rattle.pm_crash.proofs.Simulation.{sim_begins}
+use Rattle.pm_undo.specs.Spans as spans
 use Rattle.pm_crash.specs.Sim.{Sim, lists_of, tx_with}
 use Rattle.pm_crash.specs.SimOps.{Finds, LookedAt, RepliesBy, leaves_copy}
 use Rattle.pm_crash.proofs.OpenRuns.{told_once_more}
@@ -49,15 +52,14 @@ use Rattle.pm_lock.proofs.ModelPlans.{plans_as}
 use Rattle.pm_call.specs.At.{AreLists, At, IsDataOf, MaySet, entries_so_far}
 use Rattle.pm_call.specs.Did.{unseen}
 use Rattle.pm_call.specs.Held.{AreHeld, HasObject, IsHeld, has_line, is_in_locks, line_of}
-use Rattle.pm_call.specs.Locking.{HoldsLocks, IsOfWorld, LeadsLocks, ObjectsMayBeLocked, TakesLocks, locks_with, to_take, to_write}
-use Rattle.pm_call.proofs.KeptGrows.{KeepsPictures, SeesInside, locking, pictures_on}
+use Rattle.pm_call.specs.Locking.{AgreesOn, CanLock, HoldsLocks, IsOpened, TransactionsMayBegin, LeadsLocks, ObjectsMayBeLocked, TakesLocks, locks_with, to_take, to_write}
+use Rattle.pm_call.proofs.KeptGrows.{KeepsPictures, locking}
 use Rattle.pm_call.proofs.KeptWork.{data_on, held_size_on, object_on, seal_on, sim_on, working_on}
 use Rattle.pm_call.proofs.KnownObjects.{held_object, object_stands}
 use Rattle.pm_call.proofs.LockLists.{all_locked_is, any_at, chunk_high, listed_is, locks_are, locks_count, none_any, wants_off}
 use Rattle.pm_call.proofs.Noting.{all_map, data_told, held_told, sizes_told, sound_told, working_told}
 use Rattle.pm_call.proofs.RangeReads.{begun_more}
-use Rattle.pm_call.proofs.TakenLocks.{IsTakenView, is_taken_view}
-use Rattle.pm_call.proofs.WorldFacts.{world_inside, world_sizes, world_sound}
+use Rattle.pm_call.proofs.TakenLocks.{IsTakenView, can_lock, is_taken_view}
 
 -- ---- lists
 all_on : {A : Type 0} (P : A → Type 0) (xs ys : List A) → AllByRecursion P xs → AllByRecursion P ys → AllByRecursion P (xs ++ ys)
@@ -99,12 +101,6 @@ each_wanted wants (want ∷ more) so = (
   each_wanted wants more (λ off e. so off (or_right (want.id.off == off && (want.write || true)) (wants_off more off false) e)),
 )
 
--- sizes fit whatever was seen
-sizes_seen : (v : View) (seen : List Step) → SizesFit v → SizesFit (locking v v.claims seen)
-sizes_seen v seen f (Small c i) n = f (Small c i) n
-sizes_seen v seen f (Rattle.pm_view.specs.Places.Big g) n = f (Rattle.pm_view.specs.Places.Big g) n
-sizes_seen v seen f Rattle.pm_view.specs.Places.Root n = f Rattle.pm_view.specs.Places.Root n
-
 -- WHAT THE OPERATION IS to the model
 pub record IsOp (v : View) (op : Operation) (wants : List Want) (level : ℕ) : Type 0 where
   pub leaves : leaves_copy op ≡ true
@@ -116,7 +112,7 @@ pub record IsOp (v : View) (op : Operation) (wants : List Want) (level : ℕ) : 
   pub works : is_working stage_then ≡ true
   pub done : after_reply op None (lists_of v) ≡ record (with_locks wants (lists_of v)) { level = level; stage = stage_then }
 
-module _ (s : Standing) (op : Operation) (wants : List Want) (level : ℕ) (x : View) (at : At s) (h : HoldsLocks s) (tk : TakesLocks s op wants x)
+module _ (s : Standing) (op : Operation) (wants : List Want) (level : ℕ) (x : View) (at : CanLock s) (h : HoldsLocks s) (tk : TakesLocks s wants x)
     (placed : has_unplaced s.view.fixed.shape s.view.fixed.pool wants ≡ false) (few : length s.locks + length (to_take s wants) ≤ 64) where
   abbrev v : View
   v = s.view
@@ -125,7 +121,7 @@ module _ (s : Standing) (op : Operation) (wants : List Want) (level : ℕ) (x : 
   sh = s.view.fixed.shape
 
   pub taken : IsTakenView s wants x
-  taken = is_taken_view s op wants x at h tk
+  taken = is_taken_view s wants x at h tk
 
   abbrev pub next : View
   next = locking s.view taken.claims taken.seen
@@ -133,28 +129,14 @@ module _ (s : Standing) (op : Operation) (wants : List Want) (level : ℕ) (x : 
   pub next_is : x ≡ next
   next_is = taken.same
 
-  -- in a world, as it is once the operation is told; or as it was
-  abbrev told_then : View
-  told_then = after next (Tell op None)
-
   sound : IsSound next
-  sound = ⊎_elim
-      (λ (w : IsOfWorld (after x (Tell op None))). sound_told told_then next.call next.actions next.published (subst (λ (u : View). IsSound (after u (Tell op None))) taken.same (world_sound (after x (Tell op None)) w.word w.value w.there)))
-      (λ (e : wants ≡ []). subst (λ t. IsSound (locking s.view t taken.seen)) (sym (taken.none e)) (record { small = at.sound.small; some = at.sound.some; zone = at.sound.zone; huge = at.sound.huge }))
-      tk.world
+  sound = subst IsSound taken.same taken.sound
 
   fit : SizesFit next
-  fit = ⊎_elim
-      (λ (w : IsOfWorld (after x (Tell op None))). sizes_told told_then next.call next.actions next.published (subst (λ (u : View). SizesFit (after u (Tell op None))) taken.same (world_sizes (after x (Tell op None)) w.word w.value w.there)))
-      (λ (e : wants ≡ []). subst (λ t. SizesFit (locking s.view t taken.seen)) (sym (taken.none e)) (sizes_seen s.view taken.seen at.sizes))
-      tk.world
+  fit = subst SizesFit taken.same taken.sizes
 
   pics : KeepsPictures s.view taken.claims
-  pics = ⊎_elim
-      (λ (w : IsOfWorld (after x (Tell op None))). pictures_on s.view taken.claims taken.seen taken.keeps at.sound sound
-      (subst (λ (u : View). SeesInside (after u (Tell op None))) taken.same (world_inside (after x (Tell op None)) w.word w.value (ap (λ (u : View). u.log.phase) taken.same ∙ at.working.is_open) w.there)))
-      (λ (e : wants ≡ []). λ p b y f q. ap (λ t. picture s.view.fixed.shape t p b) (taken.none e) ∙ q)
-      tk.world
+  pics = taken.pictures
 
   abbrev L : List HeldLock
   L = locks_with s wants
@@ -169,7 +151,7 @@ module _ (s : Standing) (op : Operation) (wants : List Want) (level : ℕ) (x : 
   held = all_held next (to_write s wants) (s.locks ++ to_take s wants)
       (all_on (λ (l : HeldLock). (l.line ≡ 0) ⊎ HasObject next l.line) s.locks (to_take s wants)
       (all_map (IsHeld s.view) (λ (l : HeldLock). (l.line ≡ 0) ⊎ HasObject next l.line) s.locks
-      (λ l o. ⊎_elim (λ (z : l.line ≡ 0). inl z) (λ (b : HasObject s.view l.line). inr (object_on s s.level at taken.claims taken.seen taken.keeps h.own sound pics l.line b)) o.object) at.held)
+      (λ l o. ⊎_elim (λ (z : l.line ≡ 0). inl z) (λ (b : HasObject s.view l.line). inr (object_on s at taken.claims taken.seen taken.keeps h.own sound pics l.line b)) o.object) at.held)
       (all_map (λ (l : HeldLock). StandsAt x l.line) (λ (l : HeldLock). (l.line ≡ 0) ⊎ HasObject next l.line) (to_take s wants)
       (λ l o. inr (stands_object l.line (subst (λ (u : View). StandsAt u l.line) taken.same o))) taken.stands))
       each.held
@@ -209,9 +191,6 @@ module _ (s : Standing) (op : Operation) (wants : List Want) (level : ℕ) (x : 
   plans : Rattle.pm_lock.specs.ModelLocks.PlansAs seen_tx sh v.fixed.pool s.locks [] wants
   plans = plans_as seen_tx sh v.fixed.pool s.locks [] has_locks wants
 
-  pub at_work : (nat_le 1 seen_tx.level && not (is_working seen_tx.stage)) ≡ false
-  at_work = and_right (nat_le 1 seen_tx.level) (not (is_working seen_tx.stage)) (ap not at.lists.works)
-
   pub not_full : passes_locks seen_tx wants ≡ false
   not_full = plans.full ∙ false_from_ne_true (nat_lt 64 (length s.locks + length (to_take s wants))) (λ e. let l = ltb-true 64 (length s.locks + length (to_take s wants)) e in omega (arith, l, few))
 
@@ -228,7 +207,7 @@ module _ (s : Standing) (op : Operation) (wants : List Want) (level : ℕ) (x : 
   none_gone = none_any (λ (want : Want). is_gone seen_tx want.id.off) wants (λ want. λ i. is_among (at.lists.blocks.2 i) want.id.off || is_among (at.lists.blocks.1 i) want.id.off)
 
   -- ---- and it is told
-  module _ (is : IsOp s.view op wants level) (some : 1 ≤ level) (most : level ≤ 64) (unrefused : refusal_by unseen next None op ≡ None) where
+  module _ (is : IsOp s.view op wants level) (begun : is_begun (s.view.call ++ record { operation = op; reply = None } ∷ []) ≡ true) (some : 1 ≤ level) (most : level ≤ 64) (unrefused : refusal_by unseen next None op ≡ None) where
     abbrev t : Told
     t = record { operation = op; reply = None }
 
@@ -263,7 +242,7 @@ module _ (s : Standing) (op : Operation) (wants : List Want) (level : ℕ) (x : 
         locked = still_locked a.id.off m.locked;
         aligned = m.aligned;
         size = m.size;
-        sized = held_size_on s s.level at taken.claims taken.seen taken.keeps h.own sound pics a.id.off o.0 o.1 ∙ m.sized;
+        sized = held_size_on s at taken.claims taken.seen taken.keeps h.own sound pics a.id.off o.0 o.1 ∙ m.sized;
         inside = m.inside;
         small = m.small;
       }) at.lists.may_set;
@@ -277,7 +256,7 @@ module _ (s : Standing) (op : Operation) (wants : List Want) (level : ℕ) (x : 
     held_then = held_told next told.call told.actions told.published (locks_with s wants) held
 
     recorded_next : (p : Place) → is_recorded s.view.log.records p ≡ true → IsDataOf next p
-    recorded_next p e = data_on s s.level at taken.claims taken.seen taken.keeps h.own sound pics p (at.recorded p e)
+    recorded_next p e = data_on s at taken.claims taken.seen taken.keeps h.own sound pics p (at.recorded p e)
 
     recorded_then : (p : Place) → is_recorded s.view.log.records p ≡ true → IsDataOf told p
     recorded_then p e = data_told next told.call told.actions told.published sound p (recorded_next p e)
@@ -310,8 +289,8 @@ module _ (s : Standing) (op : Operation) (wants : List Want) (level : ℕ) (x : 
     ran = record { operation = op; seen = unseen; reply = None }
 
     sim : Sim told (entries_so_far s)
-    sim = sim_extends next told (entries_so_far s) (entries_so_far s) None ran (sim_on s s.level at taken.claims taken.seen taken.keeps h.own sound pics)
-        (record { keeps = record { fixed = refl; entries = refl }; call = refl }) (inr at.lists.works) (tells_grow next op None) (record {
+    sim = sim_extends next told (entries_so_far s) (entries_so_far s) None ran (sim_on s at taken.claims taken.seen taken.keeps h.own sound pics)
+        (record { keeps = record { fixed = refl; entries = refl }; call = refl }) at.tells (tells_grow next op None) (record {
           leaves = is.leaves;
           looks = looks;
           unrefused = unrefused;
@@ -325,14 +304,14 @@ module _ (s : Standing) (op : Operation) (wants : List Want) (level : ℕ) (x : 
 
     stands : At then
     stands = record {
-      working = working_told next told.call told.actions told.published (working_on s s.level at taken.claims taken.seen taken.keeps h.own sound pics);
+      working = working_told next told.call told.actions told.published (working_on s at taken.claims taken.seen taken.keeps h.own sound pics);
       unbumped = at.unbumped;
-      begun = begun_more s.view.call t at.begun;
+      begun = begun;
       some = some;
       most = most;
       sound = sound_then;
       sizes = sizes_told next told.call told.actions told.published fit;
-      sealed = seal_on s s.level at taken.claims taken.seen taken.keeps h.own sound pics;
+      sealed = seal_on s at taken.claims taken.seen taken.keeps h.own sound pics;
       number = record { seen = at.number.seen; told = taken.saw (Rattle.pm_view.specs.Steps.Step.NumberSeen at.number.seen) at.number.told; below = at.number.below; none = at.number.none };
       held = held_then;
       lines = record { once = each.once; inside = each.inside };
@@ -368,9 +347,12 @@ module _ (s : Standing) (at : At s) (h : HoldsLocks s) (x : View) where
   open_ : ((lists_of s.view).level == 0) ≡ false
   open_ = ne_eqb (lists_of s.view).level 0 (λ e. let l = at.lists.level_is in let some = at.some in omega (arith, e, l, some))
 
-  lock_leads : (want : Want) → has_unplaced s.view.fixed.shape s.view.fixed.pool (want ∷ []) ≡ false → length s.locks + length (to_take s (want ∷ [])) ≤ 64 → TakesLocks s (Lock want) (want ∷ []) x
+  at_work : (nat_le 1 (lists_of s.view).level && not (is_working (lists_of s.view).stage)) ≡ false
+  at_work = and_right (nat_le 1 (lists_of s.view).level) (not (is_working (lists_of s.view).stage)) (ap not at.lists.works)
+
+  lock_leads : (want : Want) → has_unplaced s.view.fixed.shape s.view.fixed.pool (want ∷ []) ≡ false → length s.locks + length (to_take s (want ∷ [])) ≤ 64 → TakesLocks s (want ∷ []) x
       → LeadsLocks s (Lock want) (want ∷ []) s.level x
-  lock_leads want placed few tk = leads s (Lock want) (want ∷ []) s.level x at h tk placed few (record {
+  lock_leads want placed few tk = leads s (Lock want) (want ∷ []) s.level x (can_lock s at) h tk placed few (record {
     leaves = refl;
     wanted = refl;
     replies = λ w. refl;
@@ -379,23 +361,23 @@ module _ (s : Standing) (at : At s) (h : HoldsLocks s) (x : View) where
     stage_then = (lists_of s.view).stage;
     works = at.lists.works;
     done = ap (λ n. record (with_locks (want ∷ []) (lists_of s.view)) { level = n; stage = (lists_of s.view).stage }) at.lists.level_is;
-  }) at.some at.most (no_first _ (
-    at_work s (Lock want) (want ∷ []) s.level x at h tk placed few,
+  }) (begun_more s.view.call (record { operation = Lock want; reply = None }) at.begun) at.some at.most (no_first _ (
+    at_work,
     (
       open_,
       (
-        not_full s (Lock want) (want ∷ []) s.level x at h tk placed few,
+        not_full s (Lock want) (want ∷ []) s.level x (can_lock s at) h tk placed few,
         (
-          all_placed_there s (Lock want) (want ∷ []) s.level x at h tk placed few,
-          (not_busy s (Lock want) (want ∷ []) s.level x at h tk placed few, (none_missing s (Lock want) (want ∷ []) s.level x at h tk placed few, (none_gone s (Lock want) (want ∷ []) s.level x at h tk placed few, tt))),
+          all_placed_there s (Lock want) (want ∷ []) s.level x (can_lock s at) h tk placed few,
+          (not_busy s (Lock want) (want ∷ []) s.level x (can_lock s at) h tk placed few, (none_missing s (Lock want) (want ∷ []) s.level x (can_lock s at) h tk placed few, (none_gone s (Lock want) (want ∷ []) s.level x (can_lock s at) h tk placed few, tt))),
         ),
       ),
     ),
   ))
 
-  begin_leads : (wants : List Want) → s.level < 64 → has_unplaced s.view.fixed.shape s.view.fixed.pool wants ≡ false → length s.locks + length (to_take s wants) ≤ 64 → TakesLocks s (Begin wants) wants x
+  begin_leads : (wants : List Want) → s.level < 64 → has_unplaced s.view.fixed.shape s.view.fixed.pool wants ≡ false → length s.locks + length (to_take s wants) ≤ 64 → TakesLocks s wants x
       → LeadsLocks s (Begin wants) wants (s.level + 1) x
-  begin_leads wants deep placed few tk = leads s (Begin wants) wants (s.level + 1) x at h tk placed few (record {
+  begin_leads wants deep placed few tk = leads s (Begin wants) wants (s.level + 1) x (can_lock s at) h tk placed few (record {
     leaves = refl;
     wanted = refl;
     replies = λ w. refl;
@@ -404,17 +386,17 @@ module _ (s : Standing) (at : At s) (h : HoldsLocks s) (x : View) where
     stage_then = stage.Work;
     works = refl;
     done = ap (λ n. record (with_locks wants (lists_of s.view)) { level = n + 1; stage = stage.Work }) at.lists.level_is;
-  }) (omega arith) (omega (arith, deep)) (no_first _ (
-    at_work s (Begin wants) wants (s.level + 1) x at h tk placed few,
+  }) (begun_more s.view.call (record { operation = Begin wants; reply = None }) at.begun) (omega arith) (omega (arith, deep)) (no_first _ (
+    at_work,
     (
       and_left ((lists_of s.view).level == 0) unseen.spent open_,
       (
         not_deep,
         (
-          not_full s (Begin wants) wants (s.level + 1) x at h tk placed few,
+          not_full s (Begin wants) wants (s.level + 1) x (can_lock s at) h tk placed few,
           (
-            all_placed_there s (Begin wants) wants (s.level + 1) x at h tk placed few,
-            (not_busy s (Begin wants) wants (s.level + 1) x at h tk placed few, (none_missing s (Begin wants) wants (s.level + 1) x at h tk placed few, (none_gone s (Begin wants) wants (s.level + 1) x at h tk placed few, tt))),
+            all_placed_there s (Begin wants) wants (s.level + 1) x (can_lock s at) h tk placed few,
+            (not_busy s (Begin wants) wants (s.level + 1) x (can_lock s at) h tk placed few, (none_missing s (Begin wants) wants (s.level + 1) x (can_lock s at) h tk placed few, (none_gone s (Begin wants) wants (s.level + 1) x (can_lock s at) h tk placed few, tt))),
           ),
         ),
       ),
@@ -428,8 +410,81 @@ module _ (s : Standing) (at : At s) (h : HoldsLocks s) (x : View) where
 pub objects_may_be_locked : ObjectsMayBeLocked
 objects_may_be_locked s (Lock want) wants level x at h may tk =
     subst (λ n. LeadsLocks s (Lock want) wants n x) (sym may.is.1)
-    (subst (λ ws. has_unplaced s.view.fixed.shape s.view.fixed.pool ws ≡ false → length s.locks + length (to_take s ws) ≤ 64 → TakesLocks s (Lock want) ws x → LeadsLocks s (Lock want) ws s.level x) (sym may.is.0) (lock_leads s at h x want) may.placed may.few tk)
+    (subst (λ ws. has_unplaced s.view.fixed.shape s.view.fixed.pool ws ≡ false → length s.locks + length (to_take s ws) ≤ 64 → TakesLocks s ws x → LeadsLocks s (Lock want) ws s.level x) (sym may.is.0) (lock_leads s at h x want) may.placed may.few tk)
 objects_may_be_locked s (Begin these) wants level x at h may tk =
     subst (λ n. LeadsLocks s (Begin these) wants n x) (sym may.is.1)
-    (subst (λ ws. has_unplaced s.view.fixed.shape s.view.fixed.pool ws ≡ false → length s.locks + length (to_take s ws) ≤ 64 → TakesLocks s (Begin these) ws x → LeadsLocks s (Begin these) ws (s.level + 1) x) (sym may.is.0) (begin_leads s at h x these may.is.2) may.placed may.few tk)
+    (subst (λ ws. has_unplaced s.view.fixed.shape s.view.fixed.pool ws ≡ false → length s.locks + length (to_take s ws) ≤ 64 → TakesLocks s ws x → LeadsLocks s (Begin these) ws (s.level + 1) x) (sym may.is.0) (begin_leads s at h x these may.is.2) may.placed may.few tk)
 objects_may_be_locked s op wants level x at h may tk = absurd may.is
+
+-- ---- THE OUTERMOST LEVEL begins
+module _ (s : Standing) (op : IsOpened s) where
+  none_told : lists_of s.view ≡ idle no_pool (pending_of s.view.entries)
+  unfolding after_told
+  none_told = ap (λ call. Rattle.pm_crash.specs.OpenRuns.after_told call (idle no_pool (pending_of s.view.entries))) op.call
+
+  none_recorded : (p : Place) → is_recorded s.view.log.records p ≡ true → ⊥
+  none_recorded p e = both_ways (is_recorded s.view.log.records p) (ap (λ rs. is_recorded rs p) op.records) e
+
+  agrees : AgreesOn s (lists_of s.view)
+  unfolding spans.words_in
+  agrees = subst (AgreesOn s) (sym none_told) (record {
+    locks = λ off write. sym (ap (λ (ls : List HeldLock). is_in_locks ls off write) op.locks ∙ and_right (has_line off) false refl);
+    recorded = sym (ap (λ rs. spans.words_in (map (kept_of s.view.fixed.shape) rs)) op.records);
+    records = sym (ap length op.records);
+    blocks = (refl, refl, refl);
+    sets = op.entries;
+    may_set = tt;
+    error_is = refl;
+  })
+
+  pub opened_can_lock : CanLock s
+  opened_can_lock = record {
+    working = op.working;
+    unbumped = op.unbumped;
+    sound = op.sound;
+    sizes = op.sizes;
+    sealed = op.sealed;
+    number = op.number;
+    held = subst (AreHeld s.view) (sym op.locks) tt;
+    room = subst (λ es. length es < 64) (sym op.entries) (omega arith);
+    recorded = λ p e. absurd (none_recorded p e);
+    lists = agrees;
+    sim = sim_begins s.view op.call op.records;
+    facts = op.facts;
+    tells = inl op.call;
+  }
+
+  no_level : (lists_of s.view).level ≡ 0
+  no_level = ap (λ (tx : Transaction). tx.level) none_told
+
+  pub first_leads : (wants : List Want) (x : View) → HoldsLocks s → has_unplaced s.view.fixed.shape s.view.fixed.pool wants ≡ false → length s.locks + length (to_take s wants) ≤ 64 → TakesLocks s wants x
+      → LeadsLocks s (Begin wants) wants 1 x
+  first_leads wants x h placed few tk = leads s (Begin wants) wants 1 x opened_can_lock h tk placed few (record {
+    leaves = refl;
+    wanted = refl;
+    replies = λ w. refl;
+    sized = refl;
+    freed = refl;
+    stage_then = stage.Work;
+    works = refl;
+    done = ap (λ n. record (with_locks wants (lists_of s.view)) { level = n + 1; stage = stage.Work }) no_level;
+  }) (ap (λ (call : List Told). is_begun (call ++ record { operation = Begin wants; reply = None } ∷ [])) op.call) (omega arith) (omega arith) (no_first _ (
+    and_left (nat_le 1 (lists_of s.view).level) (not (is_working (lists_of s.view).stage)) (ap (nat_le 1) no_level),
+    (
+      and_right ((lists_of s.view).level == 0) false refl,
+      (
+        ap (nat_le 64) no_level,
+        (
+          not_full s (Begin wants) wants 1 x opened_can_lock h tk placed few,
+          (
+            all_placed_there s (Begin wants) wants 1 x opened_can_lock h tk placed few,
+            (not_busy s (Begin wants) wants 1 x opened_can_lock h tk placed few, (none_missing s (Begin wants) wants 1 x opened_can_lock h tk placed few, (none_gone s (Begin wants) wants 1 x opened_can_lock h tk placed few, tt))),
+          ),
+        ),
+      ),
+    ),
+  ))
+
+-- THE LAW
+pub transactions_may_begin : TransactionsMayBegin
+transactions_may_begin s wants x op h placed few tk = first_leads s op wants x h placed few tk

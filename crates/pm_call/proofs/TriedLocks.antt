@@ -1,4 +1,5 @@
--- A LANE WHOSE LOCK WAS REFUSED is at work with the list of locks that it had, whatever it got by then.
+-- A LANE WHOSE LOCK WAS REFUSED is at work with the list of locks that it had, whatever it got by
+-- then.
 use Rattle.std.specs.Prelude.{take}
 use Rattle.std.proofs.Common.{◌≡◌, ◌≢◌, ⊎_elim, inl, inr, ℕ, zero, suc, ◌+◌, ◌*◌, ◌<◌, ◌≤◌, true, ◌==◌, ◌&&◌, List, [], ◌∷◌, refl, sym, ap, ◌∙◌, subst, arith, None}
 use Rattle.std.specs.List.{AllByRecursion}
@@ -21,14 +22,14 @@ use Rattle.pm_crash.specs.Sim.{lists_of}
 use Rattle.pm_crash.proofs.StepKnows as known
 use Rattle.pm_lock.specs.Acquiring.{MayWant}
 use Rattle.pm_lock.specs.Holding.{IsHeldAs, Rises, took}
-use Rattle.pm_lock.specs.Objects.{CanLook, HasLooked, is_chunk_line}
+use Rattle.pm_lock.specs.Objects.{CanLook, HasLooked, IsOfWorld, is_chunk_line}
 use Rattle.pm_lock.specs.Steps.{tries}
 use Rattle.pm_lock.proofs.Acquired.{may_lock_wanted}
 use Rattle.pm_lock.proofs.Holds.{still_locked, still_reads, tries_taken}
 use Rattle.pm_lock.proofs.KeptBlocks.{taken_keep}
 use Rattle.pm_call.specs.At.{At, MaySet}
 use Rattle.pm_call.specs.Held.{AreHeld, HasObject, IsHeld}
-use Rattle.pm_call.specs.Locking.{HoldsLocks, IsOfWorld, to_take}
+use Rattle.pm_call.specs.Locking.{HoldsLocks, to_take}
 use Rattle.pm_call.specs.LockRefusals.{HasAsMany, TriedLocks, TriedLocksLeaveWork}
 use Rattle.pm_call.proofs.KeptByLooks.{keeps_looked}
 use Rattle.pm_call.proofs.KeptClaims.{IsFree, KeepsAll, claiming, keeps_more, keeps_taken, no_root_lock}
@@ -37,7 +38,7 @@ use Rattle.pm_call.proofs.KeptWork.{data_on, held_size_on, object_on, seal_on, s
 use Rattle.pm_call.proofs.KnownObjects.{held_object}
 use Rattle.pm_call.proofs.LockLists.{chunk_high}
 use Rattle.pm_call.proofs.Noting.{all_map}
-use Rattle.pm_call.proofs.TakenLocks.{after_none, all_with, keeps_seen, locks_may_be_wanted}
+use Rattle.pm_call.proofs.TakenLocks.{after_none, all_with, can_lock, keeps_seen, locks_may_be_wanted}
 use Rattle.pm_call.proofs.WorldFacts.{world_inside, world_sizes}
 
 -- ---- the first so many
@@ -83,7 +84,7 @@ took_fits v seen locks some f B n there o e =
 -- ---- the lines of the locks that are wanted
 module _ (s : Standing) (wants : List Want) (at : At s) (h : HoldsLocks s) where
   may : MayWant s.view s.view.fixed.shape s.locks []
-  may = locks_may_be_wanted s at h
+  may = locks_may_be_wanted s (can_lock s at) h
 
   lines : AllByRecursion (λ (l : HeldLock). is_chunk_line s.view.fixed.shape l.line ≡ true) (to_take s wants)
   lines = all_map (λ (l : HeldLock). CanLook (after_all s.view (tries (to_take s wants))) s.view.fixed.shape l.line) (λ (l : HeldLock). is_chunk_line s.view.fixed.shape l.line ≡ true) (to_take s wants) (λ l c. c.chunk)
@@ -167,25 +168,25 @@ module _ (s : Standing) (wants : List Want) (x : View) (at : At s) (h : HoldsLoc
   held : AreHeld next s.locks
   held = all_map (IsHeld s.view) (IsHeld next) s.locks (λ l o. record {
     held = held_on l o.held;
-    object = ⊎_elim (λ (z : l.line ≡ 0). inl z) (λ (b : HasObject s.view l.line). inr (object_on s s.level at claims tk.taken.seen keeps h.own sound pics l.line b)) o.object;
+    object = ⊎_elim (λ (z : l.line ≡ 0). inl z) (λ (b : HasObject s.view l.line). inr (object_on s (can_lock s at) claims tk.taken.seen keeps h.own sound pics l.line b)) o.object;
   }) at.held
 
   at_work : At (moved s next)
   at_work = record {
-    working = working_on s s.level at claims tk.taken.seen keeps h.own sound pics;
+    working = working_on s (can_lock s at) claims tk.taken.seen keeps h.own sound pics;
     unbumped = at.unbumped;
     begun = at.begun;
     some = at.some;
     most = at.most;
     sound = sound;
     sizes = fit;
-    sealed = seal_on s s.level at claims tk.taken.seen keeps h.own sound pics;
+    sealed = seal_on s (can_lock s at) claims tk.taken.seen keeps h.own sound pics;
     number = record { seen = at.number.seen; told = tk.told (NumberSeen at.number.seen) at.number.told; below = at.number.below; none = at.number.none };
     held = held;
     lines = at.lines;
     few = at.few;
     room = at.room;
-    recorded = λ p e. data_on s s.level at claims tk.taken.seen keeps h.own sound pics p (at.recorded p e);
+    recorded = λ p e. data_on s (can_lock s at) claims tk.taken.seen keeps h.own sound pics p (at.recorded p e);
     lists = record {
       level_is = at.lists.level_is;
       works = at.lists.works;
@@ -198,13 +199,13 @@ module _ (s : Standing) (wants : List Want) (x : View) (at : At s) (h : HoldsLoc
         locked = m.locked;
         aligned = m.aligned;
         size = m.size;
-        sized = held_size_on s s.level at claims tk.taken.seen keeps h.own sound pics a.id.off o.0 o.1 ∙ m.sized;
+        sized = held_size_on s (can_lock s at) claims tk.taken.seen keeps h.own sound pics a.id.off o.0 o.1 ∙ m.sized;
         inside = m.inside;
         small = m.small;
       }) at.lists.may_set;
       error_is = at.lists.error_is;
     };
-    sim = sim_on s s.level at claims tk.taken.seen keeps h.own sound pics;
+    sim = sim_on s (can_lock s at) claims tk.taken.seen keeps h.own sound pics;
     facts = at.facts;
   }
 

@@ -1,16 +1,12 @@
--- WHAT A LANE'S VIEW IS IN A WORLD: sizes fit, what it found is sound, and what it sees and pictures is of the pool.
+-- WHAT A LANE'S VIEW IS IN A WORLD: sizes fit, and what it sees and pictures is of the pool.
 use Rattle.std.proofs.Common.{◌≡◌, ℕ, true, sym, subst, ap, ◌∙◌}
 use Rattle.pm_view.specs.Log.{Open}
 use Rattle.pm_view.specs.Places.{is_place}
 use Rattle.pm_view.specs.View.{View}
-use Rattle.pm_world.specs.InWorld.{InWorld, IsSound, SizesFit}
-use Rattle.pm_world.proofs.InWorlds.{seen_is_sound}
+use Rattle.pm_world.specs.InWorld.{InWorld, SizesFit}
 use Rattle.pm_world.proofs.SizesSeen.{sizes_seen}
 use Rattle.pm_crash.proofs.StepKnows as known
 use Rattle.pm_call.proofs.KeptGrows.{SeesInside}
-
-pub world_sound : (v : View) (w x : ℕ) → InWorld v w x → IsSound v
-world_sound v w x i = (seen_is_sound v w x i).0
 
 pub world_sizes : (v : View) (w x : ℕ) → InWorld v w x → SizesFit v
 world_sizes v w x i = (sizes_seen v w x i).0

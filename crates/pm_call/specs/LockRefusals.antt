@@ -1,8 +1,10 @@
--- WHY A LOCK, OR A BEGIN OF AN INNER LEVEL, IS REFUSED, as laws: by the lane's list of locks and by what its tries and looks told, the plain model's first
--- refusal is found; and such an operation gives the transaction up.
-use Rattle.std.specs.Prelude.{◌≡◌, ◌⊎◌, ℕ, ◌+◌, ◌&&◌, nat_lt, not, false, Contains, List, [], ◌∷◌, length, take, Some, None}
+-- WHY A LOCK, OR A BEGIN OF AN INNER LEVEL, IS REFUSED, as laws: by the lane's list of locks and
+-- by what its tries and looks told, the plain model's first refusal is found; and such an
+-- operation gives the transaction up.
+use Rattle.std.specs.Prelude.{◌≡◌, ◌⊎◌, ℕ, ◌+◌, ◌≤◌, ◌&&◌, nat_lt, not, false, Contains, List, [], ◌∷◌, length, take, Some, None}
 use Rattle.std.specs.List.{list_any}
 use Rattle.pm_objects.specs.declared.calls.Operation.{Operation}
+use Rattle.pm_objects.specs.declared.calls.Operation.TheVariants.{Begin}
 use Rattle.pm_objects.specs.declared.calls.Want.{Want}
 use Rattle.pm_objects.specs.declared.history.Value.TheVariants.{Refused}
 use Rattle.pm_objects.specs.declared.refusal.Refusal.{Refusal}
@@ -17,22 +19,28 @@ use Rattle.pm_crash.specs.Looked.{refusal_by}
 use Rattle.pm_crash.specs.Sim.{lists_of}
 use Rattle.pm_lock.specs.Acquiring.{AreFinds}
 use Rattle.pm_lock.specs.Holding.{IsTaken}
-use Rattle.pm_lock.specs.Objects.{HasLooked}
+use Rattle.pm_lock.specs.Objects.{HasLooked, IsOfWorld}
 use Rattle.pm_lock.specs.Wants.{has_unplaced}
 use Rattle.pm_call.specs.At.{At}
 use Rattle.pm_call.specs.GivenUp.{GivesUp}
 use Rattle.pm_call.specs.Held.{is_in_locks}
-use Rattle.pm_call.specs.Locking.{HoldsLocks, IsLocking, IsOfWorld, to_take}
+use Rattle.pm_call.specs.Locking.{HoldsLocks, IsLocking, to_take}
 
--- in their order: too many locks; an id without a place; a lock that is to be taken or raised was another lane's; under one that was taken no object was found
+-- in their order: too many locks; an id without a place; a lock that is to be taken or raised was
+-- another lane's; under one that was taken no object was found
 abbrev pub locking_tests : Seen → Standing → List Want → List Test
 locking_tests seen s wants =
     (refusal.LocksFull, nat_lt 64 (length s.locks + length (to_take s wants)))
     ∷ (refusal.NoObject, has_unplaced s.view.fixed.shape s.view.fixed.pool wants)
-    ∷ (refusal.Busy, list_any (λ (want : Want). not (is_in_locks s.locks want.id.off want.write)) wants && seen.busy)
+    ∷ (
+      refusal.Busy,
+      list_any (λ (want : Want). not (is_in_locks s.locks want.id.off want.write)) wants
+          && seen.busy,
+    )
     ∷ (
       refusal.NoObject,
-      list_any (λ (want : Want). not (is_in_locks s.locks want.id.off false) && is_among seen.missing want.id.off) wants,
+      list_any (λ (want : Want). not (is_in_locks s.locks want.id.off false)
+          && is_among seen.missing want.id.off) wants,
     )
     ∷ []
 
@@ -42,17 +50,25 @@ HasAsMany s = length (lists_of s.view).locks ≡ length s.locks
 
 -- THE MODEL'S FIRST REFUSAL is that of the first test that applies
 abbrev pub LockRefusals : Type 0
-LockRefusals = (s : Standing) (op : Operation) (wants : List Want) (level : ℕ) (seen : Seen) → At s → HasAsMany s → IsLocking op wants s.level level
+LockRefusals = (s : Standing) (op : Operation) (wants : List Want) (level : ℕ) (seen : Seen)
+    → At s → HasAsMany s → IsLocking op wants s.level level
     → refusal_by seen s.view None op ≡ first_of (locking_tests seen s wants)
 
 -- SO A REFUSED ONE gives the transaction up
 abbrev pub RefusedLocksGiveUp : Type 0
-RefusedLocksGiveUp = (s : Standing) (op : Operation) (wants : List Want) (level : ℕ) (seen : Seen) (r : Refusal) → At s → HasAsMany s → IsLocking op wants s.level level
+RefusedLocksGiveUp = (s : Standing) (op : Operation) (wants : List Want) (level : ℕ)
+    (seen : Seen) (r : Refusal) → At s → HasAsMany s → IsLocking op wants s.level level
     → first_of (locking_tests seen s wants) ≡ Some r → GivesUp s op (Some (Refused r))
+
+-- and so does a begin at the deepest level
+abbrev pub DeepBeginsGiveUp : Type 0
+DeepBeginsGiveUp = (s : Standing) (wants : List Want) → At s → 64 ≤ s.level
+    → GivesUp s (Begin wants) (Some (Refused refusal.Deep))
 
 -- ---- WHAT IT DID BY THEN
 
--- it got the first so many of the locks, and looked under the first so many; its view is one of a world then, as a look tells, or it did not look
+-- it got the first so many of the locks, and looked under the first so many; its view is one of a
+-- world then, as the last look tells, or it did not look
 pub record TriedLocks (s : Standing) (wants : List Want) (x : View) : Type 0 where
   pub count : ℕ
   pub taken : View
@@ -65,6 +81,8 @@ pub record TriedLocks (s : Standing) (wants : List Want) (x : View) : Type 0 whe
   pub then : x ≡ after_all taken looks
   pub world : IsOfWorld x ⊎ (looks ≡ [])
 
--- THE LANE IS AT WORK STILL, with the list of locks that it had: so its transaction may be given up. What it got besides is in no list of the model
+-- THE LANE IS AT WORK STILL, with the list of locks that it had: so its transaction may be given
+-- up. What it got besides is in no list of the model
 abbrev pub TriedLocksLeaveWork : Type 0
-TriedLocksLeaveWork = (s : Standing) (wants : List Want) (x : View) → At s → HoldsLocks s → TriedLocks s wants x → At (moved s x) × HasAsMany (moved s x)
+TriedLocksLeaveWork = (s : Standing) (wants : List Want) (x : View) → At s → HoldsLocks s
+    → TriedLocks s wants x → At (moved s x) × HasAsMany (moved s x)

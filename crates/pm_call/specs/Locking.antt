@@ -1,29 +1,41 @@
--- A LANE AT WORK LOCKS OBJECTS, as a law: it takes the locks that are wanted, finds an object under each, raises those that are to be written, and tells the
--- operation; and it is at work then, with the longer list of locks. pmemobj_tx_lock(3), and pmemobj_tx_begin(3) of an inner level.
-use Rattle.std.specs.Prelude.{◌≡◌, ◌≢◌, ◌⊎◌, ℕ, ◌+◌, ◌<◌, ◌≤◌, Bool, true, false, Contains, List, [], ◌∷◌, ◌++◌, length, None}
+-- A LANE AT WORK LOCKS OBJECTS, as a law: it takes the locks that are wanted, finds an object
+-- under each, raises those that are to be written, and tells the operation; and it is at work
+-- then, with the longer list of locks. pmemobj_tx_lock(3), and pmemobj_tx_begin(3) of an inner
+-- level.
+use Rattle.std.specs.Prelude.{◌≡◌, ◌≢◌, ◌⊎◌, ℕ, ◌+◌, ◌<◌, ◌≤◌, Bool, true, false, Contains, List, [], ◌∷◌, ◌++◌, length, map, None, Some}
 use Rattle.std.specs.List.{AllByRecursion}
+use Rattle.pm_layout.specs.Areas.{greatest_generation, redo_entries, word_of_generation, word_of_seal}
+use Rattle.pm_model.specs.Transaction.{Transaction, is_locked}
+use Rattle.pm_objects.specs.declared.history.TxErr.TheVariants as error
 use Rattle.pm_objects.specs.declared.calls.Operation.{Operation}
 use Rattle.pm_objects.specs.declared.calls.Operation.TheVariants.{Begin, Lock}
 use Rattle.pm_objects.specs.declared.calls.Want.{Want}
-use Rattle.pm_view.specs.Claims.{class, holds}
-use Rattle.pm_view.specs.Places.{Small}
+use Rattle.pm_view.specs.Claims.{class, holds, making}
+use Rattle.pm_view.specs.Log.{Idle, new_log}
+use Rattle.pm_view.specs.Places.{Place, Small}
 use Rattle.pm_view.specs.Steps.{Step}
-use Rattle.pm_view.specs.Steps.Step.{Tell}
+use Rattle.pm_view.specs.Steps.Step.{NumberSeen, Tell}
 use Rattle.pm_view.specs.View.{View}
-use Rattle.pm_view.specs.Views.{after, after_all}
-use Rattle.pm_world.specs.InWorld.{InWorld}
+use Rattle.pm_view.specs.Views.{after, after_all, value_in}
+use Rattle.pm_world.specs.InWorld.{IsSound, SizesFit}
+use Rattle.pm_world.specs.Sights.{is_recorded}
+use Rattle.pm_crash.specs.Facts.{HaveFacts}
 use Rattle.pm_world.specs.LaneFields.{Standing, moved}
 use Rattle.pm_world.specs.Lawful.{Allowed}
 use Rattle.pm_world.specs.declared.lane.HeldLock.{HeldLock}
 use Rattle.pm_crash.specs.Footprints.{has_own}
-use Rattle.pm_crash.specs.Sim.{lists_of}
+use Rattle.pm_crash.specs.Sim.{MayTell, Sim, lists_of}
+use Rattle.pm_undo.specs.Records.{kept_by}
+use Rattle.pm_undo.specs.Spans as spans
+use Rattle.pm_undo.specs.Working.{IsWorking}
 use Rattle.pm_lock.specs.Acquiring.{AreFinds, MayWant}
 use Rattle.pm_lock.specs.Held.{HoldsEach}
 use Rattle.pm_lock.specs.Holding.{IsTaken}
-use Rattle.pm_lock.specs.Objects.{HasLooked, StandsAt}
+use Rattle.pm_lock.specs.Objects.{HasLooked, IsOfWorld, StandsAt}
 use Rattle.pm_lock.specs.Raising.{raised, raises}
 use Rattle.pm_lock.specs.Wants.{has_unplaced, is_listed, wanted, wants_to_write}
-use Rattle.pm_call.specs.At.{At}
+use Rattle.pm_call.specs.At.{At, IsDataOf, MaySet, MayTakeNumber, entries_so_far, set_entry}
+use Rattle.pm_call.specs.Held.{AreHeld, is_in_locks}
 use Rattle.pm_call.specs.Did.{IsUnrefused}
 
 -- ---- WHICH LOCKS
@@ -38,8 +50,8 @@ to_write s wants = wants_to_write s.view.fixed.shape s.view.fixed.pool wants
 abbrev pub locks_with : Standing → List Want → List HeldLock
 locks_with s wants = raised (to_write s wants) (s.locks ++ to_take s wants)
 
--- THE LANE'S LOCKS ARE THOSE OF ITS LIST: of lines of the pool, no two of one line, and it holds no other; they are as many as its transaction has. Blocks of
--- its own are of runs that it knows
+-- THE LANE'S LOCKS ARE THOSE OF ITS LIST: of lines of the pool, no two of one line, and it holds
+-- no other; they are as many as its transaction has. Blocks of its own are of runs that it knows
 pub record HoldsLocks (s : Standing) : Type 0 where
   pub each : HoldsEach s.view s.locks
   pub only : (line : ℕ) → holds s.view.claims line ≡ true → is_listed s.locks [] line ≡ true
@@ -48,24 +60,46 @@ pub record HoldsLocks (s : Standing) : Type 0 where
 
 -- ---- WHAT IT DOES
 
--- the view is one of a world, as a look tells
-pub record IsOfWorld (v : View) : Type 0 where
-  pub word : ℕ
-  pub value : ℕ
-  pub there : InWorld v word value
-
--- it takes them, by tries or by waits; looks under each, and finds an object; raises those that are to be written. Once the operation is told its view is one
--- of a world, as its next look tells; or nothing is wanted
-pub record TakesLocks (s : Standing) (op : Operation) (wants : List Want) (x : View) : Type 0 where
+-- it takes them, by tries or by waits; looks under each, and finds an object, and its view is one
+-- of a world then, or none was to be taken; and it raises those that are to be written
+pub record TakesLocks (s : Standing) (wants : List Want) (x : View) : Type 0 where
   pub taken : View
   pub takes : IsTaken s.view (to_take s wants) taken
   pub told : (n : Step) → Contains s.view.seen n → Contains taken.seen n
   pub looks : List Step
   pub finds : AreFinds s.view.fixed.shape (to_take s wants) looks
   pub stays : HasLooked taken (after_all taken looks)
-  pub objects : AllByRecursion (λ (l : HeldLock). StandsAt (after_all taken looks) l.line) (to_take s wants)
-  pub raises_ : x ≡ after_all (after_all taken looks) (raises (to_write s wants) (s.locks ++ to_take s wants))
-  pub world : IsOfWorld (after x (Tell op None)) ⊎ (wants ≡ [])
+  pub objects : AllByRecursion (λ (l : HeldLock). StandsAt (after_all taken looks) l.line)
+      (to_take s wants)
+  pub world : IsOfWorld (after_all taken looks) ⊎ (to_take s wants ≡ [])
+  pub raises_ : x ≡ after_all (after_all taken looks)
+      (raises (to_write s wants) (s.locks ++ to_take s wants))
+
+-- THE LANE MAY LOCK: its call is open, and its lists are the model's, whatever the level
+pub record AgreesOn (s : Standing) (tx : Transaction) : Type 0 where
+  pub locks : (off : ℕ) (write : Bool)
+      → is_locked tx.locks off write ≡ is_in_locks s.locks off write
+  pub recorded : tx.recorded ≡ spans.words_in (kept_by s.view)
+  pub records : tx.records ≡ length s.view.log.records
+  pub blocks : (tx.made ≡ []) × (tx.dropped ≡ []) × (tx.freed ≡ [])
+  pub sets : s.entries ≡ map set_entry tx.sets
+  pub may_set : AllByRecursion (MaySet s) tx.sets
+  pub error_is : tx.error ≡ error.None
+
+pub record CanLock (s : Standing) : Type 0 where
+  pub working : IsWorking s.view
+  pub unbumped : s.view.log.bumped ≡ false
+  pub sound : IsSound s.view
+  pub sizes : SizesFit s.view
+  pub sealed : value_in s.view (word_of_seal s.view.fixed.shape s.view.fixed.lane) ≡ Some 0
+  pub number : MayTakeNumber s.view
+  pub held : AreHeld s.view s.locks
+  pub room : length s.entries < redo_entries s.view.fixed.shape
+  pub recorded : (p : Place) → is_recorded s.view.log.records p ≡ true → IsDataOf s.view p
+  pub lists : AgreesOn s (lists_of s.view)
+  pub sim : Sim s.view (entries_so_far s)
+  pub facts : HaveFacts s.view
+  pub tells : MayTell s.view
 
 -- the operation that wants them, and the level then
 abbrev pub IsLocking : Operation → List Want → ℕ → ℕ → Type 0
@@ -74,7 +108,8 @@ IsLocking (Begin these) wants level next = (wants ≡ these) × (next ≡ level 
 IsLocking op wants level next = ⊥
 
 -- it is not refused: each id has a place, and the locks are not too many
-pub record MayLock (s : Standing) (op : Operation) (wants : List Want) (level : ℕ) : Type 0 where
+pub record MayLock (s : Standing) (op : Operation) (wants : List Want) (level : ℕ)
+    : Type 0 where
   pub is : IsLocking op wants s.level level
   pub placed : has_unplaced s.view.fixed.shape s.view.fixed.pool wants ≡ false
   pub few : length s.locks + length (to_take s wants) ≤ 64
@@ -82,9 +117,14 @@ pub record MayLock (s : Standing) (op : Operation) (wants : List Want) (level : 
 -- ---- WHAT THAT LEAVES
 
 abbrev pub locked_with : Standing → Operation → List Want → ℕ → View → Standing
-locked_with s op wants level x = record s { view = after x (Tell op None); locks = locks_with s wants; level = level }
+locked_with s op wants level x = record s {
+  view = after x (Tell op None);
+  locks = locks_with s wants;
+  level = level;
+}
 
-pub record LeadsLocks (s : Standing) (op : Operation) (wants : List Want) (level : ℕ) (x : View) : Type 0 where
+pub record LeadsLocks (s : Standing) (op : Operation) (wants : List Want) (level : ℕ)
+    (x : View) : Type 0 where
   pub unrefused : IsUnrefused (moved s x) op
   pub allowed : Allowed x (Tell op None)
   pub stands : At (locked_with s op wants level x)
@@ -92,9 +132,71 @@ pub record LeadsLocks (s : Standing) (op : Operation) (wants : List Want) (level
 
 -- THE LAW: a lane at work whose locks are those of its list may take more, and tell the operation
 abbrev pub ObjectsMayBeLocked : Type 0
-ObjectsMayBeLocked = (s : Standing) (op : Operation) (wants : List Want) (level : ℕ) (x : View) → At s → HoldsLocks s → MayLock s op wants level → TakesLocks s op wants x
+ObjectsMayBeLocked = (s : Standing) (op : Operation) (wants : List Want) (level : ℕ) (x : View)
+    → At s → HoldsLocks s → MayLock s op wants level → TakesLocks s wants x
     → LeadsLocks s op wants level x
 
 -- and pm_lock may be asked for them
 abbrev pub LocksMayBeWanted : Type 0
-LocksMayBeWanted = (s : Standing) → At s → HoldsLocks s → MayWant s.view s.view.fixed.shape s.locks []
+LocksMayBeWanted = (s : Standing) → CanLock s → HoldsLocks s
+    → MayWant s.view s.view.fixed.shape s.locks []
+
+-- so may a lane at work
+abbrev pub LanesAtWorkMayLock : Type 0
+LanesAtWorkMayLock = (s : Standing) → At s → CanLock s
+
+-- ---- THE OUTERMOST LEVEL BEGINS
+
+-- the call is open, and told nothing and recorded nothing; the lane holds no lock
+pub record IsOpened (s : Standing) : Type 0 where
+  pub working : IsWorking s.view
+  pub unbumped : s.view.log.bumped ≡ false
+  pub sound : IsSound s.view
+  pub sizes : SizesFit s.view
+  pub sealed : value_in s.view (word_of_seal s.view.fixed.shape s.view.fixed.lane) ≡ Some 0
+  pub number : MayTakeNumber s.view
+  pub call : s.view.call ≡ []
+  pub records : s.view.log.records ≡ []
+  pub locks : s.locks ≡ []
+  pub entries : s.entries ≡ []
+  pub facts : HaveFacts s.view
+
+-- THE LAW: such a lane may take the locks that are wanted, and tell the begin; it is at work then
+abbrev pub TransactionsMayBegin : Type 0
+TransactionsMayBegin = (s : Standing) (wants : List Want) (x : View) → IsOpened s → HoldsLocks s
+    → has_unplaced s.view.fixed.shape s.view.fixed.pool wants ≡ false
+    → length s.locks + length (to_take s wants) ≤ 64 → TakesLocks s wants x
+    → LeadsLocks s (Begin wants) wants 1 x
+
+-- ---- A CALL OPENS
+
+-- between two calls: the log is retired, all is drained, and the lane holds no lock
+pub record IsBetweenCalls (s : Standing) : Type 0 where
+  pub log : s.view.log ≡ new_log Idle s.view.log.generation
+  pub drained : s.view.changes ≡ []
+  pub below : s.view.log.generation < greatest_generation s.view.fixed.shape
+  pub lane : s.view.fixed.lane < s.view.fixed.shape.lanes
+  pub lanes : s.view.fixed.shape.lanes ≤ 32
+  pub zones : s.view.fixed.shape.zones ≤ 32
+  pub unmaking : (c : ℕ) → making s.view.fixed.shape s.view.claims c ≡ false
+  pub sound : IsSound s.view
+  pub sizes : SizesFit s.view
+  pub known : value_in s.view (word_of_generation s.view.fixed.shape s.view.fixed.lane)
+      ≡ Some s.view.log.generation
+  pub sealed : value_in s.view (word_of_seal s.view.fixed.shape s.view.fixed.lane) ≡ Some 0
+  pub locks : s.locks ≡ []
+  pub free : (line : ℕ) → holds s.view.claims line ≡ false
+  pub own : (c i : ℕ) → has_own s.view (Small c i) ≡ true → class s.view.claims c ≢ 0
+  pub entries : s.entries ≡ []
+  pub facts : HaveFacts s.view
+
+-- IT IS OPEN once the lane saw a number that is not the last, and the lane may lock
+pub record OpensCall (s : Standing) : Type 0 where
+  pub opened : IsOpened s
+  pub may : CanLock s
+  pub locks : HoldsLocks s
+
+abbrev pub CallsMayOpen : Type 0
+CallsMayOpen = (s : Standing) (n : ℕ) → IsBetweenCalls s
+    → n < greatest_generation s.view.fixed.shape
+    → OpensCall (moved s (after s.view (NumberSeen n)))

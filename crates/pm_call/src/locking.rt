@@ -1,35 +1,70 @@
-ghost use Rattle.pm_call.specs.LockRefusals.{LockRefusals, RefusedLocksGiveUp, TriedLocksLeaveWork};
-ghost use Rattle.pm_call.specs.Locking.{LocksMayBeWanted, ObjectsMayBeLocked};
+ghost use Rattle.pm_call.specs.LockRefusals.{
+  DeepBeginsGiveUp,
+  LockRefusals,
+  RefusedLocksGiveUp,
+  TriedLocksLeaveWork,
+};
+ghost use Rattle.pm_call.specs.Locking.{
+  CallsMayOpen,
+  LanesAtWorkMayLock,
+  LocksMayBeWanted,
+  ObjectsMayBeLocked,
+  TransactionsMayBegin,
+};
 
-/// A law: a lane at work whose locks are those of its list may ask `pm_lock` for more, of any objects
-/// that it wants. No code runs.
+/// A law: a lane that may lock, and whose locks are those of its list, may ask `pm_lock` for
+/// more, of any objects that it wants. No code runs.
 pub fn locks_may_be_wanted()
     ensures { LocksMayBeWanted }
 {}
 
-/// A law: a lane at work that took the locks that are wanted, found an object under each, and raised
-/// those that are to be written, may tell the operation, a lock or a begin of an inner level; it is at
-/// work then, with the longer list of locks. No code runs.
+/// A law: a lane at work that took the locks that are wanted, found an object under each, and
+/// raised those that are to be written, may tell the operation, a lock or a begin of an inner
+/// level; it is at work then, with the longer list of locks. No code runs.
 pub fn objects_may_be_locked()
     ensures { ObjectsMayBeLocked }
 {}
 
-/// A law: the plain model's first refusal of a lock, or of a begin of an inner level, is that of the
-/// first of these tests that applies: too many locks, an id without a place, a lock of another lane, no
-/// object under a lock that was taken. No code runs.
+/// A law: the plain model's first refusal of a lock, or of a begin of an inner level, is that of
+/// the first of these tests that applies: too many locks, an id without a place, a lock of
+/// another lane, no object under a lock that was taken. No code runs.
 pub fn refusals_of_locks_are_the_models()
     ensures { LockRefusals }
 {}
 
-/// A law: a lock, or a begin of an inner level, that is refused so gives the transaction up. No code
-/// runs.
+/// A law: a lock, or a begin of an inner level, that is refused so gives the transaction up. No
+/// code runs.
 pub fn refused_locks_give_up()
     ensures { RefusedLocksGiveUp }
 {}
 
-/// A law: a lane that got some of the locks that are wanted, and looked under some of them, before it is
-/// refused, is at work still with the list of locks that it had; so its transaction may be given up. No
-/// code runs.
+/// A law: a lane that got some of the locks that are wanted, and looked under some of them,
+/// before it is refused, is at work still with the list of locks that it had; so its transaction
+/// may be given up. No code runs.
 pub fn tried_locks_leave_work()
     ensures { TriedLocksLeaveWork }
+{}
+
+/// A law: a lane in whose open call nothing is told or recorded yet, and that holds no lock, may
+/// take the locks that are wanted, and tell the begin of an outermost level; it is at work then.
+/// No code runs.
+pub fn transactions_may_begin()
+    ensures { TransactionsMayBegin }
+{}
+
+/// A law: a lane between two calls opens its call as it sees a number that is not the last, and
+/// may lock then. No code runs.
+pub fn calls_may_open()
+    ensures { CallsMayOpen }
+{}
+
+/// A law: a lane at work may lock. No code runs.
+pub fn lanes_at_work_may_lock()
+    ensures { LanesAtWorkMayLock }
+{}
+
+/// A law: a begin at the deepest level, 64, is refused, and gives the transaction up. No code
+/// runs.
+pub fn deep_begins_give_up()
+    ensures { DeepBeginsGiveUp }
 {}

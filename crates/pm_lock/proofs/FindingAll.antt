@@ -14,7 +14,7 @@ use Rattle.pm_world.specs.declared.lane.HeldLock.{HeldLock}
 use Rattle.pm_layout.specs.Chunks.{line_of_chunk}
 use Rattle.pm_lock.specs.Acquiring.{AreFinds, CanLookAll, FindsAll, FoundAll}
 use Rattle.pm_lock.specs.Locking.{lock_at, no_lock}
-use Rattle.pm_lock.specs.Objects.{CanLook, HasBlock, HasLooked, IsKnownIn, Looked, LookedAs, MissesAt, StandsAt, ToldNoRun, finds}
+use Rattle.pm_lock.specs.Objects.{CanLook, HasBlock, HasLooked, IsKnownIn, IsOfWorld, Looked, LookedAs, MissesAt, StandsAt, ToldNoRun, finds}
 use Rattle.pm_lock.proofs.Stays.{stays_here, stays_on}
 use Rattle.pm_lock.proofs.Waiting.{all_then}
 
@@ -81,7 +81,7 @@ module _ {M : Type 0} (at : M → View → Type 0) (sh : Shape) (locks : List He
 
   pub found_none : HasFound 0 old
   unfolding after_all AreFinds
-  found_none v seen may = record { steps = []; looks = refl; memory = seen; stays = stays_here v; objects = tt }
+  found_none v seen may = record { steps = []; looks = refl; memory = seen; stays = stays_here v; objects = tt; world = inr refl }
 
   module _ (k : ℕ) (mem : M) (has : HasFound k mem) (low : k < length locks) where
     pub found_next : (v : View) × at old v × CanLookAll v sh locks → (u : View) × at mem u × CanLook u sh (lock_at locks k).line
@@ -109,6 +109,7 @@ module _ {M : Type 0} (at : M → View → Type 0) (sh : Shape) (locks : List He
           stays = subst (HasLooked v) (sym join) (stays_on v u (after_all u f) h.stays s.stays);
           objects = subst (λ w. AllByRecursion (λ (l : HeldLock). StandsAt w l.line) (take k locks ++ lock_at locks k ∷ [])) (sym join)
               (all_snoc (λ (l : HeldLock). StandsAt (after_all u f) l.line) (take k locks) (lock_at locks k) (all_still u (after_all u f) (take k locks) s.stays h.objects) s.tells);
+          world = inl (subst IsOfWorld (sym join) s.world);
         })
 
     pub found_up : (new : M) (there : Bool) → there ≡ false → Looked at sh (lock_at locks k).line mem new there → FoundAll at sh locks old new false
@@ -130,6 +131,7 @@ module _ {M : Type 0} (at : M → View → Type 0) (sh : Shape) (locks : List He
           misses = subst (λ w. MissesAt v (lock_at locks k).line w ⊎ ToldNoRun w (lock_at locks k).line) (sym join) (⊎_elim
               (λ (m : MissesAt u (lock_at locks k).line (after_all u f)). inl (missed_since v u (after_all u f) (lock_at locks k).line h.stays m))
               (λ (t : ToldNoRun (after_all u f) (lock_at locks k).line). inr t) s.tells);
+          world = subst IsOfWorld (sym join) s.world;
         }
 
   pub all_found : (k : ℕ) (mem : M) → HasFound k mem → k ≡ length locks → FoundAll at sh locks old mem true

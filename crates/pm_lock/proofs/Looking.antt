@@ -8,10 +8,10 @@ use Rattle.pm_view.specs.Steps.Step.{Load}
 use Rattle.pm_view.specs.View.{View}
 use Rattle.pm_view.specs.Views.{after, after_all}
 use Rattle.pm_world.specs.InWorld.{InWorld}
-use Rattle.pm_lock.specs.Objects.{CanLook, FitsLook, LookedAs, LookTells, chunk_of_line, finds, has_lines, looks_at_bitmap, shows, shows_small}
+use Rattle.pm_lock.specs.Objects.{CanLook, FitsLook, IsOfWorld, LookedAs, LookTells, chunk_of_line, finds, has_lines, looks_at_bitmap, shows, shows_small}
 use Rattle.pm_lock.proofs.LookLaw.{Leaves, look_leaves}
 use Rattle.pm_lock.proofs.Looks.{chunk_line}
-use Rattle.pm_lock.proofs.Sights.{seen_fits}
+use Rattle.pm_lock.proofs.Sights.{seen_after, seen_fits}
 
 -- the words are of the pool
 pub descriptor_allowed : (v : View) (sh : Shape) (line w : ℕ) → CanLook v sh line → w ≡ word_of_descriptor sh (chunk_of_line sh line) → w < words_of v.fixed.shape
@@ -33,13 +33,14 @@ module _ (at : View → Type 0) (v : View) (sh : Shape) (line d : ℕ) (can : Ca
   abbrev c : ℕ
   c = chunk_of_line sh line
 
-  looked_as : (b : ℕ) (there : Bool) → Leaves v line d b (after_all v (finds sh line d b)) → at (after_all v (finds sh line d b)) → there ≡ shows d b (line % 64) → LookedAs at v sh line there
-  looked_as b there l m e = record {
+  looked_as : (b : ℕ) (there : Bool) → Leaves v line d b (after_all v (finds sh line d b)) → at (after_all v (finds sh line d b)) → IsOfWorld (after_all v (finds sh line d b)) → there ≡ shows d b (line % 64) → LookedAs at v sh line there
+  looked_as b there l m world e = record {
     descriptor = d;
     bitmap = b;
     memory = m;
     stays = l.stays;
     sound = l.sound;
+    world = world;
     tells = subst (λ t. LookTells v line t (after_all v (finds sh line d b))) (sym e) l.tells;
   }
 
@@ -57,14 +58,17 @@ module _ (at : View → Type 0) (v : View) (sh : Shape) (line d : ℕ) (can : Ca
   -- the descriptor alone
   pub one_seen : at (after v (Load wd d)) → has_lines d ≡ false → (there : Bool) → there ≡ shows d 0 (line % 64) → LookedAs at v sh line there
   one_seen m none there e = looked_as 0 there (look_leaves v sh line d 0 can fits (λ h. absurd (both_ways (has_lines d) none h)))
-      (subst at (sym (ap (λ x. after_all v (Load (word_of_descriptor sh c) d ∷ looks_at_bitmap sh c 0 x)) none ∙ once 0)) (subst (λ w. at (after v (Load w d))) is m)) e
+      (subst at (sym (ap (λ x. after_all v (Load (word_of_descriptor sh c) d ∷ looks_at_bitmap sh c 0 x)) none ∙ once 0)) (subst (λ w. at (after v (Load w d))) is m))
+      (subst IsOfWorld (sym (ap (λ x. after_all v (Load (word_of_descriptor sh c) d ∷ looks_at_bitmap sh c 0 x)) none ∙ once 0)) (subst (λ w. IsOfWorld (after v (Load w d))) is (record { word = wd; value = d; there = seen_after v wd d seen }))) e
 
   -- and the bitmap
   pub two_seen : (wb b : ℕ) → wb ≡ 512 * (line / 64) → at (after (after v (Load wd d)) (Load wb b)) → InWorld (after v (Load wd d)) wb b → has_lines d ≡ true → (there : Bool) → there ≡ shows d b (line % 64) → LookedAs at v sh line there
   two_seen wb b word m also some there e =
       let at_bitmap = bitmap_word sh line wb can.chunk word in
       looked_as b there (look_leaves v sh line d b can fits (λ h. seen_fits (after v (Load (word_of_descriptor sh c) d)) (word_of_chunk sh c) b (subst (λ w. InWorld (after v (Load w d)) (word_of_chunk sh c) b) is (subst (λ w. InWorld (after v (Load wd d)) w b) at_bitmap also))))
-      (subst at (sym (ap (λ x. after_all v (Load (word_of_descriptor sh c) d ∷ looks_at_bitmap sh c b x)) some ∙ twice b)) (subst (λ w. at (after (after v (Load w d)) (Load (word_of_chunk sh c) b))) is (subst (λ w. at (after (after v (Load wd d)) (Load w b))) at_bitmap m))) e
+      (subst at (sym (ap (λ x. after_all v (Load (word_of_descriptor sh c) d ∷ looks_at_bitmap sh c b x)) some ∙ twice b)) (subst (λ w. at (after (after v (Load w d)) (Load (word_of_chunk sh c) b))) is (subst (λ w. at (after (after v (Load wd d)) (Load w b))) at_bitmap m)))
+      (subst IsOfWorld (sym (ap (λ x. after_all v (Load (word_of_descriptor sh c) d ∷ looks_at_bitmap sh c b x)) some ∙ twice b)) (subst (λ w. IsOfWorld (after (after v (Load w d)) (Load (word_of_chunk sh c) b))) is
+      (subst (λ w. IsOfWorld (after (after v (Load wd d)) (Load w b))) at_bitmap (record { word = wb; value = b; there = seen_after (after v (Load wd d)) wb b also })))) e
 
 -- ---- what the code computes
 

@@ -95,12 +95,19 @@ module _ (o : Opening) (mem : Memory) (views : Views) (g : Past) (k : ℕ) (x : 
     small = λ c i e z. let r = and_parts (g.runs c) (nat_lt i (Rattle.pm_layout.specs.Sizes.blocks_of (g.geo.class c))) (is_valid (Small c i) e) in let some = (x.bits.geo.classes c r.0).0 in let same = f.class c i (has_it (Small c i) e) in omega (arith, some, same, z);
   }
 
-pub seen_fits : (v : View) (w x : ℕ) → InWorld v w x → FitsLook v w x
-seen_fits v w x i = record {
-  agrees = seen_agrees v w x i;
-  sound = (seen_is_sound v w x i).1;
-  has_before = subst HasSound i.here (has_sound i.opening i.memory i.views i.past v.fixed.lane i.world i.runs);
-  has_after = subst HasSound (turn.here ∙ ap (λ (u : View). after u (Load w x)) i.here) (has_sound i.opening i.memory next (past_after i.past (i.views v.fixed.lane) (Load w x)) v.fixed.lane (every_step (Load w x) i.opening i.memory i.memory i.views next i.past v.fixed.lane i.world i.runs lawful (λ l. refl, sym i.word) turn).0 i.runs);
+-- THE LOOK is a step of the lane: so its view is one of a world after it too
+pub seen_after : (v : View) (w x : ℕ) → InWorld v w x → InWorld (after v (Load w x)) w x
+seen_after v w x i = record {
+  opening = i.opening;
+  memory = i.memory;
+  views = next;
+  past = past_after i.past (i.views v.fixed.lane) (Load w x);
+  world = (every_step (Load w x) i.opening i.memory i.memory i.views next i.past v.fixed.lane i.world i.runs lawful (λ l. refl, sym i.word) turn).0;
+  runs = i.runs;
+  here = turn.here ∙ ap (λ (u : View). after u (Load w x)) i.here;
+  inside = i.inside;
+  word = i.word;
+  sizes = i.sizes;
 }
   where
     next : Views
@@ -111,3 +118,14 @@ seen_fits v w x i = record {
 
     lawful : IsLawful (i.views v.fixed.lane) (Load w x)
     lawful = subst (λ (u : View). IsLawful u (Load w x)) (sym i.here) (record { allowed = i.inside; due = λ u. absurd (both_ways false refl u) })
+
+sound_in : (v : View) (w x : ℕ) → InWorld v w x → HasSound v
+sound_in v w x i = subst HasSound i.here (has_sound i.opening i.memory i.views i.past v.fixed.lane i.world i.runs)
+
+pub seen_fits : (v : View) (w x : ℕ) → InWorld v w x → FitsLook v w x
+seen_fits v w x i = record {
+  agrees = seen_agrees v w x i;
+  sound = (seen_is_sound v w x i).1;
+  has_before = sound_in v w x i;
+  has_after = sound_in (after v (Load w x)) w x (seen_after v w x i);
+}

@@ -16,7 +16,7 @@ use Rattle.pm_world.specs.declared.lane.HeldLock.{HeldLock}
 use Rattle.pm_world.specs.declared.lane.Lane.{Lane}
 use Rattle.pm_lock.specs.Holding.{IsTaken, MayTakeAll}
 use Rattle.pm_lock.specs.Locking.{AllLockedAs, AllTriedAs, HasGrown, lock_at}
-use Rattle.pm_lock.specs.Objects.{CanLook, HasLooked, MissesAt, StandsAt, ToldNoRun, finds}
+use Rattle.pm_lock.specs.Objects.{CanLook, HasLooked, IsOfWorld, MissesAt, StandsAt, ToldNoRun, finds}
 use Rattle.pm_lock.specs.Steps.{AreWaits, tries}
 use Rattle.pm_lock.specs.Wants.{has_unplaced, is_listed, wanted}
 
@@ -32,7 +32,7 @@ AreFinds sh (l ∷ locks) steps = (d : ℕ) × (b : ℕ) × (rest : List Step)
 abbrev pub CanLookAll : View → Shape → List HeldLock → Type 0
 CanLookAll v sh locks = AllByRecursion (λ (l : HeldLock). CanLook v sh l.line) locks
 
--- EACH HAS ITS OBJECT
+-- EACH HAS ITS OBJECT; the view is one of a world then, or none was looked under
 pub record FindsAll (at : View → Type 0) (v : View) (sh : Shape)
     (locks : List HeldLock) : Type 0 where
   pub steps : List Step
@@ -40,6 +40,7 @@ pub record FindsAll (at : View → Type 0) (v : View) (sh : Shape)
   pub memory : at (after_all v steps)
   pub stays : HasLooked v (after_all v steps)
   pub objects : AllByRecursion (λ (l : HeldLock). StandsAt (after_all v steps) l.line) locks
+  pub world : IsOfWorld (after_all v steps) ⊎ (locks ≡ [])
 
 -- THE FIRST SO MANY HAVE, and the next has none
 pub record FindsNone (at : View → Type 0) (v : View) (sh : Shape)
@@ -52,6 +53,7 @@ pub record FindsNone (at : View → Type 0) (v : View) (sh : Shape)
   pub stays : HasLooked v (after_all v steps)
   pub misses : MissesAt v (lock_at locks before).line (after_all v steps)
       ⊎ ToldNoRun (after_all v steps) (lock_at locks before).line
+  pub world : IsOfWorld (after_all v steps)
 
 abbrev pub FoundAs : (View → Type 0) → View → Shape → List HeldLock → Bool → Type 0
 FoundAs at v sh locks true = FindsAll at v sh locks

@@ -185,6 +185,12 @@ LooksTell = (v : View) (sh : Shape) (line d b : ℕ) → CanLook v sh line
 
 -- ---- WHAT THE CALL DID: it looked, and answers what that tells
 
+-- the view is one of a world, as its last look told
+pub record IsOfWorld (v : View) : Type 0 where
+  pub word : ℕ
+  pub value : ℕ
+  pub there : InWorld v word value
+
 pub record LookedAs (at : View → Type 0) (v : View) (sh : Shape) (line : ℕ)
     (there : Bool) : Type 0 where
   pub descriptor : ℕ
@@ -192,6 +198,7 @@ pub record LookedAs (at : View → Type 0) (v : View) (sh : Shape) (line : ℕ)
   pub memory : at (after_all v (finds sh line descriptor bitmap))
   pub stays : HasLooked v (after_all v (finds sh line descriptor bitmap))
   pub sound : IsSound (after_all v (finds sh line descriptor bitmap))
+  pub world : IsOfWorld (after_all v (finds sh line descriptor bitmap))
   pub tells : LookTells v line there (after_all v (finds sh line descriptor bitmap))
 
 unfoldable pub Looked : {M : Type 0} → (M → View → Type 0) → Shape → ℕ → M → M → Bool → Type 0
