@@ -1,5 +1,5 @@
 -- A LEVEL IS COMMITTED, as laws of data.
-use Rattle.std.specs.Prelude.{◌≡◌, ℕ, suc, ◌+◌, ◌-◌, ◌/◌, ◌≤◌, List, [], ◌∷◌}
+use Rattle.std.specs.Prelude.{◌≡◌, ◌⊎◌, Option, Some, None, Result, Ok, Err, ℕ, suc, ◌+◌, ◌-◌, ◌/◌, ◌≤◌, List, [], ◌∷◌}
 use Rattle.std.specs.List.{AllByRecursion}
 use Rattle.pm_record.specs.declared.redo.Redo.{Redo}
 use Rattle.pm_view.specs.Log.{Recorded}
@@ -7,7 +7,10 @@ use Rattle.pm_objects.specs.declared.calls.Operation.TheVariants.{Commit}
 use Rattle.pm_model.specs.declared.stage.Stage.TheVariants as stage
 use Rattle.pm_objects.specs.declared.history.TxErr.TheVariants as error
 use Rattle.pm_view.specs.View.{View}
-use Rattle.pm_world.specs.LaneFields.{Standing, Works, last_number}
+use Rattle.pm_view.specs.Views.{after_all}
+use Rattle.pm_memory.specs.Runs.{Stops}
+use Rattle.pm_memory.specs.declared.lane_mem.Stopped.{Stopped}
+use Rattle.pm_world.specs.LaneFields.{IsSeenAs, Standing, Works, fields_at, fields_of, last_number}
 use Rattle.pm_world.specs.declared.lane.Lane.{Lane}
 use Rattle.pm_plan.specs.Plans.{Ready}
 use Rattle.pm_call.specs.At.{At, IsAt}
@@ -50,3 +53,32 @@ KnowsEntries s = AllByRecursion (λ (e : Redo). KnowsWord s.view (e.place / 8)) 
 -- THE LAW: so it is whatever number the call takes, and whatever its steps find
 abbrev pub OutermostLevelsMayBeCommitted : Type 0
 OutermostLevelsMayBeCommitted = (s : Standing) (found : ℕ → ℕ) (n : ℕ) → At s → s.level ≡ 1 → KnowsEntries s → LeavesCommitted s found n
+
+-- ---- WHAT COMMITTING THE OUTERMOST LEVEL DID to a lane
+
+-- the call is over, and the lane past its work
+pub record WasCommitted {M : Type 0} (at : M → View → Type 0) (lane : Lane M) (s : Standing) : Type 0 where
+  pub found : ℕ → ℕ
+  pub number : ℕ
+  pub ready : Ready s.view (commits s.entries found number s.view)
+  pub sees : IsSeenAs at lane (after_all s.view (commits s.entries found number s.view)) (record (fields_at stage.OnCommit (next s (commits s.entries found number))) { entries = [] })
+  pub over : IsOver (next s (commits s.entries found number))
+
+-- the first of its steps were made, up to the lane's stop; the call has its number, or has none yet
+abbrev pub HasNumber : {M : Type 0} → Lane M → Standing → ℕ → Type 0
+HasNumber lane s n = ((lane.drawn ≡ None) × (lane.last ≡ last_number s.view.entries)) ⊎ ((lane.drawn ≡ Some (n + 1)) × (lane.last ≡ n + 1))
+
+pub record CommitCut {M : Type 0} (at : M → View → Type 0) (lane : Lane M) (s : Standing) : Type 0 where
+  pub found : ℕ → ℕ
+  pub number : ℕ
+  pub ready : Ready s.view (commits s.entries found number s.view)
+  pub stops : Stops (at lane.memory) s.view (commits s.entries found number s.view)
+  pub numbered : HasNumber lane s number
+  pub fields : fields_of lane ≡ record (fields_at stage.Work s) { generation = lane.log.generation; records = lane.log.records.items; entries = lane.entries.items; drawn = lane.drawn; last = lane.last }
+
+abbrev pub CommittedAs : {M : Type 0} → (M → View → Type 0) → Lane M → Result (Unit {0}) Stopped → Standing → Type 0
+CommittedAs at lane (Ok done) s = WasCommitted at lane s
+CommittedAs at lane (Err stopped) s = CommitCut at lane s
+
+unfoldable pub Committed : {M : Type 0} → (M → View → Type 0) → Lane M → Lane M → Result (Unit {0}) Stopped → Type 0
+Committed at old new result = (s : Standing) → Works at old s → At s → s.level ≡ 1 → KnowsEntries s → CommittedAs at new result s
