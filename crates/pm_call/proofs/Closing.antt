@@ -17,9 +17,10 @@ use Rattle.pm_lock.specs.Holding.{IsHeldAs, MayGiveAll, gave}
 use Rattle.pm_lock.proofs.HeldLocks.{held_may_be_given}
 use Rattle.pm_lock.proofs.Holds.{gives_given}
 use Rattle.pm_call.specs.At.{AreLists, IsAt, MaySet}
-use Rattle.pm_call.specs.Did.{IsOver}
+use Rattle.pm_call.specs.Did.{IsOver, next}
 use Rattle.pm_call.specs.Held.{IsHeld}
-use Rattle.pm_call.specs.Stages.{IsBetween, Leaves, at_level, closed}
+use Rattle.pm_call.specs.Plans.{gives_up}
+use Rattle.pm_call.specs.Stages.{GivenUpArePast, IsBetween, Leaves, at_level, closed, unlisted}
 use Rattle.pm_call.proofs.Noting.{all_map}
 
 -- ---- locks that are given back teach nothing
@@ -129,3 +130,14 @@ work_at n level s at = record {
 pub leaves_outermost : (e : TxErr) (s : Standing) → Leaves e 1 s → IsOver s × (s.entries ≡ [])
 leaves_outermost error.None s l = l
 leaves_outermost e s l = l
+
+-- ---- A CALL THAT WAS GIVEN UP is past its work
+pub given_up_are_past : {M : Type 0} (at : M → View → Type 0) → GivenUpArePast at
+given_up_are_past at lane s op reply e is aborted up = record {
+  sees = record { memory = up.sees.memory; fields = up.sees.fields };
+  past = record { past = refl; some = is.some; most = is.most; leaves = by e aborted s.level };
+}
+  where
+    by : (x : TxErr) → x ≢ error.None → (n : ℕ) → Leaves x n (unlisted (next s (gives_up op reply up.number)))
+    by error.None not_none n = absurd (not_none refl)
+    by x not_none n = (record { log = up.over.log; drained = up.over.drained; sound = up.over.sound; known = up.over.known; sealed = up.over.sealed; held = up.over.held; lines = up.over.lines; facts = up.over.facts }, refl)

@@ -1,10 +1,12 @@
 -- A LANE IN THE STAGES AFTER WORK: a level was committed, or the transaction was aborted; and what the end of the level leaves.
-use Rattle.std.specs.Prelude.{◌≡◌, ℕ, zero, suc, ◌==◌, ◌≤◌, false, if◌then◌else◌, [], Option, Some, None, Result, Ok, Err}
+use Rattle.std.specs.Prelude.{◌≡◌, ◌≢◌, ℕ, zero, suc, ◌==◌, ◌≤◌, false, if◌then◌else◌, [], Option, Some, None, Result, Ok, Err}
 use Rattle.pm_model.specs.Transaction.{is_working}
 use Rattle.pm_model.specs.declared.stage.Stage.{Stage}
 use Rattle.pm_model.specs.declared.stage.Stage.TheVariants as stage
+use Rattle.pm_objects.specs.declared.calls.Operation.{Operation}
 use Rattle.pm_objects.specs.declared.history.TxErr.{TxErr}
 use Rattle.pm_objects.specs.declared.history.TxErr.TheVariants as error
+use Rattle.pm_objects.specs.declared.history.Value.{Value}
 use Rattle.pm_objects.specs.declared.refusal.Refusal.{Refusal}
 use Rattle.pm_objects.specs.declared.refusal.Refusal.TheVariants as refusal
 use Rattle.pm_view.specs.View.{View}
@@ -13,7 +15,9 @@ use Rattle.pm_world.specs.LaneFields.{Fields, IsSeenAs, Rests, Standing, Works, 
 use Rattle.pm_world.specs.declared.lane.Lane.{Lane}
 use Rattle.pm_lock.specs.Steps.{gives}
 use Rattle.pm_call.specs.At.{At, IsAt}
-use Rattle.pm_call.specs.Did.{IsOver}
+use Rattle.pm_call.specs.Did.{IsOver, next}
+use Rattle.pm_call.specs.GivenUp.{WasGivenUp}
+use Rattle.pm_call.specs.Plans.{gives_up}
 
 -- ---- AFTER WORK
 
@@ -42,6 +46,14 @@ pub record IsLanePast {M : Type 0} (at : M → View → Type 0) (lane : Lane M) 
   pub stage : Stage
   pub error : TxErr
   pub stands : IsPastAt at lane standing stage error
+
+-- a call that was given up is past its work, with nothing listed to be logged: so its level may end
+abbrev pub unlisted : Standing → Standing
+unlisted s = record s { entries = [] }
+
+abbrev pub GivenUpArePast : {M : Type 0} → (M → View → Type 0) → Type 0
+GivenUpArePast {M} at = (lane : Lane M) (s : Standing) (op : Operation) (reply : Option Value) (e : TxErr) → At s → e ≢ error.None → (up : WasGivenUp at lane s op reply e)
+    → IsPastAt at lane (unlisted (next s (gives_up op reply up.number))) stage.OnAbort e
 
 -- ---- STAGE BY STAGE
 

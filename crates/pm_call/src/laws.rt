@@ -1,5 +1,8 @@
 ghost use Rattle.pm_call.specs.Commits.{InnerLevelsMayBeCommitted, OutermostLevelsMayBeCommitted};
 ghost use Rattle.pm_call.specs.GivenUp.{TransactionsMayBeGivenUp};
+ghost use Rattle.pm_call.specs.Stages.{GivenUpArePast};
+
+use pm_world::LawfulMem;
 
 /// A law: a lane at work may give its transaction up, for an operation that is refused or that aborts
 /// it, whatever number it takes; the call is over then, and has the fact that it owes. No code runs.
@@ -18,4 +21,10 @@ pub fn inner_levels_may_be_committed()
 /// it owes. No code runs.
 pub fn outermost_levels_may_be_committed()
     ensures { OutermostLevelsMayBeCommitted }
+{}
+
+/// A law: a lane whose call was given up, for an error, is past its work, so that its level may end.
+/// No code runs.
+pub fn calls_given_up_are_past_work<M: LawfulMem>()
+    ensures { GivenUpArePast M.at }
 {}

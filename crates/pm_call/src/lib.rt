@@ -1,11 +1,11 @@
 //! What the calls of a transaction share: a lane at work as plain data, what an operation did to it,
-//! and the laws of both; and how a transaction is given up.
+//! and the laws of both; and how a transaction is given up, and a level of it is committed and ends.
 //!
 //! Promises, over any lawful memory and whatever other lanes do, that a transaction that is given up
-//! makes exactly the memory calls of its plan, or the first of them up to the lane's stop; and a law
-//! of data: from which views it may be, and that the call is over then. It stands on `pm_undo` for
-//! putting words back, on `pm_crash` for what the call owes the plain model; docs/FORMAT.md,
-//! "Sequences".
+//! makes exactly the memory calls of its plan, or the first of them up to the lane's stop; and laws
+//! of data: from which views it may be given up or committed, and that the call is over then. It stands
+//! on `pm_undo` for putting words back, on `pm_redo` for logs of published words, on `pm_crash` for what
+//! the call owes the plain model; docs/FORMAT.md, "Sequences".
 #![tactic(auto)]
 
 mod adding;
@@ -19,7 +19,7 @@ mod writing;
 pub use adding::{do_add, ranges_may_be_added};
 pub use committing::{commit_inner, stage_after};
 pub use laws::{
-    inner_levels_may_be_committed, outermost_levels_may_be_committed,
+    calls_given_up_are_past_work, inner_levels_may_be_committed, outermost_levels_may_be_committed,
     transactions_may_be_given_up,
 };
 pub use ranges::{ranges_are_looked_at, refusals_of_ranges_are_the_models};

@@ -3,15 +3,18 @@
 //!
 //! Promises of each call, in one clause by cases of what it answers, that it makes exactly the memory
 //! calls of its plan, or the first of them up to the lane's stop; what it tells is the plain model's
-//! operation, and what it leaves is the lane at work, or a call that is over and has the fact that it
-//! owes. It stands on `pm_call` for the parts that calls share; docs/BEHAVIOUR.md.
+//! operation, and what it leaves is the lane at work, a call that is over and has the fact that it
+//! owes, or a lane between two calls. It stands on `pm_call` for the parts that calls share;
+//! docs/BEHAVIOUR.md.
 #![tactic(auto)]
 
 mod ending;
 mod outcome;
+mod stages;
 
 pub use ending::end;
 pub use outcome::abort;
+pub use stages::{errno, level, stage};
 
 #[cfg(test)]
 mod tests;

@@ -58,6 +58,8 @@ fn ends_are_refused(rt: HostRuntime) -> Result<(), Fail> {
     assert_eq!(rt; end(&mut idle), Err(Refusal::NoTx));
     let mut working = lane_at(rt.alloc(), 2, Stage::Work)?;
     assert_eq!(rt; end(&mut working), Err(Refusal::InTx));
-    assert_eq!(rt; working.level, 2);
+    assert_eq!(rt; level(&working), 2);
+    assert_eq!(rt; stage(&working), Stage::Work);
+    assert_eq!(rt; errno(&working), TxErr::None);
     Ok(())
 }
