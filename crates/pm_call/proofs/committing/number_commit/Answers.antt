@@ -17,3 +17,15 @@ draw-number-requires g c = λ n.
 pub returns-clause-made : goal.returns-clause-made
 returns-clause-made g c = end_made g.M.LaneMem.may g.met.M.LawfulMem.grants (g.M.LaneMem.at c.args.lane.now.memory) Commit None (g.M.LaneMem.at c.tell.new.self) (g.M.LaneMem.at c.draw-number.new.self) c.draw-number.result
     c.tell.ensures c.draw-number.ensures
+
+pub overflow_add-lane : goal.overflow_add-lane
+overflow_add-lane g c =
+    let may = end_draw g.M.LaneMem.may g.met.M.LawfulMem.grants (g.M.LaneMem.at c.args.lane.now.memory) Commit None (g.M.LaneMem.at c.tell.new.self) c.requires c.tell.ensures in
+    let few = few_drawn g.M.LaneMem.may g.met.M.LawfulMem.grants (g.M.LaneMem.at c.tell.new.self) (g.M.LaneMem.at c.draw-number.new.self) c.draw-number.result may c.draw-number.ensures in
+    omega (arith, few)
+
+pub overflow_add-lane-2 : goal.overflow_add-lane-2
+overflow_add-lane-2 g c =
+    let may = end_draw g.M.LaneMem.may g.met.M.LawfulMem.grants (g.M.LaneMem.at c.args.lane.now.memory) Commit None (g.M.LaneMem.at c.tell.new.self) c.requires c.tell.ensures in
+    let few = few_drawn g.M.LaneMem.may g.met.M.LawfulMem.grants (g.M.LaneMem.at c.tell.new.self) (g.M.LaneMem.at c.draw-number.new.self) c.draw-number.result may c.draw-number.ensures in
+    omega (arith, few)
