@@ -1,4 +1,7 @@
-pub mod Frames
+pub mod CommittedLanes
+pub mod EntryLooks
+pub mod FinishedLanes
+mod Frames
 pub mod RecordedWords
 pub mod TakenBack
 pub mod Ending

@@ -33,6 +33,7 @@ use Rattle.pm_redo.proofs.Performed.{perform_lawful}
 use Rattle.pm_call.specs.At.{At, IsAt}
 use Rattle.pm_call.specs.Commits.{KnowsEntries, LeavesCommitted, OutermostLevelsMayBeCommitted}
 use Rattle.pm_call.specs.Did.{IsOver}
+use Rattle.pm_call.specs.Finishing.{CanFinish, CanLogCall}
 use Rattle.pm_call.specs.Held.{AreHeld, HasObject}
 use Rattle.pm_call.specs.Plans.{commits, ends_call}
 use Rattle.pm_call.specs.Ranges.{KnowsWord}
@@ -40,6 +41,7 @@ use Rattle.pm_call.proofs.Frames.{noting}
 use Rattle.pm_call.proofs.InnerLevels.{commit_unrefused_at}
 use Rattle.pm_call.proofs.LoggedCalls as calls
 use Rattle.pm_call.proofs.Noting.{all_map, held_so, sound_so}
+use Rattle.pm_call.proofs.Outermost as outermost
 use Rattle.pm_call.proofs.Outermost.{leaves_committed}
 use Rattle.pm_call.proofs.Persisted.{IsDrained, drained_at, drained_by, drained_view}
 use Rattle.pm_call.proofs.SetEntries.{can_enter_all}
@@ -234,7 +236,50 @@ module _ (s : Standing) (at : At s) (one_ : s.level ≡ 1) (some : s.entries ≢
     over = subst (λ (y : View). IsOver (moved s y)) (sym ends_at) over_end;
     generation = ap (λ (y : View). y.log.generation) ends_at ∙ generation_some s.entries s.view.log.records s.view.log.generation some;
     number = ap (λ (y : View). last_number y.entries) ends_at;
+    fixed = ap (λ (y : View). y.fixed) ends_at;
+    pending = ap (λ (y : View). y.actions) ends_at;
   }
+
+  -- ---- and so do its parts, once all is persistent
+  told_drawn : (y : View) → after_all y (ends_call Commit None n y) ≡ after (after y (Tell Commit None)) (Draw n)
+  unfolding in_turn one after_all
+  told_drawn y = refl
+
+  numbers_ready : Ready w (ends_call Commit None n w)
+  unfolding Ready in_turn one
+  numbers_ready = subst (λ (y : View). Ready y (Tell Commit None ∷ Draw n ∷ [])) (sym same_g) (refl, tt, (calls.logged_may_draw (moved s p) s.level here known w written_log one_, tt, tt))
+
+  numbers_then : CanSeal (after_all w (ends_call Commit None n w))
+  numbers_then = subst CanSeal (sym (told_drawn w ∙ ap (λ (y : View). after (after y (Tell Commit None)) (Draw n)) same_g)) can_seal
+
+  logs_then : CanLog (after_all s.view (persists_all s.view)) s.entries
+  logs_then = subst (λ (y : View). CanLog y s.entries) (sym d.same) can_log
+
+  ready_logged : (q : View) → q ≡ p → Ready (after_all q (writes_log s.entries q)) (ends_call Commit None n (after_all q (writes_log s.entries q)))
+  ready_logged q e = subst (λ (y : View). Ready (after_all y (writes_log s.entries y)) (ends_call Commit None n (after_all y (writes_log s.entries y)))) (sym e) numbers_ready
+
+  seals_logged : (q : View) → q ≡ p → CanSeal (after_all (after_all q (writes_log s.entries q)) (ends_call Commit None n (after_all q (writes_log s.entries q))))
+  seals_logged q e = subst (λ (y : View). CanSeal (after_all (after_all y (writes_log s.entries y)) (ends_call Commit None n (after_all y (writes_log s.entries y))))) (sym e) numbers_then
+
+  logged_from : after_all s.view (persists_all s.view) ≡ p
+  logged_from = d.same
+
+-- THE LANE MAY FINISH ITS CALL once all is persistent, whatever number it takes
+pub can_finish : (s : Standing) → At s → s.level ≡ 1 → KnowsEntries s → CanFinish (after_all s.view (persists_all s.view)) s.entries
+unfolding CanFinish
+can_finish s at one_ knows = by s.entries refl
+  where
+    by : (es : List Redo) → s.entries ≡ es → CanFinish (after_all s.view (persists_all s.view)) es
+    by [] none = record { ready = λ n. outermost.numbers_ready s at one_ none n; then = λ n. outermost.numbers_then s at one_ none n }
+    by (e ∷ es) some =
+        let goes : s.entries ≢ [] = λ z. absurd (let q : [] ≡ e ∷ es = sym z ∙ some in cc) in
+        subst (CanLogCall (after_all s.view (persists_all s.view))) some (record {
+          logs = logs_then s at one_ goes knows (λ i. 0) 0;
+          numbers = record {
+            ready = λ n. ready_logged s at one_ goes knows (λ i. 0) n (after_all s.view (persists_all s.view)) (logged_from s at one_ goes knows (λ i. 0) n);
+            then = λ n. seals_logged s at one_ goes knows (λ i. 0) n (after_all s.view (persists_all s.view)) (logged_from s at one_ goes knows (λ i. 0) n);
+          };
+        })
 
 -- THE LAW, for both
 pub outermost_levels_may_be_committed : OutermostLevelsMayBeCommitted

@@ -36,6 +36,7 @@ use Rattle.pm_undo.proofs.Retired.{retire_lawful}
 use Rattle.pm_call.specs.At.{At, IsAt, set_entry}
 use Rattle.pm_call.specs.Commits.{LeavesCommitted, generation_left}
 use Rattle.pm_call.specs.Did.{IsOver}
+use Rattle.pm_call.specs.Finishing.{CanEndRecords}
 use Rattle.pm_call.specs.GivenUp.{generation_after}
 use Rattle.pm_call.specs.Held.{AreHeld, HasObject}
 use Rattle.pm_call.specs.Plans.{commits, ends_call, ends_records}
@@ -149,6 +150,8 @@ record EndsBy (s : Standing) (u : View) (steps : List Step) (records : List Reco
   pub over : IsOver (moved s (after_all u steps))
   pub generation : (after_all u steps).log.generation ≡ generation_after records s.view.log.generation
   pub number_is : last_number (after_all u steps).entries ≡ number
+  pub fixed : (after_all u steps).fixed ≡ s.view.fixed
+  pub pending : (after_all u steps).actions ≡ s.view.actions
 
 abbrev Ends : Standing → View → List Recorded → ℕ → Type 0
 Ends s u records number = EndsBy s u (ends_records u) records number
@@ -161,6 +164,8 @@ module _ (s : Standing) (at : At s) (one_ : s.level ≡ 1) (none : s.entries ≡
     over = over_then s at one_ none [] are n [] (done s at one_ none [] are n).calls s.view.log.generation tt (here s at one_ none [] are).working.known (here s at one_ none [] are).sealed;
     generation = refl;
     number_is = refl;
+    fixed = refl;
+    pending = refl;
   }
 
   module _ (r : Recorded) (rest : List Recorded) (are : s.view.log.records ≡ r ∷ rest) where
@@ -204,6 +209,8 @@ module _ (s : Standing) (at : At s) (one_ : s.level ≡ 1) (none : s.entries ≡
       over = subst (λ (y : View). IsOver (moved s y)) (sym same) (over_then s at one_ none (r ∷ rest) are n t.noted.notes w.calls (s.view.log.generation + 1) t.noted.each known sealed);
       generation = ap (λ (y : View). y.log.generation) same;
       number_is = ap (λ (y : View). last_number y.entries) same;
+      fixed = ap (λ (y : View). y.fixed) same;
+      pending = ap (λ (y : View). y.actions) same;
     })
 
   ends_by : (records : List Recorded) (are : s.view.log.records ≡ records) → Ends s (done s at one_ none records are n) records (suc n)
@@ -258,4 +265,23 @@ module _ (s : Standing) (at : At s) (one_ : s.level ≡ 1) (none : s.entries ≡
     over = subst (λ (y : View). IsOver (moved s y)) (sym (ends_at found)) end_.over;
     generation = ap (λ (y : View). y.log.generation) (ends_at found) ∙ (end_.generation ∙ sym (ap (λ (es : List Redo). generation_left es recs s.view.log.generation) none));
     number = ap (λ (y : View). last_number y.entries) (ends_at found) ∙ end_.number_is;
+    fixed = ap (λ (y : View). y.fixed) (ends_at found) ∙ end_.fixed;
+    pending = ap (λ (y : View). y.actions) (ends_at found) ∙ end_.pending;
   }
+
+  -- ---- and so do its parts, once all is persistent
+  ends_after : (y : View) → after_all y (ends_call Commit None n y) ≡ after (after y (Tell Commit None)) (Draw n)
+  unfolding in_turn one after_all
+  ends_after y = refl
+
+  retires_then : (records : List Recorded) (are : s.view.log.records ≡ records) → CanEndRecords (done s at one_ none records are n)
+  unfolding CanEndRecords
+  retires_then [] are some = absurd (some refl)
+  retires_then (r ∷ rest) are some = can r rest are
+
+  pub numbers_ready : Ready (after_all s.view (persists_all s.view)) (ends_call Commit None n (after_all s.view (persists_all s.view)))
+  unfolding Ready in_turn one
+  numbers_ready = subst (λ (y : View). Ready y (Tell Commit None ∷ Draw n ∷ [])) (sym drained_same) (refl, tt, (may_draw s at one_ none recs refl, tt, tt))
+
+  pub numbers_then : CanEndRecords (after_all (after_all s.view (persists_all s.view)) (ends_call Commit None n (after_all s.view (persists_all s.view))))
+  numbers_then = subst CanEndRecords (sym (ends_after w_ ∙ ap (λ (y : View). after (after y (Tell Commit None)) (Draw n)) drained_same)) (retires_then recs refl)

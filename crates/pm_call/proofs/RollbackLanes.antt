@@ -38,11 +38,11 @@ use Rattle.pm_call.proofs.GivingUp.{ends_at, leaves_over, taken_at}
 use Rattle.pm_call.proofs.TakenBack.{may_retire, persisted_log, undo_ready}
 
 -- ---- two plans in turn, from one view
-ran_then : {T : Type 0} (new : View → Type 0) (v : View) (s t : Plan) (result : Result T Stopped) → Ready v (in_turn s t v) → Ran new (after_all v (s v)) (t (after_all v (s v))) result → Ran new v (in_turn s t v) result
+pub ran_then : {T : Type 0} (new : View → Type 0) (v : View) (s t : Plan) (result : Result T Stopped) → Ready v (in_turn s t v) → Ran new (after_all v (s v)) (t (after_all v (s v))) result → Ran new v (in_turn s t v) result
 unfolding Runs
 ran_then new v s t result ready ran = runs_then {T = Unit {0}} (λ w. w ≡ v) (λ w. w ≡ after_all v (s v)) new s t tt result (λ w e r. ap (λ z. after_all z (s z)) e) (λ w e r. subst (λ z. Ran new z (t z) result) (sym e) ran) v refl ready
 
-ran_err : (new : View → Type 0) (v : View) (s t : Plan) (stopped : Stopped) → Ready v (in_turn s t v) → Stops new v (s v) → Stops new v (in_turn s t v)
+pub ran_err : (new : View → Type 0) (v : View) (s t : Plan) (stopped : Stopped) → Ready v (in_turn s t v) → Stops new v (s v) → Stops new v (in_turn s t v)
 unfolding Runs
 ran_err new v s t stopped ready stops = runs_err {U = Unit {0}} (Unit {0}) (λ w. w ≡ v) new s t stopped (Err stopped) (search rules) (λ w e r. subst (λ z. Stops new z (s z)) (sym e) stops) v refl ready
 
@@ -81,10 +81,10 @@ takes_some : (v : View) → length v.log.records ≢ 0 → takes_back v ≡ in_t
 takes_some v some = cond-false (length v.log.records == 0) (persists_all v) (in_turn restores retires v) (ne_eqb (length v.log.records) 0 some)
 
 module _ {M : Type 0} (at : M → View → Type 0) (old : Lane M) where
-  records_so : (v : View) → KeepsLog at old v → old.log.records.items ≡ kept_by v
+  pub records_so : (v : View) → KeepsLog at old v → old.log.records.items ≡ kept_by v
   records_so v keeps = ap (λ (f : Fields). f.records) keeps.fields
 
-  same_moves : (new : Lane M) (s t : Plan) (v : View) (result : Result (Unit {0}) Stopped) → s v ≡ t v → MovesLog at old new s v result → MovesLog at old new t v result
+  pub same_moves : (new : Lane M) (s t : Plan) (v : View) (result : Result (Unit {0}) Stopped) → s v ≡ t v → MovesLog at old new s v result → MovesLog at old new t v result
   same_moves new s t v (Ok done) e m = subst (λ steps. LogMoves at old new (after_all v steps)) e m
   same_moves new s t v (Err stopped) e m = (subst (Stops (at new.memory) v) e m.0, m.1)
 
@@ -145,7 +145,7 @@ module _ {M : Type 0} (at : M → View → Type 0) (old : Lane M) where
       (sym (takes_some v (λ e. some (ap length (records_so v keeps) ∙ (Rattle.std.proofs.lemmas.List.length-map v.log.records (kept_of v.fixed.shape) ∙ e))))) (moved_ v keeps working)
 
   -- ---- the call is given up
-  keeps_at : (s : Standing) → Works at old s → KeepsLog at old s.view
+  pub keeps_at : (s : Standing) → Works at old s → KeepsLog at old s.view
   keeps_at s works = record { memory = works.memory; fields = works.fields ∙ ap (with_log s.view) (sym works.fields) }
 
   module _ (op : Operation) (reply : Option Value) where

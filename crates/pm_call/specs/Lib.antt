@@ -4,6 +4,7 @@ pub mod Ranges
 pub mod Plans
 pub mod Did
 pub mod GivenUp
+pub mod Finishing
 pub mod Reading
 pub mod RangeLaws
 pub mod Writing

@@ -1,4 +1,4 @@
-ghost use Rattle.pm_call.specs.Commits.{InnerLevelsMayBeCommitted, OutermostLevelsMayBeCommitted};
+ghost use Rattle.pm_call.specs.Commits.{CommittedArePast, InnerLevelsMayBeCommitted, OutermostLevelsMayBeCommitted};
 ghost use Rattle.pm_call.specs.GivenUp.{TransactionsMayBeGivenUp};
 ghost use Rattle.pm_call.specs.Stages.{GivenUpArePast};
 
@@ -27,4 +27,10 @@ pub fn outermost_levels_may_be_committed()
 /// No code runs.
 pub fn calls_given_up_are_past_work<M: LawfulMem>()
     ensures { GivenUpArePast M.at }
+{}
+
+/// A law: a lane whose call was committed at its outermost level is past its work, so that its level
+/// may end. No code runs.
+pub fn committed_calls_are_past_work<M: LawfulMem>()
+    ensures { CommittedArePast M.at }
 {}

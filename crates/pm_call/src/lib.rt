@@ -14,6 +14,7 @@
 mod adding;
 mod checking;
 mod committing;
+mod finishing;
 mod holding;
 mod laws;
 mod locking;
@@ -26,10 +27,11 @@ mod writing;
 pub use adding::{do_add, ranges_may_be_added};
 pub use checking::{check_range, check_words, holds};
 pub use committing::{commit_inner, stage_after};
+pub use finishing::commit_call;
 pub use holding::is_held;
 pub use laws::{
-    calls_given_up_are_past_work, inner_levels_may_be_committed, outermost_levels_may_be_committed,
-    transactions_may_be_given_up,
+    calls_given_up_are_past_work, committed_calls_are_past_work, inner_levels_may_be_committed,
+    outermost_levels_may_be_committed, transactions_may_be_given_up,
 };
 pub use locking::{
     calls_may_open, deep_begins_give_up, lanes_at_work_may_lock, locks_may_be_wanted,
