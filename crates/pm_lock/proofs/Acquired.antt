@@ -121,13 +121,13 @@ module _ {M : Type 0} (at : M → View → Type 0) (old : Lane M) (new : List �
   pub refused_first : (planned : List HeldLock) (r : Refusal) → length old.locks.items ≤ 64 → PlannedAll (to_take old new wants) (lacks_place old wants) (64 - length old.locks.items) planned (Err r) → Acquired at new wants old old (Err r)
   unfolding PlannedAll Acquired
   refused_first planned refusal.LocksFull few p v can = ((let many = p in omega (arith, few, many)), refl)
-  refused_first planned refusal.NoObject few p v can = inl (p.1, refl)
+  refused_first planned refusal.NoObject few p v can = inl ((let most = p.0 in omega (arith, few, most)), p.1, refl)
   refused_first planned r few p v can = absurd p
 
   pub refused_here : (planned : List HeldLock) (r : Refusal) → length old.locks.items ≤ 64 → PlannedAll (to_take old new wants) (lacks_place old wants) (64 - length old.locks.items) planned (Err r) → TriedObjects at new wants old old (Err r)
   unfolding PlannedAll TriedObjects
   refused_here planned refusal.LocksFull few p v can = ((let many = p in omega (arith, few, many)), refl)
-  refused_here planned refusal.NoObject few p v can = inl (p.1, refl)
+  refused_here planned refusal.NoObject few p v can = inl ((let most = p.0 in omega (arith, few, most)), p.1, refl)
   refused_here planned r few p v can = absurd p
 
   pub planned_so : (planned : List HeldLock) → PlannedAll (to_take old new wants) (lacks_place old wants) (64 - length old.locks.items) planned (Ok tt) → (planned ≡ to_take old new wants) × (length (to_take old new wants) ≤ 64 - length old.locks.items) × (lacks_place old wants ≡ false)
