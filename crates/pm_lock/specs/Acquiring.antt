@@ -107,18 +107,24 @@ abbrev pub RefusedUnplaced : {M : Type 0} → List HeldLock → List Want → La
 RefusedUnplaced plan wants old new = (length old.locks.items + length plan ≤ 64)
     × (lacks_place old wants ≡ true) × (new ≡ old)
 
+-- NOT REFUSED SO: there are at most 64, and each id has a place
+pub record ArePlanned {M : Type 0} (plan : List HeldLock) (wants : List Want) (old : Lane M)
+    : Type 0 where
+  pub few : length old.locks.items + length plan ≤ 64
+  pub placed : lacks_place old wants ≡ false
+
 -- EACH IS WAITED FOR, and then looked under
 abbrev pub AcquiredAs : {M : Type 0} → (M → View → Type 0) → List HeldLock → List Want → View
     → Lane M → Lane M → Result (Unit {0}) Refusal → Type 0
-AcquiredAs at plan wants v old new (Ok done) = (lacks_place old wants ≡ false)
+AcquiredAs at plan wants v old new (Ok done) = ArePlanned plan wants old
     × ((steps : List Step) × AreWaits plan steps × FindsAll (at new.memory)
     (after_all v steps) old.shape plan) × HasGrown plan old new
 AcquiredAs at plan wants v old new (Err refusal.LocksFull) = RefusedFull plan old new
 AcquiredAs at plan wants v old new (Err refusal.NoObject) = RefusedUnplaced plan wants old new
-    ⊎ ((lacks_place old wants ≡ false)
+    ⊎ (ArePlanned plan wants old
     × ((steps : List Step) × AreWaits plan steps × FindsNone (at new.memory)
     (after_all v steps) old.shape plan) × HasGrown plan old new)
-AcquiredAs at plan wants v old new (Err refusal.Stopped) = (lacks_place old wants ≡ false)
+AcquiredAs at plan wants v old new (Err refusal.Stopped) = ArePlanned plan wants old
     × ((stopped : Stopped) × AllLockedAs at plan v old new (Err stopped))
 AcquiredAs at plan wants v old new (Err r) = ⊥
 
@@ -130,13 +136,13 @@ Acquired at new wants old lane result = (v : View) → CanAcquire at old new v
 -- INSIDE A TRANSACTION each is tried once, and then looked under
 abbrev pub TriedObjectsAs : {M : Type 0} → (M → View → Type 0) → List HeldLock → List Want → View
     → Lane M → Lane M → Result (Unit {0}) Refusal → Type 0
-TriedObjectsAs at plan wants v old new (Ok done) = (lacks_place old wants ≡ false)
+TriedObjectsAs at plan wants v old new (Ok done) = ArePlanned plan wants old
     × FindsAll (at new.memory) (after_all v (tries plan)) old.shape plan × HasGrown plan old new
 TriedObjectsAs at plan wants v old new (Err refusal.LocksFull) = RefusedFull plan old new
 TriedObjectsAs at plan wants v old new (Err refusal.NoObject) = RefusedUnplaced plan wants old new
-    ⊎ ((lacks_place old wants ≡ false) × FindsNone (at new.memory)
+    ⊎ (ArePlanned plan wants old × FindsNone (at new.memory)
     (after_all v (tries plan)) old.shape plan × HasGrown plan old new)
-TriedObjectsAs at plan wants v old new (Err refusal.Busy) = (lacks_place old wants ≡ false)
+TriedObjectsAs at plan wants v old new (Err refusal.Busy) = ArePlanned plan wants old
     × AllTriedAs at plan v old new false
 TriedObjectsAs at plan wants v old new (Err r) = ⊥
 
