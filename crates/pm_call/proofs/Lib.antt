@@ -37,6 +37,7 @@ pub mod LockLists
 pub mod WorldFacts
 pub mod TakenLocks
 pub mod LockedObjects
+pub mod LocksGot
 pub mod LockRefusals
 pub mod TriedLocks
 pub mod InnerLevels

@@ -11,5 +11,6 @@ pub mod Writing
 pub mod Adding
 pub mod Locking
 pub mod LockRefusals
+pub mod LocksGot
 pub mod Stages
 pub mod Commits

@@ -34,9 +34,9 @@ pub use laws::{
     outermost_levels_may_be_committed, transactions_may_be_given_up,
 };
 pub use locking::{
-    calls_may_open, deep_begins_give_up, lanes_at_work_may_lock, locks_may_be_wanted,
-    objects_may_be_locked, refusals_of_locks_are_the_models, refused_locks_give_up,
-    transactions_may_begin, tried_locks_leave_work,
+    calls_may_open, deep_begins_give_up, lanes_at_work_may_lock, locks_are_got,
+    locks_may_be_wanted, objects_may_be_locked, refusals_of_locks_are_the_models,
+    refused_locks_give_up, transactions_may_begin, tried_locks_leave_work,
 };
 pub use ranges::{ranges_are_looked_at, refusals_of_ranges_are_the_models};
 pub use reading::{do_read, ranges_may_be_read};

@@ -4,6 +4,11 @@ ghost use Rattle.pm_call.specs.LockRefusals.{
   RefusedLocksGiveUp,
   TriedLocksLeaveWork,
 };
+ghost use Rattle.pm_call.specs.LocksGot.{
+  BusyLocksAreTried,
+  GotLocksAreTaken,
+  MissedLocksAreTried,
+};
 ghost use Rattle.pm_call.specs.Locking.{
   CallsMayOpen,
   LanesAtWorkMayLock,
@@ -11,6 +16,8 @@ ghost use Rattle.pm_call.specs.Locking.{
   ObjectsMayBeLocked,
   TransactionsMayBegin,
 };
+
+use pm_world::LawfulMem;
 
 /// A law: a lane that may lock, and whose locks are those of its list, may ask `pm_lock` for
 /// more, of any objects that it wants. No code runs.
@@ -43,6 +50,15 @@ pub fn refused_locks_give_up()
 /// may be given up. No code runs.
 pub fn tried_locks_leave_work()
     ensures { TriedLocksLeaveWork }
+{}
+
+/// A law: what `pm_lock` promises of the locks that are wanted, got by tries or by waits, is what
+/// these laws ask: of locks that have an object under each, of those under which one has none, and
+/// of those before a refused one. No code runs.
+pub fn locks_are_got<M: LawfulMem>()
+    ensures got { (memory : M) → GotLocksAreTaken (M.at memory) }
+    ensures missed { (memory : M) → MissedLocksAreTried (M.at memory) }
+    ensures busy { BusyLocksAreTried }
 {}
 
 /// A law: a lane in whose open call nothing is told or recorded yet, and that holds no lock, may

@@ -16,7 +16,7 @@ use Rattle.pm_view.specs.Views.{after_all}
 use Rattle.pm_world.specs.Lawful.{MayTake}
 use Rattle.pm_world.specs.declared.lane.HeldLock.{HeldLock}
 use Rattle.pm_world.specs.declared.lane.Lane.{Lane}
-use Rattle.pm_lock.specs.Acquiring.{Acquired, CanAcquire, CanLookAll, FoundAll, FoundAs, MayLockWanted, MayWant, TriedObjects, lacks_place, to_take}
+use Rattle.pm_lock.specs.Acquiring.{Acquired, ArePlanned, CanAcquire, CanLookAll, FoundAll, FoundAs, MayLockWanted, MayWant, TriedObjects, lacks_place, to_take}
 use Rattle.pm_lock.specs.Holding.{IsHeldAs, IsTaken, MayTakeAll, Rises, took}
 use Rattle.pm_lock.specs.Locking.{AllLocked, AllTried, AllTriedAs, HasGrown, lock_of}
 use Rattle.pm_lock.specs.Objects.{CanLook, is_chunk_line, line_of}
@@ -121,20 +121,20 @@ module _ {M : Type 0} (at : M → View → Type 0) (old : Lane M) (new : List �
   pub refused_first : (planned : List HeldLock) (r : Refusal) → length old.locks.items ≤ 64 → PlannedAll (to_take old new wants) (lacks_place old wants) (64 - length old.locks.items) planned (Err r) → Acquired at new wants old old (Err r)
   unfolding PlannedAll Acquired
   refused_first planned refusal.LocksFull few p v can = ((let many = p in omega (arith, few, many)), refl)
-  refused_first planned refusal.NoObject few p v can = inl (p.1, refl)
+  refused_first planned refusal.NoObject few p v can = inl ((let most = p.0 in omega (arith, few, most)), p.1, refl)
   refused_first planned r few p v can = absurd p
 
   pub refused_here : (planned : List HeldLock) (r : Refusal) → length old.locks.items ≤ 64 → PlannedAll (to_take old new wants) (lacks_place old wants) (64 - length old.locks.items) planned (Err r) → TriedObjects at new wants old old (Err r)
   unfolding PlannedAll TriedObjects
   refused_here planned refusal.LocksFull few p v can = ((let many = p in omega (arith, few, many)), refl)
-  refused_here planned refusal.NoObject few p v can = inl (p.1, refl)
+  refused_here planned refusal.NoObject few p v can = inl ((let most = p.0 in omega (arith, few, most)), p.1, refl)
   refused_here planned r few p v can = absurd p
 
-  pub planned_so : (planned : List HeldLock) → PlannedAll (to_take old new wants) (lacks_place old wants) (64 - length old.locks.items) planned (Ok tt) → (planned ≡ to_take old new wants) × (length (to_take old new wants) ≤ 64 - length old.locks.items) × (lacks_place old wants ≡ false)
+  pub planned_so : (planned : List HeldLock) → length old.locks.items ≤ 64 → PlannedAll (to_take old new wants) (lacks_place old wants) (64 - length old.locks.items) planned (Ok tt) → (planned ≡ to_take old new wants) × (length (to_take old new wants) ≤ 64 - length old.locks.items) × ArePlanned (to_take old new wants) wants old
   unfolding PlannedAll
-  planned_so planned p = p
+  planned_so planned few p = (p.0, p.1, record { few = (let most = p.1 in omega (arith, few, most)); placed = p.2 })
 
-  module _ (placed : lacks_place old wants ≡ false) (mid : Lane M) where
+  module _ (placed : ArePlanned (to_take old new wants) wants old) (mid : Lane M) where
     pub stopped_so : (stopped : Stopped) → AllLocked at (to_take old new wants) old mid (Err stopped) → Acquired at new wants old mid (Err refusal.Stopped)
     unfolding AllLocked Acquired
     stopped_so stopped locked v can = (placed, (stopped, locked v can.memory (may_take v can)))

@@ -1,6 +1,6 @@
 -- WHAT LOCKING OBJECTS DOES to a lane: by cases of what it answers, for each view that the lane's
 -- memory may be seen as.
-use Rattle.std.specs.Prelude.{◌≡◌, ◌⊎◌, ℕ, ◌+◌, ◌<◌, Bool, true, false, List, [], ◌∷◌, ◌++◌, length, take, Result, Ok, Err}
+use Rattle.std.specs.Prelude.{◌≡◌, ◌⊎◌, ℕ, ◌+◌, ◌<◌, ◌≤◌, Bool, true, false, List, [], ◌∷◌, ◌++◌, length, take, Result, Ok, Err}
 use Rattle.std.specs.List.{AllByRecursion}
 use Rattle.pm_layout.specs.declared.shape.Shape.{Shape}
 use Rattle.pm_objects.specs.declared.calls.Want.{Want}
@@ -98,26 +98,33 @@ to_take lane new wants = wanted lane.shape lane.pool lane.locks.items new wants
 abbrev pub lacks_place : {M : Type 0} → Lane M → List Want → Bool
 lacks_place lane wants = has_unplaced lane.shape lane.pool wants
 
--- REFUSED before any lock is tried: there would be more than 64; or some id has not the form of an
--- object's
+-- REFUSED before any lock is tried: there would be more than 64; or else some id has not the form of
+-- an object's
 abbrev pub RefusedFull : {M : Type 0} → List HeldLock → Lane M → Lane M → Type 0
 RefusedFull plan old new = (64 < length old.locks.items + length plan) × (new ≡ old)
 
-abbrev pub RefusedUnplaced : {M : Type 0} → List Want → Lane M → Lane M → Type 0
-RefusedUnplaced wants old new = (lacks_place old wants ≡ true) × (new ≡ old)
+abbrev pub RefusedUnplaced : {M : Type 0} → List HeldLock → List Want → Lane M → Lane M → Type 0
+RefusedUnplaced plan wants old new = (length old.locks.items + length plan ≤ 64)
+    × (lacks_place old wants ≡ true) × (new ≡ old)
+
+-- NOT REFUSED SO: there are at most 64, and each id has a place
+pub record ArePlanned {M : Type 0} (plan : List HeldLock) (wants : List Want) (old : Lane M)
+    : Type 0 where
+  pub few : length old.locks.items + length plan ≤ 64
+  pub placed : lacks_place old wants ≡ false
 
 -- EACH IS WAITED FOR, and then looked under
 abbrev pub AcquiredAs : {M : Type 0} → (M → View → Type 0) → List HeldLock → List Want → View
     → Lane M → Lane M → Result (Unit {0}) Refusal → Type 0
-AcquiredAs at plan wants v old new (Ok done) = (lacks_place old wants ≡ false)
+AcquiredAs at plan wants v old new (Ok done) = ArePlanned plan wants old
     × ((steps : List Step) × AreWaits plan steps × FindsAll (at new.memory)
     (after_all v steps) old.shape plan) × HasGrown plan old new
 AcquiredAs at plan wants v old new (Err refusal.LocksFull) = RefusedFull plan old new
-AcquiredAs at plan wants v old new (Err refusal.NoObject) = RefusedUnplaced wants old new
-    ⊎ ((lacks_place old wants ≡ false)
+AcquiredAs at plan wants v old new (Err refusal.NoObject) = RefusedUnplaced plan wants old new
+    ⊎ (ArePlanned plan wants old
     × ((steps : List Step) × AreWaits plan steps × FindsNone (at new.memory)
     (after_all v steps) old.shape plan) × HasGrown plan old new)
-AcquiredAs at plan wants v old new (Err refusal.Stopped) = (lacks_place old wants ≡ false)
+AcquiredAs at plan wants v old new (Err refusal.Stopped) = ArePlanned plan wants old
     × ((stopped : Stopped) × AllLockedAs at plan v old new (Err stopped))
 AcquiredAs at plan wants v old new (Err r) = ⊥
 
@@ -129,13 +136,13 @@ Acquired at new wants old lane result = (v : View) → CanAcquire at old new v
 -- INSIDE A TRANSACTION each is tried once, and then looked under
 abbrev pub TriedObjectsAs : {M : Type 0} → (M → View → Type 0) → List HeldLock → List Want → View
     → Lane M → Lane M → Result (Unit {0}) Refusal → Type 0
-TriedObjectsAs at plan wants v old new (Ok done) = (lacks_place old wants ≡ false)
+TriedObjectsAs at plan wants v old new (Ok done) = ArePlanned plan wants old
     × FindsAll (at new.memory) (after_all v (tries plan)) old.shape plan × HasGrown plan old new
 TriedObjectsAs at plan wants v old new (Err refusal.LocksFull) = RefusedFull plan old new
-TriedObjectsAs at plan wants v old new (Err refusal.NoObject) = RefusedUnplaced wants old new
-    ⊎ ((lacks_place old wants ≡ false) × FindsNone (at new.memory)
+TriedObjectsAs at plan wants v old new (Err refusal.NoObject) = RefusedUnplaced plan wants old new
+    ⊎ (ArePlanned plan wants old × FindsNone (at new.memory)
     (after_all v (tries plan)) old.shape plan × HasGrown plan old new)
-TriedObjectsAs at plan wants v old new (Err refusal.Busy) = (lacks_place old wants ≡ false)
+TriedObjectsAs at plan wants v old new (Err refusal.Busy) = ArePlanned plan wants old
     × AllTriedAs at plan v old new false
 TriedObjectsAs at plan wants v old new (Err r) = ⊥
 
