@@ -38,6 +38,7 @@ pub mod WorldFacts
 pub mod TakenLocks
 pub mod LockedObjects
 pub mod LocksGot
+pub mod WantedTried
 pub mod LockRefusals
 pub mod TriedLocks
 pub mod InnerLevels

@@ -113,10 +113,13 @@ none_looked s wants k x is told = record {
   world = inr refl;
 }
 
+pub busy_taken : (v : View) (got : List HeldLock) (line : ℕ) (write : Bool) → IsTaken v got (after_all v (tries got ++ takes line write false ∷ []))
+busy_taken v got line write =
+    let u : View = after_all v (tries got) in
+    subst (IsTaken v got) (sym (all_then v (tries got) (takes line write false ∷ []) ∙ once_more u (takes line write false))) (refused_on v u got line write (tries_taken v got))
+
 pub busy_locks_are_tried : BusyLocksAreTried
 busy_locks_are_tried s wants k line write =
     let got : List HeldLock = take k (to_take s wants) in
-    let u : View = after_all s.view (tries got) in
-    none_looked s wants k (after_all s.view (tries got ++ takes line write false ∷ []))
-    (subst (IsTaken s.view got) (sym (all_then s.view (tries got) (takes line write false ∷ []) ∙ once_more u (takes line write false))) (refused_on s.view u got line write (tries_taken s.view got)))
+    none_looked s wants k (after_all s.view (tries got ++ takes line write false ∷ [])) (busy_taken s.view got line write)
     (λ n there. seen_last s.view (tries got) line write false n (seen_tries got s.view n there))

@@ -12,5 +12,6 @@ pub mod Adding
 pub mod Locking
 pub mod LockRefusals
 pub mod LocksGot
+pub mod WantedTried
 pub mod Stages
 pub mod Commits

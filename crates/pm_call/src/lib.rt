@@ -4,9 +4,9 @@
 //! Promises, over any lawful memory and whatever other lanes do, that a transaction that is given up
 //! makes exactly the memory calls of its plan, or the first of them up to the lane's stop; and laws
 //! of data: from which views it may be given up or committed, and that the call is over then; and that
-//! a lane at work may lock objects. Of a range of an object: that its checks find the plain model's
-//! first reason or what the operation asks, and that it is recorded, written and read by the calls of
-//! its plan. It stands on `pm_undo` for putting words back, on `pm_redo` for logs of published words, on
+//! a lane at work may lock objects, whose locks it tries and under which it looks for them. Of a range
+//! of an object: that its checks find the plain model's first reason or what the operation asks, and
+//! that it is recorded, written and read by the calls of its plan. It stands on `pm_undo` for putting words back, on `pm_redo` for logs of published words, on
 //! `pm_lock` for objects under their locks, on `pm_crash` for what the call owes the plain model;
 //! docs/FORMAT.md, "Sequences".
 #![tactic(auto)]
@@ -22,6 +22,7 @@ mod ranges;
 mod reading;
 mod rollback;
 mod stages;
+mod trying;
 mod writing;
 
 pub use adding::{do_add, ranges_may_be_added};
@@ -42,6 +43,7 @@ pub use ranges::{ranges_are_looked_at, refusals_of_ranges_are_the_models};
 pub use reading::{do_read, ranges_may_be_read};
 pub use rollback::{give_up, refuse, stop, take_back};
 pub use stages::{end_refusal, work_refusal};
+pub use trying::try_wanted;
 pub use writing::{check_recorded, count_words, do_write, ranges_may_be_written};
 
 #[cfg(test)]

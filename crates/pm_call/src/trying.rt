@@ -1,0 +1,23 @@
+ghost use Rattle.pm_call.specs.Did.{IsAtSo};
+ghost use Rattle.pm_call.specs.Locking.{HoldsLocks};
+ghost use Rattle.pm_call.specs.WantedTried.{WantedTried};
+
+use pm_lock::try_objects;
+use pm_objects::{Refusal, Want};
+use pm_world::{Lane, LawfulMem};
+
+/// Tries the locks of the objects that an operation inside a transaction wants, each once, and
+/// looks under each for its object: pmemobj_tx_lock(3). No lock is raised.
+///
+/// # Errors
+///
+/// - `LocksFull`: the lane would hold more than 64 locks; nothing is done.
+/// - `NoObject`: an id has not the form of an object's, and nothing is done; or under a lock no
+///   object stands, and the lane holds all of the locks.
+/// - `Busy`: another lane had a lock; those before it are held.
+pub fn try_wanted<M: LawfulMem>(lane: &mut Lane<M>, wants: &[Want]) -> Result<(), Refusal>
+    requires { IsAtSo M.at lane.old HoldsLocks }
+    ensures { WantedTried M.at lane.old lane.new wants.now result }
+{
+    try_objects(lane, &[], wants)
+}
