@@ -1,3 +1,4 @@
 pub mod Buffers
 pub mod Outcome
 pub mod Ending
+pub mod Commits

@@ -8,11 +8,13 @@
 //! docs/BEHAVIOUR.md.
 #![tactic(auto)]
 
+mod commits;
 mod ending;
 mod outcome;
 mod ranges;
 mod stages;
 
+pub use commits::{commit, process};
 pub use ending::end;
 pub use outcome::abort;
 pub use ranges::{add_range, read, write};
