@@ -4,18 +4,17 @@ use Rattle.pm_memory.specs.declared.lane_mem.Stopped.{Stopped}
 use Rattle.pm_model.specs.Transaction.{is_working}
 use Rattle.pm_model.specs.declared.stage.Stage.{Stage}
 use Rattle.pm_model.specs.declared.stage.Stage.TheVariants as stage
-use Rattle.pm_objects.specs.declared.history.TxErr.{TxErr}
 use Rattle.pm_objects.specs.declared.refusal.Refusal.{Refusal}
 use Rattle.pm_objects.specs.declared.refusal.Refusal.TheVariants as refusal
 use Rattle.pm_view.specs.View.{View}
 use Rattle.pm_world.specs.LaneFields.{Fields, Standing, Works}
 use Rattle.pm_world.specs.declared.lane.Lane.{Lane}
 use Rattle.pm_call.specs.At.{At}
-use Rattle.pm_call.specs.Commits.{CallCommitted, CommitCut, CommittedAs, CommittedInner}
-use Rattle.pm_call.specs.Did.{After, IsAt, IsAtSo, work_refusal}
-use Rattle.pm_call.specs.Stages.{IsPastAt, end_refusal, next_stage}
+use Rattle.pm_call.specs.Commits.{CallCommitted, CommitCut, CommittedInner}
+use Rattle.pm_call.specs.Did.{IsAt, IsAtSo, work_refusal}
+use Rattle.pm_call.specs.Stages.{end_refusal, next_stage}
 use Rattle.pm_call.proofs.Calls.{after_so}
-use Rattle.pm_tx.specs.Commits.{InnerEnds, LevelCommitted, LevelCommittedSo, LevelEnds, OutermostEnds, PassedSo, Processed, ProcessedFrom}
+use Rattle.pm_tx.specs.Commits.{InnerEnds, LevelCommitted, LevelCommittedSo, LevelEnds, PassedSo, Processed, ProcessedFrom}
 
 -- the stage after one past work is past it too
 next_past : (s : Stage) → is_working s ≡ false → is_working (next_stage s) ≡ false
@@ -93,10 +92,13 @@ module _ {M : Type 0} (at : M → View → Type 0) (old : Lane M) where
 
   pub processed_past : (next : Stage) → old.stage ≢ stage.Work → None ≡ end_refusal old → next ≡ next_stage old.stage → Processed at old (record old { stage = next }) (Ok tt)
   unfolding Processed
-  processed_past next past none is_next = not_work old.stage (record old { stage = next }) (Ok tt) past (subst (λ o. PassedSo o at old (record old { stage = next }) (Ok tt)) none (λ s before e is. (refl, record {
-    sees = record {
-      memory = is.sees.memory;
-      fields = λ i. record (is.sees.fields i) { stage = (is_next ∙ ap next_stage (ap (λ (f : Fields). f.stage) is.sees.fields)) i };
-    };
-    past = record { past = next_past before is.past.past; some = is.past.some; most = is.past.most; leaves = is.past.leaves };
-  })))
+  processed_past next past none is_next = not_work old.stage (record old { stage = next }) (Ok tt) past (subst (λ o. PassedSo o at old (record old { stage = next }) (Ok tt)) none (λ s before e is. (
+    refl,
+    record {
+      sees = record {
+        memory = is.sees.memory;
+        fields = λ i. record (is.sees.fields i) { stage = (is_next ∙ ap next_stage (ap (λ (f : Fields). f.stage) is.sees.fields)) i };
+      };
+      past = record { past = next_past before is.past.past; some = is.past.some; most = is.past.most; leaves = is.past.leaves };
+    },
+  )))

@@ -1,4 +1,4 @@
-use Rattle.std.proofs.Common.{◌≡◌, ◌≢◌, None, rules}
+use Rattle.std.proofs.Common.{◌≡◌, ◌≢◌, rules}
 use Rattle.pm_model.specs.declared.stage.Stage.TheVariants as stage
 use Rattle.pm_tx.proofs.LevelCommits.{process_refused, processed_past, processed_work}
 use Rattle.pm_tx.proofs.commits.process.Goals as goal
