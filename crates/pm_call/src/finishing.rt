@@ -8,7 +8,9 @@ ghost use Rattle.pm_call.specs.Commits.{CallCommitted, Committed, KnowsEntries, 
 ghost use Rattle.pm_call.specs.At.{At};
 ghost use Rattle.pm_call.specs.Did.{After, IsAt, IsAtSo};
 ghost use Rattle.pm_world.specs.LaneFields.{Standing, at_work};
-ghost use Rattle.pm_call.specs.Finishing.{CanEndRecords, CanFinish, CanLogCall, CanNumber, EndedRecords, Finished, FinishedEntries, FinishedRecords, KeepsCall, PerformedCall, PerformedEntries, StandsAs};
+ghost use Rattle.pm_call.specs.Finishing.{CanEndRecords, CanFinish, CanLogCall, CanNumber};
+ghost use Rattle.pm_call.specs.Finishing.{EndedRecords, Finished, FinishedEntries, FinishedRecords};
+ghost use Rattle.pm_call.specs.Finishing.{KeepsCall, PerformedCall, PerformedEntries, StandsAs};
 ghost use Rattle.pm_call.specs.GivenUp.{MayEnd};
 ghost use Rattle.pm_call.specs.Plans.{ends_call};
 
@@ -25,8 +27,10 @@ use pm_world::{Lane, LawfulMem, LentOperation};
 /// Tells the commit, draws the number of the open call, and tells how many were drawn before.
 fn number_commit<M: LawfulMem>(lane: &mut Lane<M>) -> u64
     requires { MayEnd (M.at lane.old.memory) Commit None }
-    ensures made { IsMade (M.at lane.old.memory) (M.at lane.new.memory) (ends_call Commit None result) }
-    ensures lane { lane.new ≡ record lane.old { memory = lane.new.memory; drawn = Some (result + 1); last = result + 1 } }
+    ensures made { IsMade (M.at lane.old.memory) (M.at lane.new.memory)
+        (ends_call Commit None result) }
+    ensures lane { lane.new ≡ record lane.old
+        { memory = lane.new.memory; drawn = Some (result + 1); last = result + 1 } }
 {
     let operation = Operation::Commit;
     lane.memory.tell(LentOperation::Whole(&operation), None);
@@ -122,7 +126,8 @@ fn commit_outermost<M: LawfulMem>(lane: &mut Lane<M>) -> Result<(), Stopped>
 fn look_each<M: LawfulMem>(mem: &mut M, entries: &[Redo])
     requires { (s : Standing) × M.at mem.old s.view × At s × (s.entries ≡ entries.now) }
     ensures { (s : Standing) → M.at mem.old s.view → At s → s.entries ≡ entries.now
-        → After s (λ t. KnowsEntries t × M.at mem.new t.view × At t × (at_work t ≡ at_work s)) }
+        → After s (λ t. KnowsEntries t × M.at mem.new t.view × At t
+            × (at_work t ≡ at_work s)) }
 {
     for entry in entries {
         let _found = mem.see(entry.place / WORD_BYTES);

@@ -9,12 +9,14 @@
 #![tactic(auto)]
 
 mod actions;
+mod commits;
 mod ending;
 mod outcome;
 mod ranges;
 mod stages;
 
 pub use actions::{actions_stay, set_value};
+pub use commits::{commit, process};
 pub use ending::end;
 pub use outcome::abort;
 pub use ranges::{add_range, read, write};

@@ -125,3 +125,14 @@ fn words_are_judged(rt: HostRuntime) -> Result<(), Fail> {
     assert_eq!(rt; actions::judge_set(12, 63), Err(Refusal::Unaligned));
     Ok(())
 }
+
+/// Where no transaction is open, and past its work, a commit is refused.
+#[test]
+fn commits_are_refused(rt: HostRuntime) -> Result<(), Fail> {
+    let mut idle = lane_at(rt.alloc(), 0, Stage::None)?;
+    assert_eq!(rt; commit(&mut idle), Err(Refusal::NoTx));
+    let mut late = lane_at(rt.alloc(), 1, Stage::OnAbort)?;
+    assert_eq!(rt; commit(&mut late), Err(Refusal::NotWork));
+    assert_eq!(rt; late.stage, Stage::OnAbort);
+    Ok(())
+}
