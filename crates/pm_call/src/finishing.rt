@@ -127,7 +127,7 @@ fn look_each<M: LawfulMem>(mem: &mut M, entries: &[Redo])
     requires { (s : Standing) × M.at mem.old s.view × At s × (s.entries ≡ entries.now) }
     ensures { (s : Standing) → M.at mem.old s.view → At s → s.entries ≡ entries.now
         → After s (λ t. KnowsEntries t × M.at mem.new t.view × At t
-            × (at_work t ≡ at_work s)) }
+        × (at_work t ≡ at_work s)) }
 {
     for entry in entries {
         let _found = mem.see(entry.place / WORD_BYTES);
