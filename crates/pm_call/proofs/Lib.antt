@@ -17,6 +17,7 @@ pub mod RangeRefusals
 pub mod RangeWords
 pub mod RangeReads
 pub mod SmallWords
+pub mod Staying
 pub mod Storing
 pub mod RangeWrites
 pub mod WriteLanes

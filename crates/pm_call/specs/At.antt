@@ -15,6 +15,7 @@ use Rattle.pm_view.specs.View.{View}
 use Rattle.pm_view.specs.Views.{value_in}
 use Rattle.pm_world.specs.InWorld.{IsSound, SizesFit}
 use Rattle.pm_world.specs.LaneFields.{Standing}
+use Rattle.pm_world.specs.declared.lane.HeldLock.{HeldLock}
 use Rattle.pm_world.specs.Sights.{is_recorded}
 use Rattle.pm_crash.specs.Facts.{HaveFacts}
 use Rattle.pm_crash.specs.Footprints.{has_found}
@@ -24,7 +25,8 @@ use Rattle.pm_crash.specs.SimFacts.{is_begun}
 use Rattle.pm_undo.specs.Records.{kept_by}
 use Rattle.pm_undo.specs.Spans as spans
 use Rattle.pm_undo.specs.Working.{IsWorking}
-use Rattle.pm_call.specs.Held.{AreHeld, AreLines, is_in_locks}
+use Rattle.pm_call.specs.Held.{AreHeld, AreLines, HoldsAll, KnowsOwn, is_in_locks}
+use Rattle.pm_call.specs.Waiting.{HasPending}
 
 -- the entries of the blocks that the call made and freed so far: none, as long as no call of a transaction makes or frees a block
 abbrev pub entries_so_far : Standing → List Entry
@@ -47,6 +49,7 @@ pub record AreLists (s : Standing) (level : ℕ) (tx : Transaction) : Type 0 whe
   pub level_is : tx.level ≡ level
   pub works : is_working tx.stage ≡ true
   pub locks : (off : ℕ) (write : Bool) → is_locked tx.locks off write ≡ is_in_locks s.locks off write
+  pub count : length tx.locks ≡ length s.locks
   pub recorded : tx.recorded ≡ spans.words_in (kept_by s.view)
   pub records : tx.records ≡ length s.view.log.records
   pub blocks : (tx.made ≡ []) × (tx.dropped ≡ []) × (tx.freed ≡ [])
@@ -76,8 +79,8 @@ pub record MayTakeNumber (v : View) : Type 0 where
   pub below : seen < greatest_generation v.fixed.shape
   pub none : v.number ≡ None
 
--- AT WORK at this level of the model's transaction
-pub record IsAt (s : Standing) (level : ℕ) : Type 0 where
+-- AT WORK at this level of the model's transaction, where these are all locks that the lane holds: more than its transaction has, once an operation got some and was refused
+pub record IsAtWith (s : Standing) (level : ℕ) (all : List HeldLock) : Type 0 where
   pub working : IsWorking s.view
   pub unbumped : s.view.log.bumped ≡ false
   pub begun : is_begun s.view.call ≡ true
@@ -90,12 +93,19 @@ pub record IsAt (s : Standing) (level : ℕ) : Type 0 where
   pub held : AreHeld s.view s.locks
   pub lines : AreLines s.view.fixed.shape s.locks
   pub few : length s.locks ≤ 64
+  pub holds : HoldsAll s.view all
+  pub own : KnowsOwn s.view
   -- its entries have room in a log, beside the one that ends the generation
   pub room : length s.entries < redo_entries s.view.fixed.shape
   pub recorded : (p : Place) → is_recorded s.view.log.records p ≡ true → IsDataOf s.view p
   pub lists : AreLists s level (lists_of s.view)
+  pub pending : HasPending s.view
   pub sim : Sim s.view (entries_so_far s)
   pub facts : HaveFacts s.view
+
+-- with the locks of its transaction alone
+abbrev pub IsAt : Standing → ℕ → Type 0
+IsAt s level = IsAtWith s level s.locks
 
 abbrev pub At : Standing → Type 0
 At s = IsAt s s.level

@@ -1,5 +1,5 @@
 -- WHAT AN OPERATION OF A TRANSACTION DID to a lane, in one word for each kind of function, by cases of what it answers.
-use Rattle.std.specs.Prelude.{◌≡◌, ◌⊎◌, ℕ, ◌==◌, Bool, true, false, if◌then◌else◌, [], Option, Some, None, Result, Ok, Err}
+use Rattle.std.specs.Prelude.{◌≡◌, ◌⊎◌, ℕ, ◌==◌, ◌<◌, ◌≤◌, Bool, true, false, if◌then◌else◌, [], Option, Some, None, Result, Ok, Err}
 use Rattle.pm_memory.specs.Runs.{Stops}
 use Rattle.pm_model.specs.Refusals.{Seen}
 use Rattle.pm_model.specs.declared.stage.Stage.{Stage}
@@ -14,7 +14,8 @@ use Rattle.pm_layout.specs.Areas.{word_of_generation, word_of_seal}
 use Rattle.pm_view.specs.Log.{Idle, new_log}
 use Rattle.pm_view.specs.View.{View}
 use Rattle.pm_view.specs.Views.{after_all, value_in}
-use Rattle.pm_world.specs.InWorld.{IsSound}
+use Rattle.pm_view.specs.Claims.{making}
+use Rattle.pm_world.specs.InWorld.{IsSound, SizesFit}
 use Rattle.pm_world.specs.LaneFields.{Fields, IsSeenAs, Standing, Works, fields_at, fields_of, moved}
 use Rattle.pm_world.specs.declared.lane.Lane.{Lane}
 use Rattle.pm_crash.specs.Facts.{HaveFacts}
@@ -22,7 +23,8 @@ use Rattle.pm_crash.specs.Looked.{refusal_by}
 use Rattle.pm_crash.specs.SimOps.{LookedAt}
 use Rattle.pm_plan.specs.Plans.{Plan, Ready}
 use Rattle.pm_call.specs.At.{At, entries_so_far}
-use Rattle.pm_call.specs.Held.{AreHeld, AreLines, Looks}
+use Rattle.pm_call.specs.Held.{HoldsAll, KnowsOwn, Looks}
+use Rattle.pm_call.specs.Waiting.{HasPending}
 use Rattle.pm_call.specs.Plans.{gives_up}
 
 -- ---- STAGES OF A LANE
@@ -91,11 +93,17 @@ pub record Cut {M : Type 0} (at : M → View → Type 0) (lane : Lane M) (s : St
 pub record IsOver (s : Standing) : Type 0 where
   pub log : s.view.log ≡ new_log Idle s.view.log.generation
   pub drained : s.view.changes ≡ []
+  pub lane : s.view.fixed.lane < s.view.fixed.shape.lanes
+  pub lanes : s.view.fixed.shape.lanes ≤ 32
+  pub zones : s.view.fixed.shape.zones ≤ 32
+  pub unmaking : (c : ℕ) → making s.view.fixed.shape s.view.claims c ≡ false
   pub sound : IsSound s.view
+  pub sizes : SizesFit s.view
   pub known : value_in s.view (word_of_generation s.view.fixed.shape s.view.fixed.lane) ≡ Some s.view.log.generation
   pub sealed : value_in s.view (word_of_seal s.view.fixed.shape s.view.fixed.lane) ≡ Some 0
-  pub held : AreHeld s.view s.locks
-  pub lines : AreLines s.view.fixed.shape s.locks
+  pub holds : HoldsAll s.view s.locks
+  pub own : KnowsOwn s.view
+  pub pending : HasPending s.view
   pub facts : HaveFacts s.view
 
 -- the fields of a lane whose call was given up for this reason
@@ -143,15 +151,6 @@ Acted at old new Q op plan Is result = (s : Standing) → Works at old s → At 
 -- a check and an operation
 unfoldable pub Tried : {M T : Type 0} → (M → View → Type 0) → Lane M → Lane M → Operation → (View → Plan) → (View → T → Type 0) → Result T Refusal → Type 0
 Tried at old new op plan Is result = (s : Standing) → Works at old s → At s → After s (Came at new op plan Is result)
-
--- a refusal gives the call up; a stop has nothing to give up, and the lane says that it stopped
-abbrev pub GivesUpFor : {M : Type 0} → (M → View → Type 0) → Lane M → Operation → Refusal → Refusal → Standing → Type 0
-GivesUpFor at lane op why refusal.Stopped s = (n : ℕ) × Cut at lane s (gives_up op (Some (Refused why)) n) true
-GivesUpFor at lane op why answer s = (answer ≡ why) × GaveUp at lane s op why
-
-unfoldable pub Refuses : {M : Type 0} → (M → View → Type 0) → Lane M → Lane M → Operation → Refusal → Refusal → Type 0
-Refuses at old new op refusal.Stopped answer = (answer ≡ refusal.Stopped) × (new ≡ record old { stopped = true })
-Refuses at old new op why answer = (s : Standing) → Works at old s → At s → IsRefused s op why → GivesUpFor at new op why answer s
 
 -- THE OPERATION: refused for its stage it changes nothing; else it is done, given up, or stopped
 abbrev pub DidSo : {M T : Type 0} → Option Refusal → (M → View → Type 0) → Lane M → Lane M → Operation → (View → Plan) → (View → T → Type 0) → Result T Refusal → Type 0

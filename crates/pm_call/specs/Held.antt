@@ -1,20 +1,22 @@
 -- WHICH OBJECTS A LANE HOLDS, by its list of locks and by its claims; and what it looks at under these locks.
-use Rattle.std.specs.Prelude.{◌≡◌, ◌⊎◌, ℕ, zero, suc, ◌+◌, ◌-◌, ◌/◌, ◌%◌, ◌^◌, ◌<◌, ◌≤◌, nat_le, Bool, true, ◌==◌, ◌&&◌, ◌||◌, not, List}
+use Rattle.std.specs.Prelude.{◌≡◌, ◌≢◌, ◌⊎◌, ℕ, zero, suc, ◌+◌, ◌-◌, ◌/◌, ◌%◌, ◌^◌, ◌<◌, ◌≤◌, nat_le, Bool, true, ◌==◌, ◌&&◌, ◌||◌, not, List, []}
 use Rattle.std.specs.List.{AllByRecursion, list_any}
 use Rattle.pm_layout.specs.Chunks.{words_of}
 use Rattle.pm_layout.specs.declared.shape.Shape.{Shape}
-use Rattle.pm_view.specs.Claims.{header_in}
+use Rattle.pm_view.specs.Claims.{class, header_in, holds}
 use Rattle.pm_view.specs.Founds.{FindsKnown}
-use Rattle.pm_view.specs.Places.{Block, word_of}
+use Rattle.pm_view.specs.Places.{Block, Small, word_of}
 use Rattle.pm_view.specs.Steps.Step.{Load}
 use Rattle.pm_view.specs.View.{View}
 use Rattle.pm_view.specs.Views.{after}
 use Rattle.pm_world.specs.InWorld.{block_bytes}
 use Rattle.pm_world.specs.Lanes.{is_occupancy}
 use Rattle.pm_world.specs.declared.lane.HeldLock.{HeldLock}
-use Rattle.pm_crash.specs.Footprints.{has_found}
+use Rattle.pm_crash.specs.Footprints.{has_found, has_own}
 use Rattle.pm_crash.specs.Looked.{word_place, words_in}
+use Rattle.pm_lock.specs.Held.{HoldsEach}
 use Rattle.pm_lock.specs.Holding.{AreOnce, IsHeldAs}
+use Rattle.pm_lock.specs.Wants.{is_listed}
 
 -- ---- the list of locks
 
@@ -46,6 +48,15 @@ pub record IsHeld (v : View) (l : HeldLock) : Type 0 where
 
 abbrev pub AreHeld : View → List HeldLock → Type 0
 AreHeld v locks = AllByRecursion (IsHeld v) locks
+
+-- ALL LOCKS THAT THE LANE HOLDS are these, each of a line of the pool, no two of one line
+pub record HoldsAll (v : View) (locks : List HeldLock) : Type 0 where
+  pub each : HoldsEach v locks
+  pub only : (line : ℕ) → holds v.claims line ≡ true → is_listed locks [] line ≡ true
+
+-- blocks of its own are of runs that it knows
+abbrev pub KnowsOwn : View → Type 0
+KnowsOwn v = (c i : ℕ) → has_own v (Small c i) ≡ true → class v.claims c ≢ 0
 
 -- they are of lines of the pool, no two of one line
 pub record AreLines (sh : Shape) (locks : List HeldLock) : Type 0 where

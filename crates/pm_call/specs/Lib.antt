@@ -1,9 +1,11 @@
 pub mod Held
+pub mod Waiting
 pub mod At
 pub mod Ranges
 pub mod Plans
 pub mod Did
 pub mod GivenUp
+pub mod Stages
 pub mod Finishing
 pub mod Reading
 pub mod RangeLaws
@@ -13,5 +15,4 @@ pub mod Locking
 pub mod LockRefusals
 pub mod LocksGot
 pub mod WantedTried
-pub mod Stages
 pub mod Commits

@@ -1,7 +1,7 @@
 -- WHY A LOCK, OR A BEGIN OF AN INNER LEVEL, IS REFUSED, as laws: by the lane's list of locks and
 -- by what its tries and looks told, the plain model's first refusal is found; and such an
 -- operation gives the transaction up.
-use Rattle.std.specs.Prelude.{◌≡◌, ◌⊎◌, ℕ, ◌+◌, ◌≤◌, ◌&&◌, nat_lt, not, false, Contains, List, [], ◌∷◌, length, take, Some, None}
+use Rattle.std.specs.Prelude.{◌≡◌, ◌⊎◌, ℕ, ◌+◌, ◌≤◌, ◌&&◌, nat_lt, not, false, Contains, List, [], ◌∷◌, ◌++◌, length, take, drop, Some, None}
 use Rattle.std.specs.List.{list_any}
 use Rattle.pm_objects.specs.declared.calls.Operation.{Operation}
 use Rattle.pm_objects.specs.declared.calls.Operation.TheVariants.{Begin}
@@ -15,16 +15,17 @@ use Rattle.pm_view.specs.Steps.{Step}
 use Rattle.pm_view.specs.View.{View}
 use Rattle.pm_view.specs.Views.{after_all}
 use Rattle.pm_world.specs.LaneFields.{Standing, moved}
+use Rattle.pm_world.specs.declared.lane.HeldLock.{HeldLock}
 use Rattle.pm_crash.specs.Looked.{refusal_by}
-use Rattle.pm_crash.specs.Sim.{lists_of}
 use Rattle.pm_lock.specs.Acquiring.{AreFinds}
 use Rattle.pm_lock.specs.Holding.{IsTaken}
 use Rattle.pm_lock.specs.Objects.{HasLooked, IsOfWorld}
+use Rattle.pm_lock.specs.Raising.{AreRaised, raised}
 use Rattle.pm_lock.specs.Wants.{has_unplaced}
-use Rattle.pm_call.specs.At.{At}
+use Rattle.pm_call.specs.At.{At, IsAtWith}
 use Rattle.pm_call.specs.GivenUp.{GivesUp}
 use Rattle.pm_call.specs.Held.{is_in_locks}
-use Rattle.pm_call.specs.Locking.{HoldsLocks, IsLocking, to_take}
+use Rattle.pm_call.specs.Locking.{IsLocking, to_take, to_write}
 
 -- in their order: too many locks; an id without a place; a lock that is to be taken or raised was
 -- another lane's; under one that was taken no object was found
@@ -44,20 +45,19 @@ locking_tests seen s wants =
     )
     ∷ []
 
--- the lane's locks are as many as its transaction has
-abbrev pub HasAsMany : Standing → Type 0
-HasAsMany s = length (lists_of s.view).locks ≡ length s.locks
-
--- THE MODEL'S FIRST REFUSAL is that of the first test that applies
+-- THE MODEL'S FIRST REFUSAL is that of the first test that applies, whatever locks the lane got
+-- besides
 abbrev pub LockRefusals : Type 0
-LockRefusals = (s : Standing) (op : Operation) (wants : List Want) (level : ℕ) (seen : Seen)
-    → At s → HasAsMany s → IsLocking op wants s.level level
+LockRefusals = (s : Standing) (all : List HeldLock) (op : Operation) (wants : List Want)
+    (level : ℕ) (seen : Seen)
+    → IsAtWith s s.level all → IsLocking op wants s.level level
     → refusal_by seen s.view None op ≡ first_of (locking_tests seen s wants)
 
 -- SO A REFUSED ONE gives the transaction up
 abbrev pub RefusedLocksGiveUp : Type 0
-RefusedLocksGiveUp = (s : Standing) (op : Operation) (wants : List Want) (level : ℕ)
-    (seen : Seen) (r : Refusal) → At s → HasAsMany s → IsLocking op wants s.level level
+RefusedLocksGiveUp = (s : Standing) (all : List HeldLock) (op : Operation) (wants : List Want)
+    (level : ℕ) (seen : Seen) (r : Refusal)
+    → IsAtWith s s.level all → IsLocking op wants s.level level
     → first_of (locking_tests seen s wants) ≡ Some r → GivesUp s op (Some (Refused r))
 
 -- and so does a begin at the deepest level
@@ -67,22 +67,26 @@ DeepBeginsGiveUp = (s : Standing) (wants : List Want) → At s → 64 ≤ s.leve
 
 -- ---- WHAT IT DID BY THEN
 
--- it got the first so many of the locks, and looked under the first so many; its view is one of a
--- world then, as the last look tells, or it did not look
-pub record TriedLocks (s : Standing) (wants : List Want) (x : View) : Type 0 where
+-- it got the first so many of the locks, and looked under the first so many, and its view is one of
+-- a world then, as the last look tells, or it did not look; it raised some, or none
+pub record TriedLocks (s : Standing) (wants : List Want) (all : List HeldLock) (x : View) : Type 0 where
   pub count : ℕ
   pub taken : View
   pub takes : IsTaken s.view (take count (to_take s wants)) taken
-  pub told : (n : Step) → Contains s.view.seen n → Contains taken.seen n
+  pub told : (n : Step) → Contains s.view.seen n → Contains x.seen n
   pub under : ℕ
   pub looks : List Step
   pub finds : AreFinds s.view.fixed.shape (take under (to_take s wants)) looks
   pub stays : HasLooked taken (after_all taken looks)
-  pub then : x ≡ after_all taken looks
-  pub world : IsOfWorld x ⊎ (looks ≡ [])
+  pub world : IsOfWorld (after_all taken looks) ⊎ (looks ≡ [])
+  pub rose_ : ℕ
+  pub raises_ : AreRaised (after_all taken looks) (to_write s wants)
+      (take rose_ (s.locks ++ take count (to_take s wants))) x
+  pub lists : all ≡ raised (to_write s wants) (take rose_ (s.locks ++ take count (to_take s wants)))
+      ++ drop rose_ (s.locks ++ take count (to_take s wants))
 
--- THE LANE IS AT WORK STILL, with the list of locks that it had: so its transaction may be given
--- up. What it got besides is in no list of the model
+-- THE LANE IS AT WORK STILL with the list of locks that it had, and holds these: so its transaction
+-- may be given up. What it got besides is in no list of the model
 abbrev pub TriedLocksLeaveWork : Type 0
-TriedLocksLeaveWork = (s : Standing) (wants : List Want) (x : View) → At s → HoldsLocks s
-    → TriedLocks s wants x → At (moved s x) × HasAsMany (moved s x)
+TriedLocksLeaveWork = (s : Standing) (wants : List Want) (all : List HeldLock) (x : View) → At s
+    → TriedLocks s wants all x → IsAtWith (moved s x) s.level all

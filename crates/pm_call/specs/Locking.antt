@@ -35,8 +35,10 @@ use Rattle.pm_lock.specs.Objects.{HasLooked, IsOfWorld, StandsAt}
 use Rattle.pm_lock.specs.Raising.{raised, raises}
 use Rattle.pm_lock.specs.Wants.{has_unplaced, is_listed, wanted, wants_to_write}
 use Rattle.pm_call.specs.At.{At, IsDataOf, MaySet, MayTakeNumber, entries_so_far, set_entry}
-use Rattle.pm_call.specs.Held.{AreHeld, is_in_locks}
+use Rattle.pm_call.specs.Held.{AreHeld, HoldsAll, KnowsOwn, is_in_locks}
+use Rattle.pm_call.specs.Waiting.{HasPending}
 use Rattle.pm_call.specs.Did.{IsUnrefused}
+use Rattle.pm_call.specs.Stages.{IsBetween}
 
 -- ---- WHICH LOCKS
 
@@ -49,14 +51,6 @@ to_write s wants = wants_to_write s.view.fixed.shape s.view.fixed.pool wants
 
 abbrev pub locks_with : Standing → List Want → List HeldLock
 locks_with s wants = raised (to_write s wants) (s.locks ++ to_take s wants)
-
--- THE LANE'S LOCKS ARE THOSE OF ITS LIST: of lines of the pool, no two of one line, and it holds
--- no other; they are as many as its transaction has. Blocks of its own are of runs that it knows
-pub record HoldsLocks (s : Standing) : Type 0 where
-  pub each : HoldsEach s.view s.locks
-  pub only : (line : ℕ) → holds s.view.claims line ≡ true → is_listed s.locks [] line ≡ true
-  pub count : length (lists_of s.view).locks ≡ length s.locks
-  pub own : (c i : ℕ) → has_own s.view (Small c i) ≡ true → class s.view.claims c ≢ 0
 
 -- ---- WHAT IT DOES
 
@@ -79,6 +73,7 @@ pub record TakesLocks (s : Standing) (wants : List Want) (x : View) : Type 0 whe
 pub record AgreesOn (s : Standing) (tx : Transaction) : Type 0 where
   pub locks : (off : ℕ) (write : Bool)
       → is_locked tx.locks off write ≡ is_in_locks s.locks off write
+  pub count : length tx.locks ≡ length s.locks
   pub recorded : tx.recorded ≡ spans.words_in (kept_by s.view)
   pub records : tx.records ≡ length s.view.log.records
   pub blocks : (tx.made ≡ []) × (tx.dropped ≡ []) × (tx.freed ≡ [])
@@ -94,9 +89,12 @@ pub record CanLock (s : Standing) : Type 0 where
   pub sealed : value_in s.view (word_of_seal s.view.fixed.shape s.view.fixed.lane) ≡ Some 0
   pub number : MayTakeNumber s.view
   pub held : AreHeld s.view s.locks
+  pub holds : HoldsAll s.view s.locks
+  pub own : KnowsOwn s.view
   pub room : length s.entries < redo_entries s.view.fixed.shape
   pub recorded : (p : Place) → is_recorded s.view.log.records p ≡ true → IsDataOf s.view p
   pub lists : AgreesOn s (lists_of s.view)
+  pub pending : HasPending s.view
   pub sim : Sim s.view (entries_so_far s)
   pub facts : HaveFacts s.view
   pub tells : MayTell s.view
@@ -128,18 +126,15 @@ pub record LeadsLocks (s : Standing) (op : Operation) (wants : List Want) (level
   pub unrefused : IsUnrefused (moved s x) op
   pub allowed : Allowed x (Tell op None)
   pub stands : At (locked_with s op wants level x)
-  pub locks : HoldsLocks (locked_with s op wants level x)
 
--- THE LAW: a lane at work whose locks are those of its list may take more, and tell the operation
+-- THE LAW: a lane at work may take more, and tell the operation
 abbrev pub ObjectsMayBeLocked : Type 0
 ObjectsMayBeLocked = (s : Standing) (op : Operation) (wants : List Want) (level : ℕ) (x : View)
-    → At s → HoldsLocks s → MayLock s op wants level → TakesLocks s wants x
-    → LeadsLocks s op wants level x
+    → At s → MayLock s op wants level → TakesLocks s wants x → LeadsLocks s op wants level x
 
 -- and pm_lock may be asked for them
 abbrev pub LocksMayBeWanted : Type 0
-LocksMayBeWanted = (s : Standing) → CanLock s → HoldsLocks s
-    → MayWant s.view s.view.fixed.shape s.locks []
+LocksMayBeWanted = (s : Standing) → CanLock s → MayWant s.view s.view.fixed.shape s.locks []
 
 -- so may a lane at work
 abbrev pub LanesAtWorkMayLock : Type 0
@@ -158,45 +153,29 @@ pub record IsOpened (s : Standing) : Type 0 where
   pub call : s.view.call ≡ []
   pub records : s.view.log.records ≡ []
   pub locks : s.locks ≡ []
+  pub holds : HoldsAll s.view []
+  pub own : KnowsOwn s.view
   pub entries : s.entries ≡ []
+  pub pending : HasPending s.view
   pub facts : HaveFacts s.view
+
+-- it may lock
+abbrev pub OpenedLanesMayLock : Type 0
+OpenedLanesMayLock = (s : Standing) → IsOpened s → CanLock s
 
 -- THE LAW: such a lane may take the locks that are wanted, and tell the begin; it is at work then
 abbrev pub TransactionsMayBegin : Type 0
-TransactionsMayBegin = (s : Standing) (wants : List Want) (x : View) → IsOpened s → HoldsLocks s
+TransactionsMayBegin = (s : Standing) (wants : List Want) (x : View) → IsOpened s
     → has_unplaced s.view.fixed.shape s.view.fixed.pool wants ≡ false
     → length s.locks + length (to_take s wants) ≤ 64 → TakesLocks s wants x
     → LeadsLocks s (Begin wants) wants 1 x
 
 -- ---- A CALL OPENS
 
--- between two calls: the log is retired, all is drained, and the lane holds no lock
-pub record IsBetweenCalls (s : Standing) : Type 0 where
-  pub log : s.view.log ≡ new_log Idle s.view.log.generation
-  pub drained : s.view.changes ≡ []
-  pub below : s.view.log.generation < greatest_generation s.view.fixed.shape
-  pub lane : s.view.fixed.lane < s.view.fixed.shape.lanes
-  pub lanes : s.view.fixed.shape.lanes ≤ 32
-  pub zones : s.view.fixed.shape.zones ≤ 32
-  pub unmaking : (c : ℕ) → making s.view.fixed.shape s.view.claims c ≡ false
-  pub sound : IsSound s.view
-  pub sizes : SizesFit s.view
-  pub known : value_in s.view (word_of_generation s.view.fixed.shape s.view.fixed.lane)
-      ≡ Some s.view.log.generation
-  pub sealed : value_in s.view (word_of_seal s.view.fixed.shape s.view.fixed.lane) ≡ Some 0
-  pub locks : s.locks ≡ []
-  pub free : (line : ℕ) → holds s.view.claims line ≡ false
-  pub own : (c i : ℕ) → has_own s.view (Small c i) ≡ true → class s.view.claims c ≢ 0
-  pub entries : s.entries ≡ []
-  pub facts : HaveFacts s.view
-
--- IT IS OPEN once the lane saw a number that is not the last, and the lane may lock
-pub record OpensCall (s : Standing) : Type 0 where
-  pub opened : IsOpened s
-  pub may : CanLock s
-  pub locks : HoldsLocks s
-
+-- THE LAW: between two calls one opens as the lane sees a number that is not the last, where its
+-- generation is not the last either
 abbrev pub CallsMayOpen : Type 0
-CallsMayOpen = (s : Standing) (n : ℕ) → IsBetweenCalls s
+CallsMayOpen = (s : Standing) (n : ℕ) → IsBetween s
+    → s.view.log.generation < greatest_generation s.view.fixed.shape
     → n < greatest_generation s.view.fixed.shape
-    → OpensCall (moved s (after s.view (NumberSeen n)))
+    → IsOpened (moved s (after s.view (NumberSeen n)))

@@ -13,7 +13,7 @@ use Rattle.pm_lock.specs.Locking.{lock_at}
 use Rattle.pm_lock.specs.Steps.{takes, tries}
 use Rattle.pm_lock.specs.Wants.{has_unplaced}
 use Rattle.pm_call.specs.At.{At}
-use Rattle.pm_call.specs.Locking.{HoldsLocks, to_take}
+use Rattle.pm_call.specs.Locking.{to_take}
 
 -- the locks are not too many, and each id has a place, or some has none
 abbrev pub AreFew : Standing → List Want → Type 0
@@ -53,5 +53,5 @@ WantedTriedAs at lane s wants (Err r) = ⊥
 
 unfoldable pub WantedTried : {M : Type 0} → (M → View → Type 0) → Lane M → Lane M → List Want
     → Result (Unit {0}) Refusal → Type 0
-WantedTried at old new wants result = (s : Standing) → Works at old s → At s → HoldsLocks s
+WantedTried at old new wants result = (s : Standing) → Works at old s → At s
     → WantedTriedAs at new s wants result

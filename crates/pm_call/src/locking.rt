@@ -8,6 +8,7 @@ ghost use Rattle.pm_call.specs.LocksGot.{
   BusyLocksAreTried,
   GotLocksAreTaken,
   MissedLocksAreTried,
+  RefusedRaisesAreTried,
 };
 ghost use Rattle.pm_call.specs.Locking.{
   CallsMayOpen,
@@ -19,8 +20,8 @@ ghost use Rattle.pm_call.specs.Locking.{
 
 use pm_world::LawfulMem;
 
-/// A law: a lane that may lock, and whose locks are those of its list, may ask `pm_lock` for
-/// more, of any objects that it wants. No code runs.
+/// A law: a lane that may lock may ask `pm_lock` for the locks of any objects that it wants. No
+/// code runs.
 pub fn locks_may_be_wanted()
     ensures { LocksMayBeWanted }
 {}
@@ -53,12 +54,13 @@ pub fn tried_locks_leave_work()
 {}
 
 /// A law: what `pm_lock` promises of the locks that are wanted, got by tries or by waits, is what
-/// these laws ask: of locks that have an object under each, of those under which one has none, and
-/// of those before a refused one. No code runs.
+/// these laws ask: of locks that have an object under each, of those under which one has none, of
+/// those before a refused one, and of those before a raise that is refused. No code runs.
 pub fn locks_are_got<M: LawfulMem>()
     ensures got { (memory : M) → GotLocksAreTaken (M.at memory) }
     ensures missed { (memory : M) → MissedLocksAreTried (M.at memory) }
     ensures busy { BusyLocksAreTried }
+    ensures raise { (memory : M) → RefusedRaisesAreTried (M.at memory) }
 {}
 
 /// A law: a lane in whose open call nothing is told or recorded yet, and that holds no lock, may
@@ -74,9 +76,10 @@ pub fn calls_may_open()
     ensures { CallsMayOpen }
 {}
 
-/// A law: a lane at work may lock. No code runs.
+/// A law: a lane at work may lock, and so may one whose call is open. No code runs.
 pub fn lanes_at_work_may_lock()
-    ensures { LanesAtWorkMayLock }
+    ensures at_work { LanesAtWorkMayLock }
+    ensures opened { OpenedLanesMayLock }
 {}
 
 /// A law: a begin at the deepest level, 64, is refused, and gives the transaction up. No code

@@ -1,7 +1,7 @@
-ghost use Rattle.std.specs.Prelude.{◌≡◌, ◌≢◌, ◌+◌, ℕ, true, false, []};
+ghost use Rattle.std.specs.Prelude.{◌≡◌, ◌≢◌, ◌+◌, ℕ, true, [], Some};
+ghost use Rattle.pm_objects.specs.declared.history.Value.TheVariants.{Refused};
 ghost use Rattle.std.specs.Option.{option_map};
 ghost use Rattle.pm_memory.specs.Runs.{Made};
-ghost use Rattle.pm_model.specs.Inside.{is_action, is_inside};
 ghost use Rattle.pm_model.specs.declared.stage.Stage.TheVariants as stage;
 ghost use Rattle.pm_objects.specs.declared.refusal.Refusal.TheVariants as refusal;
 ghost use Rattle.pm_view.specs.Steps.Step.{Draw};
@@ -13,8 +13,7 @@ ghost use Rattle.pm_plan.specs.Plans.{IsMade, in_turn};
 ghost use Rattle.pm_undo.specs.Plans.{restores, retires};
 ghost use Rattle.pm_undo.specs.Undoing.{Stands};
 ghost use Rattle.pm_undo.specs.Working.{IsWorking};
-ghost use Rattle.pm_call.specs.Did.{IsAtSo, IsRefused, Refuses};
-ghost use Rattle.pm_call.specs.GivenUp.{GivenUp, GivesUp, MayEnd, MovedLog};
+ghost use Rattle.pm_call.specs.GivenUp.{GivenUp, GivesUp, IsAtBut, MayEnd, MovedLog, Refuses};
 ghost use Rattle.pm_call.specs.Plans.{ends_call, takes_back};
 
 use pm_memory::Stopped;
@@ -106,7 +105,7 @@ pub fn give_up<M: LawfulMem>(
     reply: Option<LentValue<'_>>,
     error: TxErr,
 ) -> Result<(), Stopped>
-    requires { IsAtSo M.at lane.old
+    requires { IsAtBut M.at lane.old
         (λ s. GivesUp s (operation_of told) (option_map value_of reply)) }
     ensures { GivenUp M.at lane.old lane.new (operation_of told.entry)
         (option_map value_of reply.entry) error result }
@@ -123,10 +122,8 @@ pub fn refuse<M: LawfulMem>(
     operation: LentOperation<'_>,
     why: Refusal,
 ) -> Refusal
-    requires inside { is_inside (operation_of operation) ≡ true }
-    requires plain { is_action (operation_of operation) ≡ false }
-    requires refused { why ≢ refusal.Stopped
-        → IsAtSo M.at lane.old (λ s. IsRefused s (operation_of operation) why) }
+    requires { why ≢ refusal.Stopped
+        → IsAtBut M.at lane.old (λ s. GivesUp s (operation_of operation) (Some (Refused why))) }
     ensures { Refuses M.at lane.old lane.new (operation_of operation.entry) why result }
 {
     if why == Refusal::Stopped {

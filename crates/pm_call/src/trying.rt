@@ -1,5 +1,4 @@
-ghost use Rattle.pm_call.specs.Did.{IsAtSo};
-ghost use Rattle.pm_call.specs.Locking.{HoldsLocks};
+ghost use Rattle.pm_call.specs.Did.{IsAt};
 ghost use Rattle.pm_call.specs.WantedTried.{WantedTried};
 
 use pm_lock::try_objects;
@@ -16,7 +15,7 @@ use pm_world::{Lane, LawfulMem};
 ///   object stands, and the lane holds all of the locks.
 /// - `Busy`: another lane had a lock; those before it are held.
 pub fn try_wanted<M: LawfulMem>(lane: &mut Lane<M>, wants: &[Want]) -> Result<(), Refusal>
-    requires { IsAtSo M.at lane.old HoldsLocks }
+    requires { IsAt M.at lane.old }
     ensures { WantedTried M.at lane.old lane.new wants.now result }
 {
     try_objects(lane, &[], wants)

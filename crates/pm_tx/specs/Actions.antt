@@ -17,10 +17,6 @@ use Rattle.pm_call.specs.Did.{IsRefused, IsUnrefused, next, work_refusal}
 use Rattle.pm_call.specs.Held.{Looks}
 use Rattle.pm_call.specs.Plans.{adds, commits_inner, gets, puts, tells}
 
--- the lane lists as many actions as are pending in the model's transaction
-abbrev pub ListsActions : Standing → Type 0
-ListsActions s = length (listed s.view.actions) ≡ pending_count (lists_of s.view).pending
-
 -- what a word to be set comes to, with so many actions pending
 abbrev pub JudgedSet : ℕ → ℕ → Result (Unit {0}) Refusal → Type 0
 JudgedSet off many (Ok done) = (off % 8 ≡ 0) × (many < max_actions)
@@ -37,7 +33,6 @@ pub record IsTold {M : Type 0} (at : M → View → Type 0) (lane : Lane M) (s :
   pub ready : Ready s.view (tells op reply s.view)
   pub works : Works at lane (next s (tells op reply))
   pub stands : At (next s (tells op reply))
-  pub lists : ListsActions (next s (tells op reply))
 
 -- THE OPERATION: it is done or refused, and told so; refused for its stage it changes nothing
 abbrev pub AskedAs : {M : Type 0} → (M → View → Type 0) → Lane M → Operation → Result (Unit {0}) Refusal → Standing → Type 0
@@ -46,21 +41,7 @@ AskedAs at lane op (Err r) s = IsRefused s op r × IsTold at lane s op (Some (Re
 
 abbrev pub AskedSo : {M : Type 0} → Option Refusal → (M → View → Type 0) → Lane M → Lane M → Operation → Result (Unit {0}) Refusal → Type 0
 AskedSo (Some r) at old new op result = (result ≡ Err r) × (new ≡ old)
-AskedSo None at old new op result = (s : Standing) → Works at old s → At s → ListsActions s → AskedAs at new op result s
+AskedSo None at old new op result = (s : Standing) → Works at old s → At s → AskedAs at new op result s
 
 unfoldable pub Asked : {M : Type 0} → (M → View → Type 0) → Lane M → Lane M → Operation → Result (Unit {0}) Refusal → Type 0
 Asked at old new op result = AskedSo (work_refusal old) at old new op result
-
--- ---- A LANE LISTS ITS ACTIONS STILL, as it goes on
-
--- after a plan
-abbrev pub KeepsActions : (View → Plan) → Type 0
-KeepsActions plan = (s : Standing) → ListsActions s → ListsActions (next s (plan s.view))
-
--- after looks, and after what is made of a range or told of a level within
-pub record ActionsStay : Type 0 where
-  pub looked : (s : Standing) (u : View) (n : ℕ) → Looks n s.view u → ListsActions s → ListsActions (moved s u)
-  pub added : (id : Oid) (off len : ℕ) → KeepsActions (λ v. adds id off len)
-  pub written : (id : Oid) (off : ℕ) (bytes : List ℕ) → KeepsActions (λ v. puts id off bytes)
-  pub read : (id : Oid) (off len : ℕ) → KeepsActions (λ v. gets id off len)
-  pub committed : KeepsActions (λ v. commits_inner)

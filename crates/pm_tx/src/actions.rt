@@ -2,8 +2,8 @@ ghost use Rattle.std.specs.Prelude.{◌≡◌, ◌<◌, None, Some, length};
 ghost use Rattle.pm_objects.specs.declared.calls.Operation.TheVariants.{SetValue};
 ghost use Rattle.pm_objects.specs.declared.history.Value.TheVariants.{Refused};
 ghost use Rattle.pm_call.specs.Did as did;
-ghost use Rattle.pm_call.specs.Did.{IsAt, IsAtSo};
-ghost use Rattle.pm_tx.specs.Actions.{ActionsStay, Asked, HasTold, JudgedSet, ListsActions};
+ghost use Rattle.pm_call.specs.Did.{IsAt};
+ghost use Rattle.pm_tx.specs.Actions.{Asked, HasTold, JudgedSet};
 
 use pm_call::work_refusal;
 use pm_layout::WORD_BYTES;
@@ -12,12 +12,6 @@ use pm_world::{Lane, LawfulMem, LentOperation, LentValue, PendingAction};
 
 /// How many actions may be pending.
 const MAX_ACTIONS: usize = 63;
-
-/// A law: a lane that lists as many actions as are pending does so still after looks, and after what
-/// adds, writes and reads a range or commits a level within another. No code runs.
-pub fn actions_stay()
-    ensures { ActionsStay }
-{}
 
 /// Why a word at this byte of an object may not be asked for with so many actions pending, if so.
 pub(crate) fn judge_set(off: u64, many: usize) -> Result<(), Refusal>
@@ -73,7 +67,7 @@ pub fn set_value<M: LawfulMem>(
     off: u64,
     value: u64,
 ) -> Result<(), Refusal>
-    requires { did.work_refusal lane.old ≡ None → IsAtSo M.at lane.old ListsActions }
+    requires { did.work_refusal lane.old ≡ None → IsAt M.at lane.old }
     ensures { Asked M.at lane.old lane.new (SetValue id off value) result }
 {
     if let Some(why) = work_refusal(lane) {

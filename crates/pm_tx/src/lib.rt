@@ -15,7 +15,7 @@ mod outcome;
 mod ranges;
 mod stages;
 
-pub use actions::{actions_stay, set_value};
+pub use actions::set_value;
 pub use commits::{commit, process};
 pub use ending::end;
 pub use outcome::abort;
