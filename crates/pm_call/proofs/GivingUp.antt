@@ -42,7 +42,7 @@ use Rattle.pm_call.specs.Plans.{gives_up, takes_back, tells}
 use Rattle.pm_call.proofs.Ending.{abort_unrefused, begun_still, refusal_traced, refused_actions, refused_pending}
 use Rattle.pm_call.proofs.Frames.{noting}
 use Rattle.pm_call.proofs.RolledBack.{is_changed, rolls_back}
-use Rattle.pm_call.proofs.OverCalls.{Holdings, ended_holdings, ended_pending, noted_holdings, over_by, size_apart, size_no_generation, work_holdings}
+use Rattle.pm_call.proofs.OverCalls.{ClaimsStand, claims_at_work, claims_ended, claims_noted, ended_pending, over_by, size_apart, size_no_generation}
 use Rattle.pm_call.proofs.Staying.{has_pending}
 use Rattle.pm_call.proofs.TakenBack.{IsTakenBack, take_back_lawful}
 
@@ -168,19 +168,19 @@ module _ (s : Standing) (locks : List HeldLock) (is : IsAtWith s s.level locks) 
       (λ (a : IsAbort op reply). λ i. pending_with (a.is i) (a.replied i) p)
       gives
 
-  back_holdings : Holdings back locks
-  back_holdings = noted_holdings v b.notes [] b.calls (new_log Open b.generation) b.each locks
+  back_claims : ClaimsStand back locks
+  back_claims = claims_noted v b.notes [] b.calls (new_log Open b.generation) b.each locks
       (λ B found inside. b.others (8 * header_in v.fixed.shape v.claims B + 1)
       (λ p r e. let d = is.recorded p r in size_apart v is.sound B d.object.block d.index found inside d.found d.data_ d.within (e ∙ ap (word_of v.fixed.shape) d.at))
       (size_no_generation v is.working.lane B inside))
-      (work_holdings s s.level locks is)
+      (claims_at_work s s.level locks is)
 
   is_over : (n : ℕ) → did.IsOver (moved (with_locks locks s) (done n))
   is_over n = over_by (moved (with_locks locks s) (done n)) refl refl b.known
       (b.others (word_of_seal v.fixed.shape v.fixed.lane) (λ p r e. let d = is.recorded p r in far_seal v d.object.block d.index is.working.lane is.working.lanes d.within (e ∙ ap (word_of v.fixed.shape) d.at)) (λ e. omega (arith, e)) ∙ is.sealed)
       (facts n)
       (ended_pending back op reply n plain actions_same (has_pending v back refl refl is.pending))
-      (ended_holdings back op reply n locks back_holdings)
+      (claims_ended back op reply n locks back_claims)
 
   -- ---- the steps
   steps_ready : (n : ℕ) → Ready (after_all v (takes_back v)) (Tell op reply ∷ Draw n ∷ [])

@@ -41,7 +41,7 @@ use Rattle.pm_call.proofs.Frames.{header_so, noting}
 use Rattle.pm_call.proofs.InnerLevels.{commit_unrefused_at}
 use Rattle.pm_call.proofs.LoggedCalls as calls
 use Rattle.pm_call.proofs.Noting.{all_map}
-use Rattle.pm_call.proofs.OverCalls.{Holdings, decided_holdings, ended_holdings, ended_pending, found_decided, noted_holdings, over_by, size_decided, size_no_entry, size_no_seal, sizes_unmade, work_holdings}
+use Rattle.pm_call.proofs.OverCalls.{ClaimsStand, claims_at_work, claims_decided, claims_ended, claims_noted, ended_pending, found_decided, over_by, size_decided, size_no_entry, size_no_seal, sizes_unmade}
 use Rattle.pm_call.proofs.Outermost as outermost
 use Rattle.pm_call.proofs.Outermost.{leaves_committed}
 use Rattle.pm_call.proofs.Persisted.{IsDrained, drained_at, drained_by, drained_view}
@@ -145,13 +145,13 @@ module _ (s : Standing) (at : At s) (one_ : s.level ≡ 1) (some : s.entries ≢
   same_end = performed.same ∙ ap (λ c. record done { claims = c; changes = []; calls = end_.calls; log = new_log Idle (s.view.log.generation + 1) }) performed.noted.are
 
   -- ---- and the lane holds what it held
-  g_holdings : Holdings g s.locks
-  g_holdings = noted_holdings p written_log.noted.notes [] w.calls (record p.log { entries = all_logged p s.entries }) written_log.noted.each s.locks
+  g_claims : ClaimsStand g s.locks
+  g_claims = claims_noted p written_log.noted.notes [] w.calls (record p.log { entries = all_logged p s.entries }) written_log.noted.each s.locks
       (λ B found inside. sym (ap (λ (y : View). value_in y (8 * header_in p.fixed.shape p.claims B + 1)) same_g) ∙ (written_log.known (8 * header_in p.fixed.shape p.claims B + 1) (size_no_entry p here.working.lane B inside)).1)
-      (work_holdings (moved s p) s.level s.locks here)
+      (claims_at_work (moved s p) s.level s.locks here)
 
-  done_holdings : Holdings done s.locks
-  done_holdings = ended_holdings g Commit None n s.locks g_holdings
+  done_claims : ClaimsStand done s.locks
+  done_claims = claims_ended g Commit None n s.locks g_claims
 
   -- no entry is of a size
   size_made : (B : Block) → has_found p B ≡ true → is_occupancy p.fixed.shape B ≡ true → last_made found_ (all_logged p s.entries) (8 * header_in p.fixed.shape p.claims B + 1) ≡ None
@@ -172,9 +172,9 @@ module _ (s : Standing) (at : At s) (one_ : s.level ≡ 1) (some : s.entries ≢
       (ap (λ l. last_made found_ (all_logged p s.entries) (8 * l + 1)) (header_p B) ∙ size_made B (sym (found_p B) ∙ (sym (found_decided done no_turn here.working.lane B) ∙ found)) inside)
       ∙ sym (size_decided done no_turn here.working.lane B inside)))
 
-  final_holdings : Holdings final s.locks
-  final_holdings = noted_holdings (decided done) performed.noted.notes [] end_.calls (new_log Idle (s.view.log.generation + 1)) performed.noted.each s.locks size_end
-      (decided_holdings done no_turn here.working.lane s.locks done_holdings)
+  final_claims : ClaimsStand final s.locks
+  final_claims = claims_noted (decided done) performed.noted.notes [] end_.calls (new_log Idle (s.view.log.generation + 1)) performed.noted.each s.locks size_end
+      (claims_decided done no_turn here.working.lane s.locks done_claims)
 
   known_end : value_in final (word_of_generation s.view.fixed.shape s.view.fixed.lane) ≡ Some (s.view.log.generation + 1)
   known_end = sym (ap (λ (y : View). value_in y (word_of_generation s.view.fixed.shape s.view.fixed.lane)) same_end)
@@ -185,7 +185,7 @@ module _ (s : Standing) (at : At s) (one_ : s.level ≡ 1) (some : s.entries ≢
   over_end = over_by (moved s final) refl refl known_end (sym (ap (λ (y : View). value_in y (word_of_seal s.view.fixed.shape s.view.fixed.lane)) same_end) ∙ performed.seal)
       (calls.logged_facts (moved s p) s.level here known w written_log one_ n)
       (has_pending (uncalled done) (uncalled final) refl refl (ended_pending g Commit None n (λ q. refl) refl (has_pending p g refl refl here.pending)))
-      final_holdings
+      final_claims
 
   -- ---- the steps
   abbrev ends : View → List Step

@@ -42,7 +42,7 @@ use Rattle.pm_call.specs.Waiting.{HasPending, uncalled}
 use Rattle.pm_call.proofs.InnerLevels.{commit_unrefused_at, ran_commit, sets_none}
 use Rattle.pm_call.proofs.Frames.{noting}
 use Rattle.pm_call.proofs.Noting.{data_told}
-use Rattle.pm_call.proofs.OverCalls.{Holdings, ended_holdings, ended_pending, noted_holdings, over_by, size_no_generation, work_holdings}
+use Rattle.pm_call.proofs.OverCalls.{ClaimsStand, claims_at_work, claims_ended, claims_noted, ended_pending, over_by, size_no_generation}
 use Rattle.pm_call.proofs.Persisted.{IsDrained, drained_at, drained_by, drained_view}
 use Rattle.pm_call.proofs.RangeReads.{begun_more}
 use Rattle.pm_call.proofs.Staying.{has_pending}
@@ -117,8 +117,8 @@ module _ (s : Standing) (at : At s) (one_ : s.level ≡ 1) (none : s.entries ≡
   facts n = draws_keep_facts told n fact here.facts
 
   -- ---- and then it holds what it held
-  done_holdings : (n : ℕ) → Holdings (done n) s.locks
-  done_holdings n = ended_holdings p Commit None n s.locks (work_holdings (moved s p) s.level s.locks here)
+  done_claims : (n : ℕ) → ClaimsStand (done n) s.locks
+  done_claims n = claims_ended p Commit None n s.locks (claims_at_work (moved s p) s.level s.locks here)
 
   done_pending : (n : ℕ) → HasPending (uncalled (done n))
   done_pending n = ended_pending p Commit None n (λ q. refl) refl here.pending
@@ -130,9 +130,9 @@ module _ (s : Standing) (at : At s) (one_ : s.level ≡ 1) (none : s.entries ≡
       → IsOver (moved s (noting (done n) notes [] calls (new_log Idle generation)))
   over_then n notes calls generation each others known sealed = over_by (moved s (noting (done n) notes [] calls (new_log Idle generation))) refl refl known sealed (facts n)
       (has_pending (uncalled (done n)) (uncalled (noting (done n) notes [] calls (new_log Idle generation))) refl refl (done_pending n))
-      (noted_holdings (done n) notes [] calls (new_log Idle generation) each s.locks
+      (claims_noted (done n) notes [] calls (new_log Idle generation) each s.locks
       (λ B found inside. others (8 * header_in v.fixed.shape p.claims B + 1) (size_no_generation p here.working.lane B inside))
-      (done_holdings n))
+      (done_claims n))
 
 -- WHAT THE END OF THE RECORDS LEAVES
 record EndsBy (s : Standing) (u : View) (steps : List Step) (records : List Recorded) (number : ℕ) : Type 0 where

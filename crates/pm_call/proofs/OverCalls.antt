@@ -1,4 +1,4 @@
--- WHAT A LANE HOLDS, AND KNOWS OF BLOCKS, through the end of its call: whatever becomes of its log, it is the same. So is what is pending.
+-- WHAT A LANE HOLDS, KNOWS OF BLOCKS AND HAS PENDING, through the end of its call: the same, whatever becomes of its log.
 use Rattle.std.proofs.Common.{◌≡◌, ◌≢◌, ℕ, ◌+◌, ◌*◌, ◌/◌, ◌<◌, ◌≤◌, true, false, cond, ◌==◌, ◌&&◌, ◌||◌, nat_le, nat_lt, List, [], ◌∷◌, ◌++◌, map, Option, None, Some, refl, sym, ap, ◌∙◌, subst, arith, ne_eqb}
 use Rattle.std.specs.List.{AllByRecursion}
 use Rattle.std.proofs.lemmas.Bool.{and_right, both_ways, cond-false, false_from_ne_true, ltb-true}
@@ -45,7 +45,8 @@ use Rattle.pm_call.proofs.RecordedWords.{header_apart, one_use}
 use Rattle.pm_call.proofs.SetEntries.{set_at}
 use Rattle.pm_call.proofs.Staying.{has_pending, holds_with, noted_holds, noted_own, pending_told}
 
-pub record Holdings (v : View) (locks : List HeldLock) : Type 0 where
+-- THE LANE'S CLAIMS STAND: it makes no run, the blocks that it found are sound with sizes that fit, and these are all locks that it holds
+pub record ClaimsStand (v : View) (locks : List HeldLock) : Type 0 where
   pub lane : v.fixed.lane < v.fixed.shape.lanes
   pub lanes : v.fixed.shape.lanes ≤ 32
   pub zones : v.fixed.shape.zones ≤ 32
@@ -55,9 +56,9 @@ pub record Holdings (v : View) (locks : List HeldLock) : Type 0 where
   pub holds : HoldsAll v locks
   pub own : KnowsOwn v
 
--- a lane at work has them
-pub work_holdings : (s : Standing) (level : ℕ) (all : List HeldLock) → IsAtWith s level all → Holdings s.view all
-work_holdings s level all at = record {
+-- so they do at work
+pub claims_at_work : (s : Standing) (level : ℕ) (all : List HeldLock) → IsAtWith s level all → ClaimsStand s.view all
+claims_at_work s level all at = record {
   lane = at.working.lane;
   lanes = at.working.lanes;
   zones = at.working.zones;
@@ -71,7 +72,7 @@ work_holdings s level all at = record {
 -- once its log is empty, and all is drained, its call is over
 pub over_by : (s : Standing) → s.view.log ≡ new_log Idle s.view.log.generation → s.view.changes ≡ []
     → value_in s.view (word_of_generation s.view.fixed.shape s.view.fixed.lane) ≡ Some s.view.log.generation → value_in s.view (word_of_seal s.view.fixed.shape s.view.fixed.lane) ≡ Some 0
-    → HaveFacts s.view → HasPending (uncalled s.view) → Holdings s.view s.locks → IsOver s
+    → HaveFacts s.view → HasPending (uncalled s.view) → ClaimsStand s.view s.locks → IsOver s
 over_by s log drained known sealed facts pending h = record {
   log = log;
   drained = drained;
@@ -121,8 +122,8 @@ module _ (v : View) (op : Operation) (reply : Option Value) (n : ℕ) where
   sizes_ended f (Big h) x = f (Big h) x
   sizes_ended f Root x = f Root x
 
-  pub ended_holdings : (locks : List HeldLock) → Holdings v locks → Holdings ended locks
-  ended_holdings locks h = record {
+  pub claims_ended : (locks : List HeldLock) → ClaimsStand v locks → ClaimsStand ended locks
+  claims_ended locks h = record {
     lane = h.lane;
     lanes = h.lanes;
     zones = h.zones;
@@ -148,9 +149,9 @@ module _ (v : View) (ns : List Note) (changes : List Undrained) (calls : ℕ) (l
   abbrev next : View
   next = noting v ns changes calls log
 
-  pub noted_holdings : (locks : List HeldLock) → ((B : Block) → has_found v B ≡ true → is_occupancy v.fixed.shape B ≡ true → value_in next (size_in v B) ≡ value_in v (size_in v B))
-      → Holdings v locks → Holdings next locks
-  noted_holdings locks same h =
+  pub claims_noted : (locks : List HeldLock) → ((B : Block) → has_found v B ≡ true → is_occupancy v.fixed.shape B ≡ true → value_in next (size_in v B) ≡ value_in v (size_in v B))
+      → ClaimsStand v locks → ClaimsStand next locks
+  claims_noted locks same h =
       let sound = sound_so v ns changes calls log are h.unmaking h.sound in record {
         lane = h.lane;
         lanes = h.lanes;
@@ -233,8 +234,8 @@ module _ (v : View) (none : (B : Block) → turn (latest (redos v.log.entries)) 
   sizes_decided f (Big h) x t o e = f (Big h) x (sym (found_decided (Big h)) ∙ t) o (sym (size_decided (Big h) o) ∙ e)
   sizes_decided f Root x t o e = absurd (both_ways false refl o)
 
-  pub decided_holdings : (locks : List HeldLock) → Holdings v locks → Holdings (decided v) locks
-  decided_holdings locks h = record {
+  pub claims_decided : (locks : List HeldLock) → ClaimsStand v locks → ClaimsStand (decided v) locks
+  claims_decided locks h = record {
     lane = h.lane;
     lanes = h.lanes;
     zones = h.zones;

@@ -1,4 +1,4 @@
--- What a lane holds and has pending stays, as it notes what it knows, tells an operation and takes its number.
+-- What a lane holds and has pending stays, as it notes what it knows and tells an operation.
 use Rattle.std.proofs.Common.{◌≡◌, ◌≢◌, ℕ, ◌+◌, Bool, true, List, [], ◌∷◌, ◌++◌, ◌||◌, length, map, Option, refl, sym, ◌∙◌, ap, subst}
 use Rattle.std.specs.List.{AllByRecursion}
 use Rattle.pm_model.specs.Pending.{Pending, SetWord, max_actions}
