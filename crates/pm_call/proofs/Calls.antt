@@ -1,7 +1,9 @@
 -- How what the parts of a call came to makes what the call did.
 use Rattle.std.proofs.Common.{◌≡◌, ◌≢◌, ℕ, zero, suc, ◌+◌, inl, inr, true, false, Some, None, Option, Result, Ok, Err, refl, sym, ap, subst, arith}
 use Rattle.std.proofs.lemmas.Bool.{both_ways}
+use Rattle.pm_model.specs.Inside.{is_action, is_inside}
 use Rattle.pm_objects.specs.declared.calls.Operation.{Operation}
+use Rattle.pm_objects.specs.declared.history.Value.TheVariants.{Refused}
 use Rattle.pm_objects.specs.declared.refusal.Refusal.{Refusal}
 use Rattle.pm_objects.specs.declared.refusal.Refusal.TheVariants as refusal
 use Rattle.pm_view.specs.View.{View}
@@ -11,7 +13,8 @@ use Rattle.pm_crash.specs.Looked.{items_seen, pool_seen}
 use Rattle.pm_crash.specs.Sim.{tx_with}
 use Rattle.pm_plan.specs.Plans.{Plan}
 use Rattle.pm_call.specs.At.{At}
-use Rattle.pm_call.specs.Did.{Acted, After, Came, Checked, Cut, Did, DidSo, Ends, Found, GaveUp, GivesUpFor, IsAt, IsAtSo, IsRefused, Refuses, Tried, next, unseen, work_refusal}
+use Rattle.pm_call.specs.Did.{Acted, After, Came, Checked, Cut, Did, DidSo, Ends, Found, GaveUp, IsAt, IsAtSo, IsRefused, Tried, next, unseen, work_refusal}
+use Rattle.pm_call.specs.GivenUp.{GivesUp, GivesUpFor, IsAtBut, Refuses}
 use Rattle.pm_call.specs.Held.{Looks}
 use Rattle.pm_call.proofs.Ending.{refusal_traced}
 
@@ -72,13 +75,18 @@ module _ {M : Type 0} (at : M → View → Type 0) (old mid new : Lane M) (op : 
   checked_so Q x is checked = let t = checked is.standing is.works is.stands in record { standing = moved is.standing t.view; works = t.holds.1; stands = t.holds.2; holds = t.holds.0 }
 
   -- what was tried is refused
-  refused_here : {T : Type 0} (plan : View → Plan) (Is : View → T → Type 0) (s : Standing) (r : Refusal) → r ≢ refusal.Stopped → Came {T = T} at mid op plan Is (Err r) s → IsAtSo at mid (λ t. IsRefused t op r)
-  refused_here plan Is s refusal.Stopped goes came = absurd (goes refl)
-  refused_here plan Is s r goes came = record { standing = s; works = came.1; stands = came.2; holds = came.0 }
+  gives_for : is_inside op ≡ true → is_action op ≡ false → (s : Standing) (r : Refusal) → IsRefused s op r → GivesUp s op (Some (Refused r))
+  gives_for inside plain s r refused = inl (record { inside = inside; plain = plain; seen = unseen; root = None; looks = refused.looks; refusal = r; first = refused.first; replied = refl })
 
-  pub refused_so : {T : Type 0} (plan : View → Plan) (Is : View → T → Type 0) (r : Refusal) → IsAt at old → Tried at old mid op plan Is (Err r) → r ≢ refusal.Stopped → IsAtSo at mid (λ t. IsRefused t op r)
+  refused_here : {T : Type 0} (plan : View → Plan) (Is : View → T → Type 0) (s : Standing) (r : Refusal) → is_inside op ≡ true → is_action op ≡ false → r ≢ refusal.Stopped
+      → Came {T = T} at mid op plan Is (Err r) s → IsAtBut at mid (λ t. GivesUp t op (Some (Refused r)))
+  refused_here plan Is s refusal.Stopped inside plain goes came = absurd (goes refl)
+  refused_here plan Is s r inside plain goes came = record { standing = s; locks = s.locks; works = came.1; stands = came.2; holds = gives_for inside plain s r came.0 }
+
+  pub refused_so : {T : Type 0} (plan : View → Plan) (Is : View → T → Type 0) (r : Refusal) → is_inside op ≡ true → is_action op ≡ false → IsAt at old → Tried at old mid op plan Is (Err r) → r ≢ refusal.Stopped
+      → IsAtBut at mid (λ t. GivesUp t op (Some (Refused r)))
   unfolding Tried
-  refused_so plan Is r is tried goes = let t = tried is.standing is.works is.stands in refused_here plan Is (moved is.standing t.view) r goes t.holds
+  refused_so plan Is r inside plain is tried goes = let t = tried is.standing is.works is.stands in refused_here plan Is (moved is.standing t.view) r inside plain goes t.holds
 
   -- done, or stopped, or given up
   pub did_ok : {T : Type 0} (plan : View → Plan) (Is : View → T → Type 0) (x : T) → work_refusal old ≡ None → Tried at old new op plan Is (Ok x) → Did at old new op plan Is (Ok x)
@@ -91,17 +99,19 @@ module _ {M : Type 0} (at : M → View → Type 0) (old mid new : Lane M) (op : 
 
   ends_here : {T : Type 0} (plan : View → Plan) (Is : View → T → Type 0) (s : Standing) (why answer : Refusal) → IsRefused s op why → GivesUpFor at new op why answer s → Ends {T = T} at new op plan Is (Err answer) s
   ends_here plan Is s why refusal.Stopped refused gives = inr (why, gives.0, refused, gives.1)
-  ends_here {T} plan Is s why answer refused gives = subst (λ (r : Refusal). GaveUp at new s op r) (sym gives.0) gives.1
+  ends_here {T} plan Is s why answer refused gives = subst (λ (r : Refusal). GaveUp at new s op r) (sym gives.0) (record { refused = refused; number = gives.1.number; ready = gives.1.ready; sees = gives.1.sees; over = gives.1.over })
 
-  came_to : {T : Type 0} (plan : View → Plan) (Is : View → T → Type 0) (why answer : Refusal) → Refuses at mid new op why answer → (s : Standing) → Came {T = T} at mid op plan Is (Err why) s → Ends {T = T} at new op plan Is (Err answer) s
+  came_to : {T : Type 0} (plan : View → Plan) (Is : View → T → Type 0) (why answer : Refusal) → is_inside op ≡ true → is_action op ≡ false → Refuses at mid new op why answer
+      → (s : Standing) → Came {T = T} at mid op plan Is (Err why) s → Ends {T = T} at new op plan Is (Err answer) s
   unfolding Refuses
-  came_to {T} plan Is refusal.Stopped answer refuses s came = subst (λ (r : Refusal). Ends {T = T} at new op plan Is (Err r) s) (sym refuses.0) (inl (came.0, cut_here s (plan s.view) came.1 refuses.1))
-  came_to plan Is why answer refuses s came = ends_here plan Is s why answer came.0 (refuses s came.1 came.2 came.0)
+  came_to {T} plan Is refusal.Stopped answer inside plain refuses s came = subst (λ (r : Refusal). Ends {T = T} at new op plan Is (Err r) s) (sym refuses.0) (inl (came.0, cut_here s (plan s.view) came.1 refuses.1))
+  came_to plan Is why answer inside plain refuses s came = ends_here plan Is s why answer came.0 (refuses s s.locks came.1 came.2 (gives_for inside plain s why came.0))
 
-  pub did_err : {T : Type 0} (plan : View → Plan) (Is : View → T → Type 0) (why answer : Refusal) → work_refusal old ≡ None → Tried at old mid op plan Is (Err why) → Refuses at mid new op why answer → Did at old new op plan Is (Err answer)
+  pub did_err : {T : Type 0} (plan : View → Plan) (Is : View → T → Type 0) (why answer : Refusal) → is_inside op ≡ true → is_action op ≡ false → work_refusal old ≡ None
+      → Tried at old mid op plan Is (Err why) → Refuses at mid new op why answer → Did at old new op plan Is (Err answer)
   unfolding Tried Did
-  did_err {T} plan Is why answer none tried refuses = subst (λ w. DidSo {T = T} w at old new op plan Is (Err answer)) (sym none)
-      (λ s works is. after_so s (Came {T = T} at mid op plan Is (Err why)) (Ends {T = T} at new op plan Is (Err answer)) (came_to plan Is why answer refuses) (tried s works is))
+  did_err {T} plan Is why answer inside plain none tried refuses = subst (λ w. DidSo {T = T} w at old new op plan Is (Err answer)) (sym none)
+      (λ s works is. after_so s (Came {T = T} at mid op plan Is (Err why)) (Ends {T = T} at new op plan Is (Err answer)) (came_to plan Is why answer inside plain refuses) (tried s works is))
 
   -- refused for its stage
   pub did_nothing : {T : Type 0} (plan : View → Plan) (Is : View → T → Type 0) (r : Refusal) → work_refusal old ≡ Some r → Did at old old op plan Is (Err r)

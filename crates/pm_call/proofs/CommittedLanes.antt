@@ -22,6 +22,7 @@ use Rattle.pm_call.specs.Finishing.{CanFinish, Finished, HasNumber, StandsAs, nu
 use Rattle.pm_call.specs.Plans.{commits, finishes}
 use Rattle.pm_call.specs.Stages.{Leaves, unlisted}
 use Rattle.pm_call.proofs.LoggedCommits.{can_finish, outermost_levels_may_be_committed}
+use Rattle.pm_call.proofs.OverCalls.{over_as}
 use Rattle.pm_call.proofs.RollbackLanes.{keeps_at, ran_err, ran_then}
 use Rattle.pm_call.proofs.TakenBack.{persisted_log}
 
@@ -132,4 +133,4 @@ committed_are_past at lane s is one_ by = record {
     t = unlisted (next s (commits s.entries by.found by.number))
 
     over : IsOver (unlisted (next s (commits s.entries by.found by.number)))
-    over = record { log = by.over.log; drained = by.over.drained; sound = by.over.sound; known = by.over.known; sealed = by.over.sealed; held = by.over.held; lines = by.over.lines; facts = by.over.facts }
+    over = over_as (next s (commits s.entries by.found by.number)) [] s.level by.over

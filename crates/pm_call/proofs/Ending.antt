@@ -2,6 +2,7 @@
 use Rattle.std.proofs.Common.{◌≡◌, ℕ, ◌≤◌, ◌==◌, ◌&&◌, nat_le, Bool, true, false, not, List, [], ◌∷◌, ◌++◌, refl, sym, ap, ◌∙◌, arith, None, Some}
 use Rattle.std.proofs.lemmas.Bool.{and_left, and_right, both_ways, cond-true, cond-false, ne_eqb}
 use Rattle.pm_model.specs.Inside.{is_untraced}
+use Rattle.pm_model.specs.Pending.{Pending}
 use Rattle.pm_model.specs.Refusals.{Seen, Test, first_of, refusal_of, tests}
 use Rattle.pm_model.specs.Transaction.{Transaction, is_working}
 use Rattle.pm_objects.specs.declared.calls.Operation.{Operation}
@@ -10,6 +11,7 @@ use Rattle.pm_objects.specs.declared.history.Value.TheVariants.{Refused}
 use Rattle.pm_objects.specs.declared.refusal.Refusal.{Refusal}
 use Rattle.pm_view.specs.View.{Told}
 use Rattle.pm_view.specs.Views.{actions_told}
+use Rattle.pm_crash.specs.Calls.{pending_with}
 use Rattle.pm_crash.specs.SimFacts.{is_begun}
 
 -- ---- the first refusal of tests that leave a trace where they apply
@@ -79,6 +81,18 @@ pub refused_actions : (op : Operation) (r : Refusal) (actions : List Told) → a
 refused_actions op r actions = go op where
   go : (o : Operation) → actions_told o (Some (Refused r)) actions ≡ actions
   go (Reserve size kind) = refl
+  go (DeferFree id) = refl
+  go (SetValue id off value) = refl
+  go Publish = refl
+  go Rattle.pm_objects.specs.declared.calls.Operation.TheVariants.Cancel = refl
+  go o = refl
+
+-- and of what is pending
+pub refused_pending : (op : Operation) (r : Refusal) (p : Pending) → pending_with op (Some (Refused r)) p ≡ p
+refused_pending op r p = go op where
+  go : (o : Operation) → pending_with o (Some (Refused r)) p ≡ p
+  go (Reserve size kind) = refl
+  go (WriteReserved id at bytes) = refl
   go (DeferFree id) = refl
   go (SetValue id off value) = refl
   go Publish = refl

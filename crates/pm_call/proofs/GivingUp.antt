@@ -1,30 +1,32 @@
 -- A LANE AT WORK MAY GIVE ITS TRANSACTION UP, whatever number it takes; and the call is over then.
-use Rattle.std.proofs.Common.{◌≡◌, ◌≢◌, ℕ, ◌*◌, ◌<◌, ◌≤◌, inl, inr, ⊎_elim, true, false, ◌&&◌, not, Contains, rules, List, [], ◌∷◌, ◌++◌, refl, sym, ap, ◌∙◌, subst, arith, Option, None, Some}
+use Rattle.std.proofs.Common.{◌≡◌, ◌≢◌, ℕ, ◌+◌, ◌*◌, ◌<◌, ◌≤◌, inl, inr, ⊎_elim, true, false, ◌&&◌, not, Contains, rules, List, [], ◌∷◌, ◌++◌, refl, sym, ap, ◌∙◌, subst, arith, Option, None, Some}
 use Rattle.std.proofs.lemmas.Bool.{and_from, both_ways, or_left, or_right}
 use Rattle.std.proofs.lemmas.List.Elements.{All-nil}
 use Rattle.pm_layout.specs.Areas.{word_of_generation, word_of_seal}
 use Rattle.pm_model.specs.Inside.{Ran, is_action, is_refusal}
+use Rattle.pm_model.specs.Pending.{Pending}
 use Rattle.pm_model.specs.Shown.{aborts, is_abort}
 use Rattle.pm_model.specs.Transaction.{is_working}
 use Rattle.pm_objects.specs.declared.calls.Operation.{Operation}
 use Rattle.pm_objects.specs.declared.history.Value.{Value}
 use Rattle.pm_objects.specs.declared.ids.Oid.{Oid}
-use Rattle.pm_view.specs.Claims.{class}
+use Rattle.pm_view.specs.Claims.{class, header_in}
 use Rattle.pm_view.specs.Log.{Open, new_log}
 use Rattle.pm_view.specs.Places.{Place, InRun, InHuge, Descr, RootWord, Block, Small, Big, Root, word_of}
 use Rattle.pm_view.specs.Steps.Step.{Draw, Tell}
 use Rattle.pm_view.specs.View.{View}
-use Rattle.pm_view.specs.Views.{after, after_all}
+use Rattle.pm_view.specs.Views.{actions_told, after, after_all}
 use Rattle.pm_world.specs.LaneFields.{Standing, last_number, moved}
 use Rattle.pm_world.specs.Lawful.{MayDraw}
 use Rattle.pm_world.specs.Sights.{is_pictured}
-use Rattle.pm_crash.specs.Calls.{Fact}
+use Rattle.pm_world.specs.declared.lane.HeldLock.{HeldLock}
+use Rattle.pm_crash.specs.Calls.{Fact, pending_with}
 use Rattle.pm_crash.specs.Facts.{HaveFacts}
 use Rattle.pm_crash.specs.Looked.{word_place, words_in}
-use Rattle.pm_crash.specs.Sim.{Sim, Tells}
+use Rattle.pm_crash.specs.Sim.{Sim}
 use Rattle.pm_crash.specs.SimFacts.{IsOver}
 use Rattle.pm_model.specs.Refusals.{Seen}
-use Rattle.pm_crash.specs.SimOps.{RollsBack, IsAborted, IsRefusedBy, LookedAt}
+use Rattle.pm_crash.specs.SimOps.{RollsBack, IsAborted, IsRefusedBy}
 use Rattle.pm_crash.proofs.EntryFacts.{draws_keep_facts}
 use Rattle.pm_crash.proofs.Rollbacks.{sim_rolls_back}
 use Rattle.pm_crash.proofs.SimFacts.{calls_without_log, no_entries, without_entries_have_facts}
@@ -32,15 +34,16 @@ use Rattle.pm_crash.proofs.Simulation.{no_turn}
 use Rattle.pm_crash.proofs.Telling.{no_root_is_asked}
 use Rattle.pm_plan.specs.Plans.{Ready, in_turn, one}
 use Rattle.pm_plan.proofs.Plans.{after_all-append, ready_both}
-use Rattle.pm_call.specs.At.{At}
+use Rattle.pm_call.specs.At.{IsAtWith}
 use Rattle.pm_call.specs.Did as did
-use Rattle.pm_call.specs.Did.{IsRefused, next, unseen}
-use Rattle.pm_call.specs.GivenUp.{GivesUp, IsAbort, IsRefusedWith, LeavesOver, TransactionsMayBeGivenUp}
+use Rattle.pm_call.specs.Did.{unseen}
+use Rattle.pm_call.specs.GivenUp.{GivesUp, IsAbort, IsRefusedWith, LeavesOver, TransactionsMayBeGivenUp, with_locks}
 use Rattle.pm_call.specs.Plans.{gives_up, takes_back, tells}
-use Rattle.pm_call.proofs.Ending.{abort_unrefused, begun_still, refusal_traced}
+use Rattle.pm_call.proofs.Ending.{abort_unrefused, begun_still, refusal_traced, refused_actions, refused_pending}
 use Rattle.pm_call.proofs.Frames.{noting}
 use Rattle.pm_call.proofs.RolledBack.{is_changed, rolls_back}
-use Rattle.pm_call.proofs.Noting.{held_so, sound_so}
+use Rattle.pm_call.proofs.OverCalls.{ClaimsStand, claims_at_work, claims_ended, claims_noted, ended_pending, over_by, size_apart, size_no_generation}
+use Rattle.pm_call.proofs.Staying.{has_pending}
 use Rattle.pm_call.proofs.TakenBack.{IsTakenBack, take_back_lawful}
 
 -- a word of which a lane has a picture is in no lane's area
@@ -59,7 +62,7 @@ far_seal v Root k lane lanes within e = absurd (omega (arith, within))
 none_among : (id : Oid) → Contains [] id → ⊥
 none_among id among = search rules
 
-module _ (s : Standing) (is : At s) (op : Operation) (reply : Option Value) (gives : GivesUp s op reply) where
+module _ (s : Standing) (locks : List HeldLock) (is : IsAtWith s s.level locks) (op : Operation) (reply : Option Value) (gives : GivesUp s op reply) where
   abbrev pub v : View
   v = s.view
 
@@ -152,27 +155,32 @@ module _ (s : Standing) (is : At s) (op : Operation) (reply : Option Value) (giv
   facts : (n : ℕ) → HaveFacts (done n)
   facts n = draws_keep_facts told n fact is.facts
 
-  is_over : (n : ℕ) → did.IsOver (moved s (done n))
-  is_over n = let sound = sound_so v b.notes [] b.calls (new_log Open b.generation) b.each is.working.unmaking is.sound in record {
-    log = refl;
-    drained = refl;
-    sound = record { small = sound.small; some = sound.some; zone = sound.zone; huge = sound.huge };
-    known = b.known;
-    sealed = b.others (word_of_seal v.fixed.shape v.fixed.lane) (λ p r e. let d = is.recorded p r in far_seal v d.object.block d.index is.working.lane is.working.lanes d.within (e ∙ ap (word_of v.fixed.shape) d.at)) (λ e. omega (arith, e)) ∙ is.sealed;
-    held = all_held n s.locks (held_so v b.notes [] b.calls (new_log Open b.generation) b.each is.working.unmaking s.locks is.held);
-    lines = is.lines;
-    facts = facts n;
-  }
-    where
-      all_held : (n : ℕ) (locks : List Rattle.pm_world.specs.declared.lane.HeldLock.HeldLock) → Rattle.pm_call.specs.Held.AreHeld back locks → Rattle.pm_call.specs.Held.AreHeld (done n) locks
-      all_held n [] all = tt
-      all_held n (l ∷ locks) all = (
-        record {
-          held = all.0.held;
-          object = ⊎_elim (λ (e : l.line ≡ 0). inl e) (λ (o : Rattle.pm_call.specs.Held.HasObject back l.line). inr (record { block = o.block; found = o.found; at = o.at; inside = o.inside })) all.0.object;
-        },
-        all_held n locks all.1,
-      )
+  -- ---- and the lane holds what it held
+  pub actions_same : actions_told op reply v.actions ≡ v.actions
+  actions_same = ⊎_elim
+      (λ (r : IsRefusedWith s op reply). ap (λ o. actions_told op o v.actions) r.replied ∙ refused_actions op r.refusal v.actions)
+      (λ (a : IsAbort op reply). λ i. actions_told (a.is i) (a.replied i) v.actions)
+      gives
+
+  plain : (p : Pending) → pending_with op reply p ≡ p
+  plain p = ⊎_elim
+      (λ (r : IsRefusedWith s op reply). ap (λ o. pending_with op o p) r.replied ∙ refused_pending op r.refusal p)
+      (λ (a : IsAbort op reply). λ i. pending_with (a.is i) (a.replied i) p)
+      gives
+
+  back_claims : ClaimsStand back locks
+  back_claims = claims_noted v b.notes [] b.calls (new_log Open b.generation) b.each locks
+      (λ B found inside. b.others (8 * header_in v.fixed.shape v.claims B + 1)
+      (λ p r e. let d = is.recorded p r in size_apart v is.sound B d.object.block d.index found inside d.found d.data_ d.within (e ∙ ap (word_of v.fixed.shape) d.at))
+      (size_no_generation v is.working.lane B inside))
+      (claims_at_work s s.level locks is)
+
+  is_over : (n : ℕ) → did.IsOver (moved (with_locks locks s) (done n))
+  is_over n = over_by (moved (with_locks locks s) (done n)) refl refl b.known
+      (b.others (word_of_seal v.fixed.shape v.fixed.lane) (λ p r e. let d = is.recorded p r in far_seal v d.object.block d.index is.working.lane is.working.lanes d.within (e ∙ ap (word_of v.fixed.shape) d.at)) (λ e. omega (arith, e)) ∙ is.sealed)
+      (facts n)
+      (ended_pending back op reply n plain actions_same (has_pending v back refl refl is.pending))
+      (claims_ended back op reply n locks back_claims)
 
   -- ---- the steps
   steps_ready : (n : ℕ) → Ready (after_all v (takes_back v)) (Tell op reply ∷ Draw n ∷ [])
@@ -199,13 +207,13 @@ module _ (s : Standing) (is : At s) (op : Operation) (reply : Option Value) (giv
   pub taken_at : after_all v (takes_back v) ≡ back
   taken_at = b.same
 
-  pub leaves_over : (n : ℕ) → LeavesOver s op reply n
+  pub leaves_over : (n : ℕ) → LeavesOver (with_locks locks s) op reply n
   leaves_over n = record {
     ready = subst (Ready v) (sym (plan_is n)) (ready_both v (takes_back v) (Tell op reply ∷ Draw n ∷ []) taken.0 (steps_ready n));
-    over = subst (λ (w : View). did.IsOver (moved s w)) (sym (ends_at n)) (is_over n);
+    over = subst (λ (w : View). did.IsOver (moved (with_locks locks s) w)) (sym (ends_at n)) (is_over n);
     generation = ap (λ (w : View). w.log.generation) (ends_at n) ∙ b.next;
     number = ap (λ (w : View). last_number w.entries) (ends_at n);
   }
 
 pub transactions_may_be_given_up : TransactionsMayBeGivenUp
-transactions_may_be_given_up s op reply n is gives = leaves_over s is op reply gives n
+transactions_may_be_given_up s locks op reply n is gives = leaves_over s locks is op reply gives n

@@ -18,6 +18,7 @@ pub mod RangeWords
 pub mod RangeReads
 pub mod SmallWords
 pub mod Staying
+pub mod OverCalls
 pub mod Storing
 pub mod RangeWrites
 pub mod WriteLanes

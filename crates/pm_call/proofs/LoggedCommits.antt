@@ -1,5 +1,5 @@
 -- THE OUTERMOST LEVEL OF A CALL WITH ENTRIES MAY BE COMMITTED, whatever number it takes and whatever its steps find; and the call is over then.
-use Rattle.std.proofs.Common.{◌≡◌, ◌≢◌, ℕ, ◌+◌, ◌/◌, inl, inr, ⊎_elim, cond, eq-eqb, ◌==◌, List, [], ◌∷◌, ◌++◌, map, refl, sym, ap, ◌∙◌, subst, arith, None, Some}
+use Rattle.std.proofs.Common.{◌≡◌, ◌≢◌, ℕ, ◌+◌, ◌*◌, ◌/◌, true, cond, eq-eqb, ◌==◌, List, [], ◌∷◌, ◌++◌, map, refl, sym, ap, ◌∙◌, subst, arith, None, Some}
 use Rattle.std.specs.List.{AllByRecursion}
 use Rattle.std.proofs.lemmas.Bool.{cond-true}
 use Rattle.pm_layout.specs.declared.shape.Shape.{Shape}
@@ -7,20 +7,20 @@ use Rattle.pm_layout.specs.Areas.{word_of_generation, word_of_seal}
 use Rattle.pm_objects.specs.declared.calls.Operation.TheVariants.{Commit}
 use Rattle.pm_record.specs.Redo.{outcome}
 use Rattle.pm_record.specs.declared.redo.Redo.{Redo}
-use Rattle.pm_view.specs.Claims.{found, found_after}
+use Rattle.pm_view.specs.Claims.{header_in}
 use Rattle.pm_view.specs.Entries.{Entry, first_of_two, latest, redos, turn}
 use Rattle.pm_view.specs.Log.{Idle, Recorded, new_log}
-use Rattle.pm_view.specs.Places.{Block, Small, Big}
+use Rattle.pm_view.specs.Places.{Block}
 use Rattle.pm_view.specs.Steps.{Step}
 use Rattle.pm_view.specs.Steps.Step.{Draw, Tell}
 use Rattle.pm_view.specs.View.{View}
 use Rattle.pm_view.specs.Views.{after, after_all, value_in}
-use Rattle.pm_world.specs.InWorld.{IsSound}
 use Rattle.pm_world.specs.LaneFields.{Standing, last_number, moved}
+use Rattle.pm_world.specs.Lanes.{is_occupancy}
 use Rattle.pm_world.specs.Logs.{ends_with}
-use Rattle.pm_world.specs.declared.lane.HeldLock.{HeldLock}
 use Rattle.pm_crash.specs.Footprints.{has_found}
 use Rattle.pm_crash.specs.Sim.{lists_of}
+use Rattle.pm_plan.proofs.Notes as notes
 use Rattle.pm_plan.specs.Plans.{Plan, Ready, in_turn, one, persists_all}
 use Rattle.pm_plan.proofs.Going.{persists_all_lawful}
 use Rattle.pm_plan.proofs.Plans.{after_all-append, ready_both}
@@ -34,16 +34,18 @@ use Rattle.pm_call.specs.At.{At, IsAt}
 use Rattle.pm_call.specs.Commits.{KnowsEntries, LeavesCommitted, OutermostLevelsMayBeCommitted}
 use Rattle.pm_call.specs.Did.{IsOver}
 use Rattle.pm_call.specs.Finishing.{CanFinish, CanLogCall}
-use Rattle.pm_call.specs.Held.{AreHeld, HasObject}
 use Rattle.pm_call.specs.Plans.{commits, ends_call}
 use Rattle.pm_call.specs.Ranges.{KnowsWord}
-use Rattle.pm_call.proofs.Frames.{noting}
+use Rattle.pm_call.specs.Waiting.{uncalled}
+use Rattle.pm_call.proofs.Frames.{header_so, noting}
 use Rattle.pm_call.proofs.InnerLevels.{commit_unrefused_at}
 use Rattle.pm_call.proofs.LoggedCalls as calls
-use Rattle.pm_call.proofs.Noting.{all_map, held_so, sound_so}
+use Rattle.pm_call.proofs.Noting.{all_map}
+use Rattle.pm_call.proofs.OverCalls.{ClaimsStand, claims_at_work, claims_decided, claims_ended, claims_noted, ended_pending, found_decided, over_by, size_decided, size_no_entry, size_no_seal, sizes_unmade}
 use Rattle.pm_call.proofs.Outermost as outermost
 use Rattle.pm_call.proofs.Outermost.{leaves_committed}
 use Rattle.pm_call.proofs.Persisted.{IsDrained, drained_at, drained_by, drained_view}
+use Rattle.pm_call.proofs.Staying.{has_pending}
 use Rattle.pm_call.proofs.SetEntries.{can_enter_all}
 
 -- the last entry ends the generation
@@ -143,32 +145,36 @@ module _ (s : Standing) (at : At s) (one_ : s.level ≡ 1) (some : s.entries ≢
   same_end = performed.same ∙ ap (λ c. record done { claims = c; changes = []; calls = end_.calls; log = new_log Idle (s.view.log.generation + 1) }) performed.noted.are
 
   -- ---- and the lane holds what it held
-  found_decided : (B : Block) → has_found (decided done) B ≡ has_found g B
-  found_decided B = ap (λ o. found_after o (has_found g B)) (no_turn B)
+  g_claims : ClaimsStand g s.locks
+  g_claims = claims_noted p written_log.noted.notes [] w.calls (record p.log { entries = all_logged p s.entries }) written_log.noted.each s.locks
+      (λ B found inside. sym (ap (λ (y : View). value_in y (8 * header_in p.fixed.shape p.claims B + 1)) same_g) ∙ (written_log.known (8 * header_in p.fixed.shape p.claims B + 1) (size_no_entry p here.working.lane B inside)).1)
+      (claims_at_work (moved s p) s.level s.locks here)
 
-  sound_g : IsSound g
-  sound_g = sound_so p written_log.noted.notes [] w.calls (record p.log { entries = all_logged p s.entries }) written_log.noted.each here.working.unmaking here.sound
+  done_claims : ClaimsStand done s.locks
+  done_claims = claims_ended g Commit None n s.locks g_claims
 
-  sound_decided : IsSound (decided done)
-  sound_decided = record {
-    small = λ c i e. sound_g.small c i (sym (found_decided (Small c i)) ∙ e);
-    some = λ f e. sound_g.some f (sym (found_decided (Big f)) ∙ e);
-    zone = λ f e. sound_g.zone f (sym (found_decided (Big f)) ∙ e);
-    huge = λ f c e i. sound_g.huge f c (sym (found_decided (Big f)) ∙ e) i;
-  }
+  -- no entry is of a size
+  size_made : (B : Block) → has_found p B ≡ true → is_occupancy p.fixed.shape B ≡ true → last_made found_ (all_logged p s.entries) (8 * header_in p.fixed.shape p.claims B + 1) ≡ None
+  size_made B found inside = ap (λ (es : List Redo). last_made found_ (all_logged p es) (8 * header_in p.fixed.shape p.claims B + 1)) here.lists.sets
+      ∙ sizes_unmade (moved s p) s.level here B found inside found_ (lists_of p).sets here.lists.may_set
 
-  held_decided : (locks : List HeldLock) → AreHeld g locks → AreHeld (decided done) locks
-  held_decided [] all = tt
-  held_decided (l ∷ locks) all = (
-    record {
-      held = all.0.held;
-      object = ⊎_elim (λ (e : l.line ≡ 0). inl e) (λ (o : HasObject g l.line). inr (record { block = o.block; found = found_decided o.block ∙ o.found; at = o.at; inside = o.inside })) all.0.object;
-    },
-    held_decided locks all.1,
-  )
+  found_p : (B : Block) → has_found done B ≡ has_found p B
+  found_p B = notes.found_same p.fixed.shape written_log.noted.notes p.claims written_log.noted.each B
 
-  held_g : AreHeld g s.locks
-  held_g = held_so p written_log.noted.notes [] w.calls (record p.log { entries = all_logged p s.entries }) written_log.noted.each here.working.unmaking s.locks here.held
+  header_p : (B : Block) → header_in done.fixed.shape done.claims B ≡ header_in p.fixed.shape p.claims B
+  header_p B = header_so p.fixed.shape written_log.noted.notes p.claims written_log.noted.each here.working.unmaking B
+
+  size_end : (B : Block) → has_found (decided done) B ≡ true → is_occupancy done.fixed.shape B ≡ true → value_in final (8 * header_in done.fixed.shape done.claims B + 1) ≡ value_in (decided done) (8 * header_in done.fixed.shape done.claims B + 1)
+  size_end B found inside =
+      sym (ap (λ (y : View). value_in y (8 * header_in done.fixed.shape done.claims B + 1)) same_end)
+      ∙ (performed.made (8 * header_in done.fixed.shape done.claims B + 1) (size_no_seal done here.working.lane B inside)
+      ∙ (ap (λ o. first_of_two o (value_in done (8 * header_in done.fixed.shape done.claims B + 1)))
+      (ap (λ l. last_made found_ (all_logged p s.entries) (8 * l + 1)) (header_p B) ∙ size_made B (sym (found_p B) ∙ (sym (found_decided done no_turn here.working.lane B) ∙ found)) inside)
+      ∙ sym (size_decided done no_turn here.working.lane B inside)))
+
+  final_claims : ClaimsStand final s.locks
+  final_claims = claims_noted (decided done) performed.noted.notes [] end_.calls (new_log Idle (s.view.log.generation + 1)) performed.noted.each s.locks size_end
+      (claims_decided done no_turn here.working.lane s.locks done_claims)
 
   known_end : value_in final (word_of_generation s.view.fixed.shape s.view.fixed.lane) ≡ Some (s.view.log.generation + 1)
   known_end = sym (ap (λ (y : View). value_in y (word_of_generation s.view.fixed.shape s.view.fixed.lane)) same_end)
@@ -176,17 +182,10 @@ module _ (s : Standing) (at : At s) (one_ : s.level ≡ 1) (some : s.entries ≢
       ∙ ap (λ o. first_of_two o (value_in done (word_of_generation s.view.fixed.shape s.view.fixed.lane))) (last_end found_ s.view.fixed.shape s.view.fixed.lane s.view.log.generation (map (Rattle.pm_redo.specs.Entries.logged_entry p) s.entries)))
 
   over_end : IsOver (moved s final)
-  over_end =
-      let sound = sound_so (decided done) performed.noted.notes [] end_.calls (new_log Idle (s.view.log.generation + 1)) performed.noted.each (λ c. refl) sound_decided in record {
-        log = refl;
-        drained = refl;
-        sound = record { small = sound.small; some = sound.some; zone = sound.zone; huge = sound.huge };
-        known = known_end;
-        sealed = sym (ap (λ (y : View). value_in y (word_of_seal s.view.fixed.shape s.view.fixed.lane)) same_end) ∙ performed.seal;
-        held = held_so (decided done) performed.noted.notes [] end_.calls (new_log Idle (s.view.log.generation + 1)) performed.noted.each (λ c. refl) s.locks (held_decided s.locks held_g);
-        lines = here.lines;
-        facts = calls.logged_facts (moved s p) s.level here known w written_log one_ n;
-      }
+  over_end = over_by (moved s final) refl refl known_end (sym (ap (λ (y : View). value_in y (word_of_seal s.view.fixed.shape s.view.fixed.lane)) same_end) ∙ performed.seal)
+      (calls.logged_facts (moved s p) s.level here known w written_log one_ n)
+      (has_pending (uncalled done) (uncalled final) refl refl (ended_pending g Commit None n (λ q. refl) refl (has_pending p g refl refl here.pending)))
+      final_claims
 
   -- ---- the steps
   abbrev ends : View → List Step

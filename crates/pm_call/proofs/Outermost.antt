@@ -1,22 +1,21 @@
 -- THE OUTERMOST LEVEL OF A CALL WITHOUT ENTRIES MAY BE COMMITTED, whatever number it takes; and the call is over then.
-use Rattle.std.proofs.Common.{◌≡◌, ℕ, suc, ◌+◌, inl, inr, ⊎_elim, true, ◌==◌, List, [], ◌∷◌, ◌++◌, length, map, refl, sym, ap, ◌∙◌, subst, arith, None, Some}
+use Rattle.std.proofs.Common.{◌≡◌, ◌≢◌, ℕ, suc, ◌+◌, ◌*◌, inl, inr, true, ◌==◌, List, [], ◌∷◌, ◌++◌, length, map, refl, sym, ap, ◌∙◌, subst, arith, None, Some}
 use Rattle.std.proofs.lemmas.Bool.{cond-false, ne_eqb}
 use Rattle.std.proofs.lemmas.List.Elements.{All-nil}
 use Rattle.pm_layout.specs.Areas.{word_of_generation, word_of_seal}
 use Rattle.pm_model.specs.Pending.{SetWord}
 use Rattle.pm_objects.specs.declared.calls.Operation.TheVariants.{Commit}
 use Rattle.pm_record.specs.declared.redo.Redo.{Redo}
+use Rattle.pm_view.specs.Claims.{header_in}
 use Rattle.pm_view.specs.Log.{Idle, Recorded, new_log}
 use Rattle.pm_view.specs.Places.{Place}
 use Rattle.pm_view.specs.Steps.{Step}
 use Rattle.pm_view.specs.Steps.Step.{Draw, Tell}
 use Rattle.pm_view.specs.View.{View}
 use Rattle.pm_view.specs.Views.{after, after_all, value_in}
-use Rattle.pm_world.specs.InWorld.{IsSound}
 use Rattle.pm_world.specs.LaneFields.{Standing, last_number, moved}
 use Rattle.pm_world.specs.Lawful.{MayDraw}
 use Rattle.pm_world.specs.Sights.{is_recorded}
-use Rattle.pm_world.specs.declared.lane.HeldLock.{HeldLock}
 use Rattle.pm_crash.specs.Calls.{Fact}
 use Rattle.pm_crash.specs.Facts.{HaveFacts}
 use Rattle.pm_crash.specs.Looked.{IsChanged}
@@ -38,13 +37,15 @@ use Rattle.pm_call.specs.Commits.{LeavesCommitted, generation_left}
 use Rattle.pm_call.specs.Did.{IsOver}
 use Rattle.pm_call.specs.Finishing.{CanEndRecords}
 use Rattle.pm_call.specs.GivenUp.{generation_after}
-use Rattle.pm_call.specs.Held.{AreHeld, HasObject}
 use Rattle.pm_call.specs.Plans.{commits, ends_call, ends_records}
+use Rattle.pm_call.specs.Waiting.{HasPending, uncalled}
 use Rattle.pm_call.proofs.InnerLevels.{commit_unrefused_at, ran_commit, sets_none}
 use Rattle.pm_call.proofs.Frames.{noting}
-use Rattle.pm_call.proofs.Noting.{data_told, held_so, sound_so}
+use Rattle.pm_call.proofs.Noting.{data_told}
+use Rattle.pm_call.proofs.OverCalls.{ClaimsStand, claims_at_work, claims_ended, claims_noted, ended_pending, over_by, size_no_generation}
 use Rattle.pm_call.proofs.Persisted.{IsDrained, drained_at, drained_by, drained_view}
 use Rattle.pm_call.proofs.RangeReads.{begun_more}
+use Rattle.pm_call.proofs.Staying.{has_pending}
 
 no_sets : (sets : List SetWord) → [] ≡ map set_entry sets → sets ≡ []
 no_sets [] e = refl
@@ -116,33 +117,22 @@ module _ (s : Standing) (at : At s) (one_ : s.level ≡ 1) (none : s.entries ≡
   facts n = draws_keep_facts told n fact here.facts
 
   -- ---- and then it holds what it held
-  sound_done : (n : ℕ) → IsSound (done n)
-  sound_done n = record { small = here.sound.small; some = here.sound.some; zone = here.sound.zone; huge = here.sound.huge }
+  done_claims : (n : ℕ) → ClaimsStand (done n) s.locks
+  done_claims n = claims_ended p Commit None n s.locks (claims_at_work (moved s p) s.level s.locks here)
 
-  all_held : (n : ℕ) (locks : List HeldLock) → AreHeld p locks → AreHeld (done n) locks
-  all_held n [] all = tt
-  all_held n (l ∷ locks) all = (
-    record {
-      held = all.0.held;
-      object = ⊎_elim (λ (e : l.line ≡ 0). inl e) (λ (o : HasObject p l.line). inr (record { block = o.block; found = o.found; at = o.at; inside = o.inside })) all.0.object;
-    },
-    all_held n locks all.1,
-  )
+  done_pending : (n : ℕ) → HasPending (uncalled (done n))
+  done_pending n = ended_pending p Commit None n (λ q. refl) refl here.pending
 
   over_then : (n : ℕ) (notes : List Note) (calls generation : ℕ) → AreNotes v.fixed.shape p.claims notes
+      → ((u : ℕ) → u ≢ word_of_generation v.fixed.shape v.fixed.lane → value_in (noting (done n) notes [] calls (new_log Idle generation)) u ≡ value_in (done n) u)
       → value_in (noting (done n) notes [] calls (new_log Idle generation)) (word_of_generation v.fixed.shape v.fixed.lane) ≡ Some generation
       → value_in (noting (done n) notes [] calls (new_log Idle generation)) (word_of_seal v.fixed.shape v.fixed.lane) ≡ Some 0
       → IsOver (moved s (noting (done n) notes [] calls (new_log Idle generation)))
-  over_then n notes calls generation each known sealed = let sound = sound_so (done n) notes [] calls (new_log Idle generation) each here.working.unmaking (sound_done n) in record {
-    log = refl;
-    drained = refl;
-    sound = record { small = sound.small; some = sound.some; zone = sound.zone; huge = sound.huge };
-    known = known;
-    sealed = sealed;
-    held = held_so (done n) notes [] calls (new_log Idle generation) each here.working.unmaking s.locks (all_held n s.locks here.held);
-    lines = here.lines;
-    facts = facts n;
-  }
+  over_then n notes calls generation each others known sealed = over_by (moved s (noting (done n) notes [] calls (new_log Idle generation))) refl refl known sealed (facts n)
+      (has_pending (uncalled (done n)) (uncalled (noting (done n) notes [] calls (new_log Idle generation))) refl refl (done_pending n))
+      (claims_noted (done n) notes [] calls (new_log Idle generation) each s.locks
+      (λ B found inside. others (8 * header_in v.fixed.shape p.claims B + 1) (size_no_generation p here.working.lane B inside))
+      (done_claims n))
 
 -- WHAT THE END OF THE RECORDS LEAVES
 record EndsBy (s : Standing) (u : View) (steps : List Step) (records : List Recorded) (number : ℕ) : Type 0 where
@@ -161,7 +151,7 @@ module _ (s : Standing) (at : At s) (one_ : s.level ≡ 1) (none : s.entries ≡
   unfolding Ready after_all
   ends_none are = record {
     ready = tt;
-    over = over_then s at one_ none [] are n [] (done s at one_ none [] are n).calls s.view.log.generation tt (here s at one_ none [] are).working.known (here s at one_ none [] are).sealed;
+    over = over_then s at one_ none [] are n [] (done s at one_ none [] are n).calls s.view.log.generation tt (λ u far. refl) (here s at one_ none [] are).working.known (here s at one_ none [] are).sealed;
     generation = refl;
     number_is = refl;
     fixed = refl;
@@ -196,17 +186,19 @@ module _ (s : Standing) (at : At s) (one_ : s.level ≡ 1) (none : s.entries ≡
     same : w ≡ final
     same = t.same ∙ ap (λ c. record u { claims = c; changes = []; calls = w.calls; log = new_log Idle (s.view.log.generation + 1) }) t.noted.are
 
+    others : (y : ℕ) → y ≢ word_of_generation s.view.fixed.shape s.view.fixed.lane → value_in final y ≡ value_in u y
+    others y far = sym (ap (λ (z : View). value_in z y) same) ∙ t.others y far
+
     known : value_in final (word_of_generation s.view.fixed.shape s.view.fixed.lane) ≡ Some (s.view.log.generation + 1)
     known = sym (ap (λ (y : View). value_in y (word_of_generation s.view.fixed.shape s.view.fixed.lane)) same) ∙ t.next
 
     sealed : value_in final (word_of_seal s.view.fixed.shape s.view.fixed.lane) ≡ Some 0
-    sealed = sym (ap (λ (y : View). value_in y (word_of_seal s.view.fixed.shape s.view.fixed.lane)) same)
-        ∙ (t.others (word_of_seal s.view.fixed.shape s.view.fixed.lane) (λ e. omega (arith, e)) ∙ (here s at one_ none (r ∷ rest) are).sealed)
+    sealed = others (word_of_seal s.view.fixed.shape s.view.fixed.lane) (λ e. omega (arith, e)) ∙ (here s at one_ none (r ∷ rest) are).sealed
 
     ends_some : Ends s (done s at one_ none (r ∷ rest) are n) (r ∷ rest) (suc n)
     ends_some = subst (λ (steps : List Step). EndsBy s u steps (r ∷ rest) (suc n)) (sym (cond-false (suc (length rest) == 0) [] (retires u) (ne_eqb (suc (length rest)) 0 (λ e. omega (arith, e))))) (record {
       ready = (retire_lawful u can).0;
-      over = subst (λ (y : View). IsOver (moved s y)) (sym same) (over_then s at one_ none (r ∷ rest) are n t.noted.notes w.calls (s.view.log.generation + 1) t.noted.each known sealed);
+      over = subst (λ (y : View). IsOver (moved s y)) (sym same) (over_then s at one_ none (r ∷ rest) are n t.noted.notes w.calls (s.view.log.generation + 1) t.noted.each others known sealed);
       generation = ap (λ (y : View). y.log.generation) same;
       number_is = ap (λ (y : View). last_number y.entries) same;
       fixed = ap (λ (y : View). y.fixed) same;

@@ -1,9 +1,8 @@
 -- How a rollback leaves its lane, from how its parts leave it.
-use Rattle.std.proofs.Common.{◌≡◌, ◌≢◌, ℕ, suc, ◌+◌, ◌^◌, ◌<◌, ◌==◌, true, false, cond, List, [], ◌∷◌, length, map, refl, sym, ap, ◌∙◌, subst, arith, rules, inl, inr, Option, None, Some, Result, Ok, Err, IsErr}
+use Rattle.std.proofs.Common.{◌≡◌, ◌≢◌, ℕ, suc, ◌+◌, ◌^◌, ◌<◌, ◌==◌, true, false, cond, List, [], ◌∷◌, length, map, refl, sym, ap, ◌∙◌, subst, arith, rules, Option, Some, Result, Ok, Err, IsErr}
 use Rattle.std.proofs.lemmas.Bool.{cond-false, ne_eqb}
 use Rattle.pm_memory.specs.Runs.{Made, Ran, Stops}
 use Rattle.pm_memory.specs.declared.lane_mem.Stopped.{Stopped}
-use Rattle.pm_model.specs.Inside.{is_action, is_inside}
 use Rattle.pm_model.specs.declared.stage.Stage.TheVariants as stage
 use Rattle.pm_objects.specs.declared.calls.Operation.{Operation}
 use Rattle.pm_objects.specs.declared.history.TxErr.{TxErr}
@@ -16,9 +15,10 @@ use Rattle.pm_view.specs.Log.{Log, Recorded}
 use Rattle.pm_view.specs.Steps.{Step}
 use Rattle.pm_view.specs.Steps.Step.{Draw, Tell}
 use Rattle.pm_view.specs.View.{View}
-use Rattle.pm_view.specs.Views.{actions_told, after, after_all}
+use Rattle.pm_view.specs.Views.{after, after_all}
 use Rattle.pm_world.specs.LaneFields.{Fields, Standing, Works, fields_at, fields_of, kept_of, listed, moved}
 use Rattle.pm_world.specs.Lawful.{Allowed}
+use Rattle.pm_world.specs.declared.lane.HeldLock.{HeldLock}
 use Rattle.pm_world.specs.declared.lane.KeptRecord.{KeptRecord}
 use Rattle.pm_world.specs.declared.lane.Lane.{Lane}
 use Rattle.pm_plan.specs.Plans.{IsMade, IsReady, Plan, Ready, Runs, in_turn, one, persists_all}
@@ -29,12 +29,12 @@ use Rattle.pm_undo.specs.Records.{kept_by, with_log}
 use Rattle.pm_undo.specs.Undoing.{KeepsLog, LogMoves, Restored, Retired, Stands}
 use Rattle.pm_undo.specs.Working.{CanRetire, IsWorking}
 use Rattle.pm_undo.proofs.Restored.{restore_lawful}
-use Rattle.pm_call.specs.At.{At}
-use Rattle.pm_call.specs.Did.{Cut, GaveUp, GivesUpFor, IsAtSo, IsRefused, Refuses, given_up, next, unseen}
-use Rattle.pm_call.specs.GivenUp.{GivenUp, GivesUp, MayEnd, MovedLog, MovesLog, WasGivenUp}
+use Rattle.pm_call.specs.At.{IsAtWith}
+use Rattle.pm_call.specs.Did.{Cut, given_up, next}
+use Rattle.pm_call.specs.GivenUp.{GivenUp, GivesUp, GivesUpFor, IsAtBut, MayEnd, MovedLog, MovesLog, Refuses, WasGivenUp, with_locks}
 use Rattle.pm_call.specs.Plans.{ends_call, gives_up, takes_back}
-use Rattle.pm_call.proofs.Ending.{refused_actions}
-use Rattle.pm_call.proofs.GivingUp.{ends_at, leaves_over, taken_at}
+use Rattle.pm_call.proofs.GivingUp as giving
+use Rattle.pm_call.proofs.GivingUp.{ends_at, leaves_over, actions_same, taken_at}
 use Rattle.pm_call.proofs.TakenBack.{may_retire, persisted_log, undo_ready}
 
 -- ---- two plans in turn, from one view
@@ -150,10 +150,10 @@ module _ {M : Type 0} (at : M → View → Type 0) (old : Lane M) where
 
   module _ (op : Operation) (reply : Option Value) where
     abbrev pub Here : Type 0
-    Here = IsAtSo at old (λ s. GivesUp s op reply)
+    Here = IsAtBut at old (λ s. GivesUp s op reply)
 
     pub back_stands : Here → Stands at old IsWorking
-    back_stands here = (here.standing.view, keeps_at here.standing here.works, here.stands.working)
+    back_stands here = (here.standing.view, keeps_at (with_locks here.locks here.standing) here.works, here.stands.working)
 
     pub may_end : (mid : Lane M) → Here → MovedLog at old mid takes_back (Ok tt) → MayEnd (at mid.memory) op reply
     unfolding MayEnd MovedLog in_turn
@@ -161,30 +161,30 @@ module _ {M : Type 0} (at : M → View → Type 0) (old : Lane M) where
         let s = here.standing in
         let v : View = s.view in (
           after_all v (takes_back v),
-          (back v (keeps_at s here.works) here.stands.working).memory,
-          λ n. ready_right v (takes_back v) (ends_call op reply n (after_all v (takes_back v))) (leaves_over s here.stands op reply here.holds n).ready,
+          (back v (keeps_at (with_locks here.locks s) here.works) here.stands.working).memory,
+          λ n. ready_right v (takes_back v) (ends_call op reply n (after_all v (takes_back v))) (leaves_over s here.locks here.stands op reply here.holds n).ready,
         )
 
-    actions_same : (s : Standing) → GivesUp s op reply → actions_told op reply s.view.actions ≡ s.view.actions
-    actions_same s (inl r) = ap (λ o. actions_told op o s.view.actions) r.replied ∙ refused_actions op r.refusal s.view.actions
-    actions_same s (inr a) = λ i. actions_told (a.is i) (a.replied i) s.view.actions
+    module _ (s : Standing) (locks : List HeldLock) where
+      abbrev all : Standing
+      all = with_locks locks s
 
-    fields_after : (e : TxErr) (n : ℕ) (s : Standing) (is : At s) (gives : GivesUp s op reply)
-        → record (with_log (after_all s.view (takes_back s.view)) (fields_at stage.Work s)) { entries = []; stage = stage.OnAbort; error = e; last = n + 1 } ≡ given_up e (next s (gives_up op reply n))
-    fields_after e n s is gives =
-        ap (λ (w : View). record (with_log w (fields_at stage.Work s)) { entries = []; stage = stage.OnAbort; error = e; last = n + 1 }) (taken_at s is op reply gives)
-        ∙ (same ∙ ap (λ (w : View). given_up e (moved s w)) (sym (ends_at s is op reply gives n)))
-      where
-        same : record (with_log (Rattle.pm_call.proofs.GivingUp.back s is op reply gives) (fields_at stage.Work s)) { entries = []; stage = stage.OnAbort; error = e; last = n + 1 } ≡ given_up e (moved s (Rattle.pm_call.proofs.GivingUp.done s is op reply gives n))
-        same = (λ i. record (given_up e (moved s (Rattle.pm_call.proofs.GivingUp.done s is op reply gives n))) { pending = listed (sym (actions_same s gives) i); last = (let z : n + 1 ≡ suc n = omega arith in z) i })
+      fields_after : (e : TxErr) (n : ℕ) (is : IsAtWith s s.level locks) (gives : GivesUp s op reply)
+          → record (with_log (after_all s.view (takes_back s.view)) (fields_at stage.Work all)) { entries = []; stage = stage.OnAbort; error = e; last = n + 1 } ≡ given_up e (next all (gives_up op reply n))
+      fields_after e n is gives =
+          ap (λ (w : View). record (with_log w (fields_at stage.Work all)) { entries = []; stage = stage.OnAbort; error = e; last = n + 1 }) (taken_at s locks is op reply gives)
+          ∙ (same ∙ ap (λ (w : View). given_up e (moved all w)) (sym (ends_at s locks is op reply gives n)))
+        where
+          same : record (with_log (giving.back s locks is op reply gives) (fields_at stage.Work all)) { entries = []; stage = stage.OnAbort; error = e; last = n + 1 } ≡ given_up e (moved all (giving.done s locks is op reply gives n))
+          same = (λ i. record (given_up e (moved all (giving.done s locks is op reply gives n))) { pending = listed (sym (actions_same s locks is op reply gives) i); last = (let z : n + 1 ≡ suc n = omega arith in z) i })
 
     pub gave_ok : (mid new : Lane M) (e : TxErr) (n : ℕ) → MovedLog at old mid takes_back (Ok tt) → IsMade (at mid.memory) (at new.memory) (ends_call op reply n)
         → fields_of new ≡ record (fields_of mid) { entries = []; stage = stage.OnAbort; error = e; last = n + 1 } → GivenUp at old new op reply e (Ok tt)
     unfolding GivenUp MovedLog Runs
-    gave_ok mid new e n back made fields s works is gives =
+    gave_ok mid new e n back made fields s locks works is gives =
         let v : View = s.view in
-        let b = back v (keeps_at s works) is.working in
-        let l = leaves_over s is op reply gives n in
+        let b = back v (keeps_at (with_locks locks s) works) is.working in
+        let l = leaves_over s locks is op reply gives n in
         record {
           number = n;
           ready = l.ready;
@@ -192,19 +192,19 @@ module _ {M : Type 0} (at : M → View → Type 0) (old : Lane M) where
             memory = ran_then {T = Unit {0}} (at new.memory) v takes_back (ends_call op reply n) (Ok tt) l.ready (made (after_all v (takes_back v)) b.memory (ready_ends v op reply n l.ready));
             fields = fields
                 ∙ (ap (λ (f : Fields). record f { entries = []; stage = stage.OnAbort; error = e; last = n + 1 }) (b.fields ∙ ap (with_log (after_all v (takes_back v))) works.fields)
-                ∙ fields_after e n s is gives);
+                ∙ fields_after s locks e n is gives);
           };
           over = l.over;
         }
 
     pub gave_err : (new : Lane M) (e : TxErr) (stopped : Stopped) (result : Result (Unit {0}) Stopped) → IsErr result → MovedLog at old new takes_back (Err stopped) → GivenUp at old new op reply e result
     unfolding GivenUp MovedLog
-    gave_err new e stopped (Ok done) error back s works is gives = absurd (search rules)
-    gave_err new e stopped (Err z) error back s works is gives =
+    gave_err new e stopped (Ok done) error back s locks works is gives = absurd (search rules)
+    gave_err new e stopped (Err z) error back s locks works is gives =
         let v : View = s.view in
-        let b = back v (keeps_at s works) is.working in
-        let l = leaves_over s is op reply gives 0 in
-        let f : fields_of new ≡ fields_at stage.Work s = b.1 ∙ works.fields in (
+        let b = back v (keeps_at (with_locks locks s) works) is.working in
+        let l = leaves_over s locks is op reply gives 0 in
+        let f : fields_of new ≡ fields_at stage.Work (with_locks locks s) = b.1 ∙ works.fields in (
           0,
           record {
             ready = l.ready;
@@ -215,12 +215,13 @@ module _ {M : Type 0} (at : M → View → Type 0) (old : Lane M) where
 
 -- ---- for a refusal
 not_stopped : {M : Type 0} (at : M → View → Type 0) (old new : Lane M) (op : Operation) (why answer : Refusal) → why ≢ refusal.Stopped
-    → ((s : Standing) → Works at old s → At s → IsRefused s op why → GivesUpFor at new op why answer s) → Refuses at old new op why answer
+    → ((s : Standing) (locks : List HeldLock) → Works at old (with_locks locks s) → IsAtWith s s.level locks → GivesUp s op (Some (Refused why)) → GivesUpFor at new op why answer (with_locks locks s)) → Refuses at old new op why answer
 unfolding Refuses
 not_stopped at old new op refusal.Stopped answer goes so = absurd (goes refl)
 not_stopped at old new op why answer goes so = so
 
-gives : {M : Type 0} (at : M → View → Type 0) (new : Lane M) (op : Operation) (why answer : Refusal) (s : Standing) → answer ≢ refusal.Stopped → answer ≡ why → GaveUp at new s op why → GivesUpFor at new op why answer s
+gives : {M : Type 0} (at : M → View → Type 0) (new : Lane M) (op : Operation) (why answer : Refusal) (s : Standing) → answer ≢ refusal.Stopped → answer ≡ why → WasGivenUp at new s op (Some (Refused why)) (error.Refused why)
+    → GivesUpFor at new op why answer s
 gives at new op why refusal.Stopped s goes is gave = absurd (goes refl)
 gives at new op why answer s goes is gave = (is, gave)
 
@@ -229,25 +230,17 @@ pub refuses_stop : {M : Type 0} (at : M → View → Type 0) (old new : Lane M) 
 unfolding Refuses
 refuses_stop at old new op why answer e is same = subst (λ (r : Refusal). Refuses at old new op r answer) (sym e) (is, same)
 
-module _ {M : Type 0} (at : M → View → Type 0) (old : Lane M) (op : Operation) (why : Refusal) (inside : is_inside op ≡ true) (plain : is_action op ≡ false) where
-  gives_for : (s : Standing) → IsRefused s op why → GivesUp s op (Some (Refused why))
-  gives_for s refused = inl (record { inside = inside; plain = plain; seen = unseen; root = None; looks = refused.looks; refusal = why; first = refused.first; replied = refl })
-
-  pub refuse_stands : IsAtSo at old (λ s. IsRefused s op why) → IsAtSo at old (λ s. GivesUp s op (Some (Refused why)))
-  refuse_stands is = record { standing = is.standing; works = is.works; stands = is.stands; holds = gives_for is.standing is.holds }
-
+module _ {M : Type 0} (at : M → View → Type 0) (old : Lane M) (op : Operation) (why : Refusal) where
   pub refuses_ok : (new : Lane M) → why ≢ refusal.Stopped → GivenUp at old new op (Some (Refused why)) (error.Refused why) (Ok tt) → Refuses at old new op why why
   unfolding GivenUp
-  refuses_ok new goes gave = not_stopped at old new op why why goes (λ s works is refused.
-      let w : WasGivenUp at new s op (Some (Refused why)) (error.Refused why) = gave s works is (gives_for s refused) in
-      gives at new op why why s goes refl (record { refused = refused; number = w.number; ready = w.ready; sees = w.sees; over = w.over }))
+  refuses_ok new goes gave = not_stopped at old new op why why goes (λ s locks works is refused. gives at new op why why (with_locks locks s) goes refl (gave s locks works is refused))
 
   pub refuses_cut : (mid new : Lane M) (answer : Refusal) (stopped : Stopped) → why ≢ refusal.Stopped → GivenUp at old mid op (Some (Refused why)) (error.Refused why) (Err stopped)
       → answer ≡ refusal.Stopped → new ≡ record mid { stopped = true } → Refuses at old new op why answer
   unfolding GivenUp
-  refuses_cut mid new answer stopped goes gave is_stopped says = subst (λ (r : Refusal). Refuses at old new op why r) (sym is_stopped) (not_stopped at old new op why refusal.Stopped goes (λ s works is refused.
-      let c : (n : ℕ) × Cut at mid s (gives_up op (Some (Refused why)) n) false = gave s works is (gives_for s refused) in (
+  refuses_cut mid new answer stopped goes gave is_stopped says = subst (λ (r : Refusal). Refuses at old new op why r) (sym is_stopped) (not_stopped at old new op why refusal.Stopped goes (λ s locks works is refused.
+      let c : (n : ℕ) × Cut at mid (with_locks locks s) (gives_up op (Some (Refused why)) n) false = gave s locks works is refused in (
         c.0,
-        subst (λ (lane : Lane M). Cut at lane s (gives_up op (Some (Refused why)) c.0) true) (sym says)
+        subst (λ (lane : Lane M). Cut at lane (with_locks locks s) (gives_up op (Some (Refused why)) c.0) true) (sym says)
             (record { ready = c.1.ready; stops = c.1.stops; fields = ap (λ (f : Fields). record f { stopped = true }) c.1.fields }),
       )))

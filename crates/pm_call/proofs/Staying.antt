@@ -1,4 +1,4 @@
--- What a lane holds and has pending stays, as it notes what it knows, tells an operation and takes its number.
+-- What a lane holds and has pending stays, as it notes what it knows and tells an operation.
 use Rattle.std.proofs.Common.{◌≡◌, ◌≢◌, ℕ, ◌+◌, Bool, true, List, [], ◌∷◌, ◌++◌, ◌||◌, length, map, Option, refl, sym, ◌∙◌, ap, subst}
 use Rattle.std.specs.List.{AllByRecursion}
 use Rattle.pm_model.specs.Pending.{Pending, SetWord, max_actions}
@@ -8,7 +8,7 @@ use Rattle.pm_view.specs.Changes.{Undrained}
 use Rattle.pm_view.specs.Claims.{Claim, class, holds, making}
 use Rattle.pm_view.specs.Log.{Log}
 use Rattle.pm_view.specs.Places.{Small}
-use Rattle.pm_view.specs.Steps.Step.{Draw, Tell}
+use Rattle.pm_view.specs.Steps.Step.{Tell}
 use Rattle.pm_view.specs.View.{Told, View}
 use Rattle.pm_view.specs.Views.{actions_told, after}
 use Rattle.pm_world.specs.LaneFields.{listed}
@@ -77,10 +77,3 @@ has_pending v w now lists h = record {
 -- an operation that asks for none is told
 pub pending_told : (v : View) (op : Operation) (reply : Option Value) → ((p : Pending) → pending_with op reply p ≡ p) → actions_told op reply v.actions ≡ v.actions → HasPending v → HasPending (after v (Tell op reply))
 pending_told v op reply plain same = has_pending v (after v (Tell op reply)) (pending_more v.call (record { operation = op; reply = reply }) (pending_of v.entries) ∙ plain (pending_now v)) (ap listed same)
-
--- the call takes its number
-pub pending_drawn : (v : View) (n : ℕ) → HasPending v → HasPending (after v (Draw n))
-pending_drawn v n = has_pending v (after v (Draw n)) drawn refl where
-  drawn : pending_now (after v (Draw n)) ≡ pending_now v
-  unfolding pending_after pending_of
-  drawn = refl

@@ -12,6 +12,10 @@ use Rattle.pm_crash.specs.Calls.{pending_after, pending_of}
 abbrev pub pending_now : View → Pending
 pending_now v = pending_after v.call (pending_of v.entries)
 
+-- a view whose call has its number: what it told is among the entries, and nothing was told since
+abbrev pub uncalled : View → View
+uncalled v = record v { call = [] }
+
 -- a word to be set, as the lane lists it
 abbrev pub listed_set : SetWord → PendingAction
 listed_set a = Set a.id a.off a.value
