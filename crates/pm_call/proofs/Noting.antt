@@ -102,7 +102,7 @@ module _ (v : View) (ns : List Note) (changes : List Undrained) (calls : ℕ) (l
 
       one : (l : HeldLock) → IsHeld v l → IsHeld next l
       one l h = record {
-        held = (λ e. ap (λ f. f l.line) (notes.locked_same ns v.claims) ∙ h.held.0 e, λ e. ap (λ f. f l.line) (notes.reads_same ns v.claims) ∙ h.held.1 e);
+        held = (λ e. ap (λ f. f l.line) (notes.locked_same ns v.claims) ∙ h.held.0 e, (λ i. Rattle.std.specs.Prelude.◌||◌ (notes.locked_same ns v.claims i l.line) (notes.reads_same ns v.claims i l.line)) ∙ h.held.1);
         object = ⊎_elim (λ (z : l.line ≡ 0). inl z) (λ (o : HasObject v l.line). inr (object l.line o)) h.object;
       }
 
