@@ -1,13 +1,17 @@
 -- WHICH LINES A LANE HOLDS once it took some locks and raised some of them: those of its list.
-use Rattle.std.specs.Prelude.{drop, filter, take}
-use Rattle.std.proofs.Common.{◌≡◌, ◌≢◌, ⊎_elim, inl, inr, ◌⊎◌, ℕ, zero, suc, Bool, true, false, cond, not, ◌==◌, ◌&&◌, ◌||◌, List, [], ◌∷◌, ◌++◌, refl, ap, ne_eqb}
+use Rattle.std.specs.Prelude.{drop, filter, length, take}
+use Rattle.std.proofs.Common.{◌≡◌, ◌≢◌, ⊎_elim, inl, inr, ◌⊎◌, ℕ, zero, suc, ◌+◌, Bool, true, false, cond, not, ◌==◌, ◌&&◌, ◌||◌, List, [], ◌∷◌, ◌++◌, refl, ap, arith, ne_eqb}
 use Rattle.std.specs.List.{AllByRecursion, list_any}
 use Rattle.std.proofs.lemmas.Bool.{and_from, both_ways, or_cases, or_left, or_right}
 use Rattle.pm_view.specs.Claims.{Claim, Raised, Took, holds, locked, reads}
+use Rattle.pm_view.specs.View.{View}
 use Rattle.pm_world.specs.declared.lane.HeldLock.{HeldLock}
 use Rattle.pm_lock.specs.Holding.{AreOnce, IsHeldAs, took}
+use Rattle.pm_lock.specs.Locking.{lock_of}
 use Rattle.pm_lock.specs.Raising.{is_raised, raised, rose}
 use Rattle.pm_lock.specs.Wants.{is_listed}
+use Rattle.pm_lock.proofs.Acquired.{held_as}
+use Rattle.pm_call.specs.Held.{AreHeld, HasObject}
 
 -- ---- the lines of a list, and those that are held
 abbrev pub has_lock : List HeldLock → ℕ → Bool
@@ -57,6 +61,24 @@ has_raised writes (l ∷ locks) line = ap (λ b. l.line == line || b) (has_raise
 
 pub listed_has : (locks : List HeldLock) (line : ℕ) → is_listed locks [] line ≡ true → has_lock locks line ≡ true
 listed_has locks line e = ⊎_elim (λ (h : has_lock locks line ≡ true). h) (λ (h : false ≡ true). absurd (both_ways false refl h)) (or_cases (has_lock locks line) false e)
+
+-- ---- two lists as one, and all that are raised
+pub all_on : {A : Type 0} (P : A → Type 0) (xs ys : List A) → AllByRecursion P xs → AllByRecursion P ys → AllByRecursion P (xs ++ ys)
+all_on P [] ys a b = b
+all_on P (x ∷ xs) ys a b = (a.0, all_on P xs ys a.1 b)
+
+pub length_both : {A : Type 0} (xs ys : List A) → length (xs ++ ys) ≡ length xs + length ys
+length_both [] ys = omega arith
+length_both (x ∷ xs) ys = let n = length_both xs ys in omega (arith, n)
+
+pub length_raised : (writes : ℕ → Bool) (locks : List HeldLock) → length (raised writes locks) ≡ length locks
+length_raised writes [] = refl
+length_raised writes (l ∷ locks) = ap (λ n. suc n) (length_raised writes locks)
+
+-- each lock of the list has its object, and is held as the list says
+pub all_held : (v : View) (writes : ℕ → Bool) (locks : List HeldLock) → AllByRecursion (λ (l : HeldLock). (l.line ≡ 0) ⊎ HasObject v l.line) locks → AllByRecursion (IsHeldAs v.claims) (raised writes locks) → AreHeld v (raised writes locks)
+all_held v writes [] objects held = tt
+all_held v writes (l ∷ locks) objects held = (record { held = (held.0.0, held_as v.claims (lock_of l.line (l.write || writes l.line)) held.0); object = objects.0 }, all_held v writes locks objects.1 held.1)
 
 -- ---- THE FIRST SO MANY ARE RAISED
 pub all_take : {A : Type 0} (P : A → Type 0) (n : ℕ) (xs : List A) → AllByRecursion P xs → AllByRecursion P (take n xs)

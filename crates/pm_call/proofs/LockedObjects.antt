@@ -18,7 +18,7 @@ use Rattle.pm_model.specs.Refusals.{Test, first_of, is_first_lock, is_tried, pas
 use Rattle.pm_model.specs.Transaction.{Transaction, idle, all_locked, is_gone, is_locked, is_new, is_working, wants_of_old, with_locks}
 use Rattle.pm_model.specs.declared.stage.Stage.{Stage}
 use Rattle.pm_model.specs.declared.stage.Stage.TheVariants as stage
-use Rattle.pm_view.specs.Claims.{Claim, holds, locked, reads}
+use Rattle.pm_view.specs.Claims.{holds, locked}
 use Rattle.pm_view.specs.Places.{Place}
 use Rattle.pm_view.specs.Steps.{Step}
 use Rattle.pm_view.specs.Steps.Step.{Tell}
@@ -40,19 +40,17 @@ use Rattle.pm_crash.proofs.SimFacts.{no_entries}
 use Rattle.pm_crash.proofs.SimOps.{sim_extends}
 use Rattle.pm_crash.proofs.Telling.{no_root_is_asked, tells_grow}
 use Rattle.pm_lock.specs.Held.{HoldsEach}
-use Rattle.pm_lock.specs.Holding.{IsHeldAs}
-use Rattle.pm_lock.specs.Locking.{lock_of}
 use Rattle.pm_lock.specs.ModelLocks.{HasLocksOf}
 use Rattle.pm_lock.specs.Objects.{StandsAt}
 use Rattle.pm_lock.specs.Objects as objects
-use Rattle.pm_lock.specs.Raising.{raised}
 use Rattle.pm_lock.specs.Wants.{has_unplaced, is_listed}
 use Rattle.pm_lock.proofs.CanBegin.{has_header}
 use Rattle.pm_lock.proofs.ModelPlans.{plans_as}
 use Rattle.pm_call.specs.At.{AreLists, At, IsDataOf, MaySet, entries_so_far}
 use Rattle.pm_call.specs.Did.{unseen}
-use Rattle.pm_call.specs.Held.{AreHeld, HasObject, IsHeld, IsHeldFor, has_line, is_in_locks, line_of}
+use Rattle.pm_call.specs.Held.{AreHeld, HasObject, IsHeld, has_line, is_in_locks, line_of}
 use Rattle.pm_call.specs.Locking.{CanLock, LeadsLocks, ObjectsMayBeLocked, TakesLocks, locks_with, to_take, to_write}
+use Rattle.pm_call.proofs.HeldLines.{all_held, all_on, length_both, length_raised}
 use Rattle.pm_call.proofs.KeptGrows.{KeepsPictures, locking, own_on}
 use Rattle.pm_call.proofs.KeptWork.{data_on, held_size_on, object_on, seal_on, sim_on, working_on}
 use Rattle.pm_call.proofs.KnownObjects.{held_object, object_stands}
@@ -62,36 +60,11 @@ use Rattle.pm_call.proofs.RangeReads.{begun_more}
 use Rattle.pm_call.proofs.Staying.{has_pending, pending_told}
 use Rattle.pm_call.proofs.TakenLocks.{IsTakenView, can_lock, is_taken_view}
 
--- ---- lists
-all_on : {A : Type 0} (P : A → Type 0) (xs ys : List A) → AllByRecursion P xs → AllByRecursion P ys → AllByRecursion P (xs ++ ys)
-all_on P [] ys a b = b
-all_on P (x ∷ xs) ys a b = (a.0, all_on P xs ys a.1 b)
-
-length_both : {A : Type 0} (xs ys : List A) → length (xs ++ ys) ≡ length xs + length ys
-length_both [] ys = omega arith
-length_both (x ∷ xs) ys = let n = length_both xs ys in omega (arith, n)
-
-length_raised : (writes : ℕ → Bool) (locks : List HeldLock) → length (raised writes locks) ≡ length locks
-length_raised writes [] = refl
-length_raised writes (l ∷ locks) = ap (λ n. Rattle.std.specs.Prelude.suc n) (length_raised writes locks)
-
 -- no test applies
 pub no_first : (list : List Test) → AllByRecursion (λ (t : Test). t.1 ≡ false) list → first_of list ≡ None
 unfolding first_of
 no_first [] all = refl
 no_first (t ∷ list) all = cond-false t.1 (Some t.0) (first_of list) all.0 ∙ no_first list all.1
-
--- what is held as the list says is held for it
-pub held_for : (t : List Claim) (l : HeldLock) → IsHeldAs t l → IsHeldFor t l
-held_for t l h = (h.0, by l.write refl) where
-  by : (b : Bool) → l.write ≡ b → holds t l.line ≡ true
-  by true e = or_left (locked t l.line) (reads t l.line) (h.0 e)
-  by false e = or_right (locked t l.line) (reads t l.line) (h.1 e)
-
--- each lock of the list has its object
-all_held : (v : View) (writes : ℕ → Bool) (locks : List HeldLock) → AllByRecursion (λ (l : HeldLock). (l.line ≡ 0) ⊎ HasObject v l.line) locks → AllByRecursion (IsHeldAs v.claims) (raised writes locks) → AreHeld v (raised writes locks)
-all_held v writes [] objects held = tt
-all_held v writes (l ∷ locks) objects held = (record { held = held_for v.claims (lock_of l.line (l.write || writes l.line)) held.0; object = objects.0 }, all_held v writes locks objects.1 held.1)
 
 -- of a transaction that made nothing no want is new
 old_wants : (tx : Transaction) (wants : List Want) → tx.made ≡ [] → wants_of_old tx wants ≡ wants
