@@ -1,5 +1,5 @@
 -- A LANE THAT HAS AND KNOWS WHAT IT DID knows no less of the bits before its call.
-use Rattle.std.proofs.Common.{◌≡◌, ◌≢◌, ⊎_elim, inl, ℕ, zero, suc, ◌+◌, ◌*◌, ◌/◌, ◌<◌, ◌≤◌, nat_le, nat_lt, Bool, true, false, ◌==◌, ◌&&◌, ◌||◌, List, refl, sym, ap, ◌∙◌, subst, arith, None, Some}
+use Rattle.std.proofs.Common.{◌≡◌, ◌≢◌, ⊎_elim, inl, ℕ, zero, suc, ◌+◌, ◌*◌, ◌<◌, nat_le, nat_lt, Bool, true, false, ◌==◌, ◌||◌, List, refl, sym, ap, ◌∙◌, subst, arith, Some}
 use Rattle.std.specs.List.{list_any}
 use Rattle.std.proofs.lemmas.Bool.{and_from, and_parts, both_ways, le-leb, leb-true, lt-ltb, ltb-true, or_cases, or_left, or_right}
 use Rattle.pm_layout.specs.Chunks.{chunks_of, word_of_chunk}
@@ -18,11 +18,8 @@ use Rattle.pm_crash.specs.Footprints.{geometry_of, has_found, has_own}
 use Rattle.pm_crash.specs.Sim.{Grows, IsSamePlace, blocks_kept, is_kept_block, known_offset, sees_at}
 use Rattle.pm_crash.proofs.StepKnows as known
 use Rattle.pm_lock.specs.Objects.{has}
+use Rattle.pm_call.specs.Held.{KnowsOwn}
 use Rattle.pm_call.proofs.KeptClaims.{KeepsAll}
-
--- the runs of its own blocks are known
-abbrev pub KnowsOwnRuns : View → Type 0
-KnowsOwnRuns v = (c i : ℕ) → has_own v (Small c i) ≡ true → class v.claims c ≢ 0
 
 -- what is pictured of places that it sees is of the pool
 abbrev pub SeesInside : View → Type 0
@@ -35,6 +32,10 @@ KeepsPictures v t = (p : Place) (b : ℕ) (y : Bool) → sees_at v p b ≡ true 
 -- the view with these claims, and with what tries told
 abbrev pub locking : View → List Claim → List Step → View
 locking v t seen = record v { claims = t; seen = seen }
+
+-- blocks of its own are of runs that it knows still
+pub own_on : (v : View) (t : List Claim) (seen : List Step) → KeepsAll v t → KnowsOwn v → KnowsOwn (locking v t seen)
+own_on v t seen k own c i m z = let was : has_own v (Small c i) ≡ true = sym (k.mine_same (Small c i)) ∙ m in own c i was (sym (k.class_same c (own c i was)) ∙ z)
 
 module _ (v : View) (t : List Claim) (seen : List Step) (k : KeepsAll v t) (sound : IsSound v) (after_sound : IsSound (locking v t seen)) where
   abbrev next : View
@@ -104,7 +105,7 @@ module _ (v : View) (t : List Claim) (seen : List Step) (k : KeepsAll v t) (soun
       let q = (known.of_pictured v.fixed.shape v.claims p b y e).0 in
       known.pictured_alike v.fixed.shape v.claims t p b (word_same p b f q (inside p b (sees_on p b f).0 q)) ∙ e
 
-  module _ (own : KnowsOwnRuns v) (pics : KeepsPictures v t) where
+  module _ (own : KnowsOwn v) (pics : KeepsPictures v t) where
     -- ---- blocks of its own that are to be objects
     kept_own : (kept : Bool) (B : Block) → is_kept_block v kept B ≡ true → has_own v B ≡ true
     kept_own kept B m = (and_parts (has_own v B) (list_any (λ (b : Placed). b.off == known_offset v B) (blocks_kept kept v)) m).0

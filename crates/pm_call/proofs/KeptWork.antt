@@ -28,9 +28,9 @@ use Rattle.pm_undo.proofs.Putting.{old_at}
 use Rattle.pm_lock.specs.Objects.{has}
 use Rattle.pm_call.specs.At.{IsDataOf, entries_so_far}
 use Rattle.pm_call.specs.Locking.{CanLock}
-use Rattle.pm_call.specs.Held.{HasObject, IsObjectWord, has_line, line_of}
+use Rattle.pm_call.specs.Held.{HasObject, IsObjectWord, KnowsOwn, has_line, line_of}
 use Rattle.pm_call.proofs.KeptClaims.{KeepsAll}
-use Rattle.pm_call.proofs.KeptGrows.{KeepsPictures, KnowsOwnRuns, keeps_grows, locking}
+use Rattle.pm_call.proofs.KeptGrows.{KeepsPictures, keeps_grows, locking}
 use Rattle.pm_call.proofs.KnownObjects.{fresh_is, size_known, size_word, word_number}
 use Rattle.pm_call.proofs.Noting.{header_line, offset_line}
 use Rattle.pm_call.proofs.ObjectWords.{object_place}
@@ -43,7 +43,7 @@ seal_no_place sh cl lane low = go (place_at sh cl (word_of_seal sh lane)) refl
     go None e = refl
     go (Some p) e = absurd (⊎_elim (λ (root : word_of_seal sh lane ≡ 64). let r = root in omega (arith, r)) (λ (far : IsBeyond sh (word_of_seal sh lane)). omega (arith, far, low)) (place_outside sh lane (word_of_seal sh lane) cl p e))
 
-module _ (s : Standing) (at : CanLock s) (t : List Claim) (seen : List Step) (k : KeepsAll s.view t) (own : KnowsOwnRuns s.view) (sound : IsSound (locking s.view t seen)) (pics : KeepsPictures s.view t) where
+module _ (s : Standing) (at : CanLock s) (t : List Claim) (seen : List Step) (k : KeepsAll s.view t) (own : KnowsOwn s.view) (sound : IsSound (locking s.view t seen)) (pics : KeepsPictures s.view t) where
   abbrev v : View
   v = s.view
 

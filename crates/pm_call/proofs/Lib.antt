@@ -37,12 +37,15 @@ pub mod KeptGrows
 pub mod KeptWork
 pub mod LockLists
 pub mod WorldFacts
+pub mod HeldLines
 pub mod TakenLocks
 pub mod LockedObjects
 pub mod LocksGot
 pub mod WantedTried
 pub mod LockRefusals
+pub mod RefusedWants
 pub mod TriedLocks
+pub mod WantedTaken
 pub mod InnerLevels
 pub mod Persisted
 pub mod Outermost

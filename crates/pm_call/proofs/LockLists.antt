@@ -164,7 +164,7 @@ pub none_any : (P : Want → Bool) (wants : List Want) → ((want : Want) → P 
 none_any P [] e = refl
 none_any P (want ∷ wants) e = ap (λ b. b || list_any P wants) (e want) ∙ none_any P wants e
 
-more_any : (P Q : Want → Bool) (wants : List Want) → ((want : Want) → P want ≡ true → Q want ≡ true) → list_any P wants ≡ true → list_any Q wants ≡ true
+pub more_any : (P Q : Want → Bool) (wants : List Want) → ((want : Want) → P want ≡ true → Q want ≡ true) → list_any P wants ≡ true → list_any Q wants ≡ true
 more_any P Q [] so e = absurd (both_ways false refl e)
 more_any P Q (want ∷ wants) so e = ⊎_elim (λ (h : P want ≡ true). or_left (Q want) (list_any Q wants) (so want h)) (λ (h : list_any P wants ≡ true). or_right (Q want) (list_any Q wants) (more_any P Q wants so h)) (or_cases (P want) (list_any P wants) e)
 

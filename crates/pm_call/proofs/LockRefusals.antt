@@ -14,6 +14,7 @@ use Rattle.pm_model.specs.Transaction.{Transaction, is_gone, is_locked, is_new, 
 use Rattle.pm_view.specs.Places.{Place}
 use Rattle.pm_world.specs.LaneFields.{Standing}
 use Rattle.pm_world.specs.Sights.{is_recorded}
+use Rattle.pm_world.specs.declared.lane.HeldLock.{HeldLock}
 use Rattle.pm_crash.specs.Looked.{IsChanged, items_seen, pool_seen}
 use Rattle.pm_crash.specs.Looks.{ids_freed, ids_sized}
 use Rattle.pm_crash.specs.Sim.{lists_of, tx_with}
@@ -25,14 +26,14 @@ use Rattle.pm_lock.specs.Objects as objects
 use Rattle.pm_lock.specs.Wants.{is_listed}
 use Rattle.pm_lock.proofs.CanBegin.{has_header}
 use Rattle.pm_lock.proofs.ModelPlans.{plans_as}
-use Rattle.pm_call.specs.At.{At, entries_so_far}
+use Rattle.pm_call.specs.At.{IsAtWith, entries_so_far}
 use Rattle.pm_call.specs.Did.{unseen}
 use Rattle.pm_objects.specs.declared.refusal.Refusal.TheVariants.{Deep}
 use Rattle.pm_call.specs.Held.{has_line, is_in_locks, line_of}
-use Rattle.pm_call.specs.LockRefusals.{DeepBeginsGiveUp, HasAsMany, LockRefusals, RefusedLocksGiveUp, locking_tests}
+use Rattle.pm_call.specs.LockRefusals.{DeepBeginsGiveUp, LockRefusals, RefusedLocksGiveUp, locking_tests}
 use Rattle.pm_call.proofs.LockLists.{any_at, chunk_high, listed_is, none_any, same_any}
 
-first_skip : (t : Test) (rest : List Test) → t.1 ≡ false → first_of (t ∷ rest) ≡ first_of rest
+pub first_skip : (t : Test) (rest : List Test) → t.1 ≡ false → first_of (t ∷ rest) ≡ first_of rest
 unfolding first_of
 first_skip t rest e = cond-false t.1 (Some t.0) (first_of rest) e
 
@@ -43,7 +44,7 @@ first_same r a b rest more e f = λ i. cond (e i) (Some r) (f i)
 first_last : (t : Test) → t.1 ≡ false → first_of (t ∷ []) ≡ first_of []
 first_last t e = first_skip t [] e
 
-module _ (s : Standing) (wants : List Want) (seen : Seen) (at : At s) (count : HasAsMany s) where
+module _ (s : Standing) (wants : List Want) (seen : Seen) (all : List HeldLock) (at : IsAtWith s s.level all) where
   abbrev tx : Transaction
   tx = tx_with s.view (pool_seen s.view None) (items_seen s.view)
 
@@ -55,7 +56,7 @@ module _ (s : Standing) (wants : List Want) (seen : Seen) (at : At s) (count : H
     id = refl;
     lanes = refl;
     zones = refl;
-    count = count;
+    count = at.lists.count;
     held = λ id line is _. held_line id line is;
     made = λ id line is new. absurd (both_ways (is_new tx id.off) (none_new id.off) new);
   }
@@ -100,21 +101,21 @@ module _ (s : Standing) (wants : List Want) (seen : Seen) (at : At s) (count : H
   open_so = ne_eqb tx.level 0 (λ e. let l = at.lists.level_is in let some = at.some in omega (arith, e, l, some))
 
 pub lock_refusals : LockRefusals
-lock_refusals s (Lock want) wants level seen at count is =
-    first_skip _ _ (at_work s wants seen at count) ∙ (first_skip _ _ (open_so s wants seen at count) ∙ (tests_same s (want ∷ []) seen at count ∙ ap (λ ws. first_of (locking_tests seen s ws)) (sym is.0)))
-lock_refusals s (Begin these) wants level seen at count is =
-    first_skip _ _ (at_work s wants seen at count)
-    ∙ (first_skip _ _ (and_left ((lists_of s.view).level == 0) seen.spent (open_so s wants seen at count))
+lock_refusals s all (Lock want) wants level seen at is =
+    first_skip _ _ (at_work s wants seen all at) ∙ (first_skip _ _ (open_so s wants seen all at) ∙ (tests_same s (want ∷ []) seen all at ∙ ap (λ ws. first_of (locking_tests seen s ws)) (sym is.0)))
+lock_refusals s all (Begin these) wants level seen at is =
+    first_skip _ _ (at_work s wants seen all at)
+    ∙ (first_skip _ _ (and_left ((lists_of s.view).level == 0) seen.spent (open_so s wants seen all at))
     ∙ (first_skip _ _ (false_from_ne_true (nat_le 64 (lists_of s.view).level) (λ e. let l = leb-true 64 (lists_of s.view).level e in let level_is = at.lists.level_is in let low = is.2 in omega (arith, l, level_is, low)))
-    ∙ (tests_same s these seen at count ∙ ap (λ ws. first_of (locking_tests seen s ws)) (sym is.0))))
-lock_refusals s op wants level seen at count is = absurd is
+    ∙ (tests_same s these seen all at ∙ ap (λ ws. first_of (locking_tests seen s ws)) (sym is.0))))
+lock_refusals s all op wants level seen at is = absurd is
 
 -- ---- and it looked at all that such an operation asks for
 no_id : (id : Oid) → Contains [] id → ⊥
 no_id id among = search rules
 
-locks_look : (s : Standing) (op : Operation) → At s → ids_sized (lists_of s.view) op ≡ [] → ids_freed (lists_of s.view) op ≡ [] → LookedAt s.view (entries_so_far s) None op
-locks_look s op at sized freed = record {
+locks_look : (s : Standing) (all : List HeldLock) (op : Operation) → IsAtWith s s.level all → ids_sized (lists_of s.view) op ≡ [] → ids_freed (lists_of s.view) op ≡ [] → LookedAt s.view (entries_so_far s) None op
+locks_look s all op at sized freed = record {
   enters = no_entries s.view changed;
   sizes = λ id write among held stays. absurd (no_id id (subst (λ (ids : List Oid). Contains ids id) sized among));
   knows_root = no_root_is_asked s.view None op freed;
@@ -124,14 +125,14 @@ locks_look s op at sized freed = record {
     changed p e = let d = at.recorded p e in (d.object.block, d.index, d.at, d.within, inr (d.found, d.object.object.inside, d.data_))
 
 pub refused_locks_give_up : RefusedLocksGiveUp
-refused_locks_give_up s (Lock want) wants level seen r at count is first =
-    inl (record { inside = refl; plain = refl; seen = seen; root = None; looks = locks_look s (Lock want) at refl refl; refusal = r; first = lock_refusals s (Lock want) wants level seen at count is ∙ first; replied = refl })
-refused_locks_give_up s (Begin these) wants level seen r at count is first =
-    inl (record { inside = refl; plain = refl; seen = seen; root = None; looks = locks_look s (Begin these) at refl refl; refusal = r; first = lock_refusals s (Begin these) wants level seen at count is ∙ first; replied = refl })
-refused_locks_give_up s op wants level seen r at count is first = absurd is
+refused_locks_give_up s all (Lock want) wants level seen r at is first =
+    inl (record { inside = refl; plain = refl; seen = seen; root = None; looks = locks_look s all (Lock want) at refl refl; refusal = r; first = lock_refusals s all (Lock want) wants level seen at is ∙ first; replied = refl })
+refused_locks_give_up s all (Begin these) wants level seen r at is first =
+    inl (record { inside = refl; plain = refl; seen = seen; root = None; looks = locks_look s all (Begin these) at refl refl; refusal = r; first = lock_refusals s all (Begin these) wants level seen at is ∙ first; replied = refl })
+refused_locks_give_up s all op wants level seen r at is first = absurd is
 
 -- ---- a begin at the deepest level
-first_here : (t : Test) (rest : List Test) → t.1 ≡ true → first_of (t ∷ rest) ≡ Some t.0
+pub first_here : (t : Test) (rest : List Test) → t.1 ≡ true → first_of (t ∷ rest) ≡ Some t.0
 unfolding first_of
 first_here t rest e = cond-true t.1 (Some t.0) (first_of rest) e
 
@@ -141,7 +142,7 @@ deep_begins_give_up s wants at deep = inl (record {
   plain = refl;
   seen = unseen;
   root = None;
-  looks = locks_look s (Begin wants) at refl refl;
+  looks = locks_look s s.locks (Begin wants) at refl refl;
   refusal = Deep;
   first = first_skip _ _ (and_right (nat_le 1 (lists_of s.view).level) (not (is_working (lists_of s.view).stage)) (ap not at.lists.works))
       ∙ (first_skip _ _ (and_right ((lists_of s.view).level == 0) false refl)

@@ -1,6 +1,6 @@
 -- A LANE AT WORK THAT LOCKED OBJECTS is at work, with the longer list of locks.
-use Rattle.std.specs.Prelude.{filter, length, map}
-use Rattle.std.proofs.Common.{◌≡◌, ◌≢◌, ⊎_elim, inl, inr, ◌⊎◌, ℕ, ◌+◌, ◌*◌, ◌-◌, ◌/◌, ◌%◌, ◌<◌, ◌≤◌, nat_le, nat_lt, Bool, true, false, cond, not, ◌==◌, ◌&&◌, ◌||◌, All, Contains, List, [], ◌∷◌, ◌++◌, refl, sym, ap, ◌∙◌, subst, arith, ne_eqb, eq-eqb, Option, None, Some}
+use Rattle.std.specs.Prelude.{filter, length}
+use Rattle.std.proofs.Common.{◌≡◌, ⊎_elim, inl, inr, ◌⊎◌, ℕ, ◌+◌, ◌*◌, ◌-◌, ◌%◌, ◌<◌, ◌≤◌, nat_le, nat_lt, Bool, true, false, not, ◌==◌, ◌&&◌, ◌||◌, All, Contains, List, [], ◌∷◌, ◌++◌, refl, sym, ap, ◌∙◌, subst, arith, ne_eqb, eq-eqb, None, Some}
 use Rattle.std.specs.List.{AllByRecursion, list_any}
 use Rattle.std.proofs.lemmas.Bool.{and_from, and_left, and_right, both_ways, cond-false, eqb-true, false_from_ne_true, le-leb, leb-true, ltb-true, or_left, or_right}
 use Rattle.std.proofs.lemmas.List.Elements.{All-from_recursion}
@@ -12,28 +12,27 @@ use Rattle.pm_objects.specs.declared.ids.Oid.{Oid}
 use Rattle.pm_model.specs.Blocks.{Block as Placed}
 use Rattle.pm_model.specs.Inside.{Ran, after_reply, wants_of}
 use Rattle.pm_model.specs.Items.{is_among}
+use Rattle.pm_model.specs.Pending.{Pending}
 use Rattle.pm_model.specs.Places.{has_place}
 use Rattle.pm_model.specs.Refusals.{Test, first_of, is_first_lock, is_tried, passes_locks}
 use Rattle.pm_model.specs.Transaction.{Transaction, idle, all_locked, is_gone, is_locked, is_new, is_working, wants_of_old, with_locks}
 use Rattle.pm_model.specs.declared.stage.Stage.{Stage}
 use Rattle.pm_model.specs.declared.stage.Stage.TheVariants as stage
-use Rattle.pm_view.specs.Claims.{holds}
-use Rattle.pm_view.specs.Places.{Place, Small}
+use Rattle.pm_view.specs.Claims.{holds, locked}
+use Rattle.pm_view.specs.Places.{Place}
 use Rattle.pm_view.specs.Steps.{Step}
 use Rattle.pm_view.specs.Steps.Step.{Tell}
 use Rattle.pm_view.specs.View.{Told, View}
-use Rattle.pm_view.specs.Views.{after}
+use Rattle.pm_view.specs.Views.{actions_told, after}
 use Rattle.pm_world.specs.InWorld.{IsSound, SizesFit}
-use Rattle.pm_world.specs.LaneFields.{Standing, kept_of}
+use Rattle.pm_world.specs.LaneFields.{Standing}
 use Rattle.pm_world.specs.Sights.{is_recorded}
 use Rattle.pm_world.specs.declared.lane.HeldLock.{HeldLock}
 use Rattle.pm_crash.specs.Looked.{IsChanged, items_seen, pool_seen, refusal_by}
 use Rattle.pm_crash.specs.Looks.{ids_freed, ids_sized}
-use Rattle.pm_crash.specs.Calls.{pending_of}
-use Rattle.pm_crash.specs.OpenRuns.{after_told, no_pool}
+use Rattle.pm_crash.specs.Calls.{pending_of, pending_with}
+use Rattle.pm_crash.specs.OpenRuns.{no_pool}
 use Rattle.pm_crash.specs.SimFacts.{is_begun}
-use Rattle.pm_crash.proofs.Simulation.{sim_begins}
-use Rattle.pm_undo.specs.Spans as spans
 use Rattle.pm_crash.specs.Sim.{Sim, lists_of, tx_with}
 use Rattle.pm_crash.specs.SimOps.{Finds, LookedAt, RepliesBy, leaves_copy}
 use Rattle.pm_crash.proofs.OpenRuns.{told_once_more}
@@ -41,49 +40,31 @@ use Rattle.pm_crash.proofs.SimFacts.{no_entries}
 use Rattle.pm_crash.proofs.SimOps.{sim_extends}
 use Rattle.pm_crash.proofs.Telling.{no_root_is_asked, tells_grow}
 use Rattle.pm_lock.specs.Held.{HoldsEach}
-use Rattle.pm_lock.specs.Holding.{IsHeldAs}
 use Rattle.pm_lock.specs.ModelLocks.{HasLocksOf}
 use Rattle.pm_lock.specs.Objects.{StandsAt}
 use Rattle.pm_lock.specs.Objects as objects
-use Rattle.pm_lock.specs.Raising.{raised}
 use Rattle.pm_lock.specs.Wants.{has_unplaced, is_listed}
 use Rattle.pm_lock.proofs.CanBegin.{has_header}
 use Rattle.pm_lock.proofs.ModelPlans.{plans_as}
 use Rattle.pm_call.specs.At.{AreLists, At, IsDataOf, MaySet, entries_so_far}
 use Rattle.pm_call.specs.Did.{unseen}
 use Rattle.pm_call.specs.Held.{AreHeld, HasObject, IsHeld, has_line, is_in_locks, line_of}
-use Rattle.pm_call.specs.Locking.{AgreesOn, CanLock, HoldsLocks, IsOpened, TransactionsMayBegin, LeadsLocks, ObjectsMayBeLocked, TakesLocks, locks_with, to_take, to_write}
-use Rattle.pm_call.proofs.KeptGrows.{KeepsPictures, locking}
+use Rattle.pm_call.specs.Locking.{CanLock, LeadsLocks, ObjectsMayBeLocked, TakesLocks, locks_with, to_take, to_write}
+use Rattle.pm_call.proofs.HeldLines.{all_held, all_on, length_both, length_raised}
+use Rattle.pm_call.proofs.KeptGrows.{KeepsPictures, locking, own_on}
 use Rattle.pm_call.proofs.KeptWork.{data_on, held_size_on, object_on, seal_on, sim_on, working_on}
 use Rattle.pm_call.proofs.KnownObjects.{held_object, object_stands}
 use Rattle.pm_call.proofs.LockLists.{all_locked_is, any_at, chunk_high, listed_is, locks_are, locks_count, none_any, wants_off}
 use Rattle.pm_call.proofs.Noting.{all_map, data_told, held_told, sizes_told, sound_told, working_told}
 use Rattle.pm_call.proofs.RangeReads.{begun_more}
+use Rattle.pm_call.proofs.Staying.{has_pending, pending_told}
 use Rattle.pm_call.proofs.TakenLocks.{IsTakenView, can_lock, is_taken_view}
 
--- ---- lists
-all_on : {A : Type 0} (P : A → Type 0) (xs ys : List A) → AllByRecursion P xs → AllByRecursion P ys → AllByRecursion P (xs ++ ys)
-all_on P [] ys a b = b
-all_on P (x ∷ xs) ys a b = (a.0, all_on P xs ys a.1 b)
-
-length_both : {A : Type 0} (xs ys : List A) → length (xs ++ ys) ≡ length xs + length ys
-length_both [] ys = omega arith
-length_both (x ∷ xs) ys = let n = length_both xs ys in omega (arith, n)
-
-length_raised : (writes : ℕ → Bool) (locks : List HeldLock) → length (raised writes locks) ≡ length locks
-length_raised writes [] = refl
-length_raised writes (l ∷ locks) = ap (λ n. Rattle.std.specs.Prelude.suc n) (length_raised writes locks)
-
 -- no test applies
-no_first : (list : List Test) → AllByRecursion (λ (t : Test). t.1 ≡ false) list → first_of list ≡ None
+pub no_first : (list : List Test) → AllByRecursion (λ (t : Test). t.1 ≡ false) list → first_of list ≡ None
 unfolding first_of
 no_first [] all = refl
 no_first (t ∷ list) all = cond-false t.1 (Some t.0) (first_of list) all.0 ∙ no_first list all.1
-
--- each lock of the list has its object
-all_held : (v : View) (writes : ℕ → Bool) (locks : List HeldLock) → AllByRecursion (λ (l : HeldLock). (l.line ≡ 0) ⊎ HasObject v l.line) locks → AllByRecursion (IsHeldAs v.claims) (raised writes locks) → AreHeld v (raised writes locks)
-all_held v writes [] objects held = tt
-all_held v writes (l ∷ locks) objects held = (record { held = held.0; object = objects.0 }, all_held v writes locks objects.1 held.1)
 
 -- of a transaction that made nothing no want is new
 old_wants : (tx : Transaction) (wants : List Want) → tx.made ≡ [] → wants_of_old tx wants ≡ wants
@@ -111,8 +92,10 @@ pub record IsOp (v : View) (op : Operation) (wants : List Want) (level : ℕ) : 
   pub stage_then : Stage
   pub works : is_working stage_then ≡ true
   pub done : after_reply op None (lists_of v) ≡ record (with_locks wants (lists_of v)) { level = level; stage = stage_then }
+  pub asks_none : (p : Pending) → pending_with op None p ≡ p
+  pub lists_none : actions_told op None v.actions ≡ v.actions
 
-module _ (s : Standing) (op : Operation) (wants : List Want) (level : ℕ) (x : View) (at : CanLock s) (h : HoldsLocks s) (tk : TakesLocks s wants x)
+module _ (s : Standing) (op : Operation) (wants : List Want) (level : ℕ) (x : View) (at : CanLock s) (tk : TakesLocks s wants x)
     (placed : has_unplaced s.view.fixed.shape s.view.fixed.pool wants ≡ false) (few : length s.locks + length (to_take s wants) ≤ 64) where
   abbrev v : View
   v = s.view
@@ -121,7 +104,7 @@ module _ (s : Standing) (op : Operation) (wants : List Want) (level : ℕ) (x : 
   sh = s.view.fixed.shape
 
   pub taken : IsTakenView s wants x
-  taken = is_taken_view s wants x at h tk
+  taken = is_taken_view s wants x at tk
 
   abbrev pub next : View
   next = locking s.view taken.claims taken.seen
@@ -151,7 +134,7 @@ module _ (s : Standing) (op : Operation) (wants : List Want) (level : ℕ) (x : 
   held = all_held next (to_write s wants) (s.locks ++ to_take s wants)
       (all_on (λ (l : HeldLock). (l.line ≡ 0) ⊎ HasObject next l.line) s.locks (to_take s wants)
       (all_map (IsHeld s.view) (λ (l : HeldLock). (l.line ≡ 0) ⊎ HasObject next l.line) s.locks
-      (λ l o. ⊎_elim (λ (z : l.line ≡ 0). inl z) (λ (b : HasObject s.view l.line). inr (object_on s at taken.claims taken.seen taken.keeps h.own sound pics l.line b)) o.object) at.held)
+      (λ l o. ⊎_elim (λ (z : l.line ≡ 0). inl z) (λ (b : HasObject s.view l.line). inr (object_on s at taken.claims taken.seen taken.keeps at.own sound pics l.line b)) o.object) at.held)
       (all_map (λ (l : HeldLock). StandsAt x l.line) (λ (l : HeldLock). (l.line ≡ 0) ⊎ HasObject next l.line) (to_take s wants)
       (λ l o. inr (stands_object l.line (subst (λ (u : View). StandsAt u l.line) taken.same o))) taken.stands))
       each.held
@@ -174,7 +157,7 @@ module _ (s : Standing) (op : Operation) (wants : List Want) (level : ℕ) (x : 
     id = refl;
     lanes = refl;
     zones = refl;
-    count = h.count;
+    count = at.lists.count;
     held = λ id line is _. held_line id line is;
     made = λ id line is new. absurd (both_ways (is_new seen_tx id.off) (ap (λ (made : List Placed). list_any (λ (b : Placed). b.off == id.off) made) at.lists.blocks.0) new);
   }
@@ -226,6 +209,9 @@ module _ (s : Standing) (op : Operation) (wants : List Want) (level : ℕ) (x : 
     locks_then : (off : ℕ) (write : Bool) → is_locked (all_locked (wants_of_old tx wants) tx.locks) off write ≡ is_in_locks (locks_with s wants) off write
     locks_then off write = ap (λ T. is_locked T off write) wants_same ∙ locks_same off write
 
+    count_then : length (all_locked (wants_of_old tx wants) tx.locks) ≡ length (locks_with s wants)
+    count_then = ap (λ T. length T) wants_same ∙ (locks_count sh v.fixed.pool s.locks wants tx.locks placed at.lists.count at.lists.locks ∙ sym many)
+
     still_locked : (off : ℕ) → is_in_locks s.locks off true ≡ true → is_in_locks (locks_with s wants) off true ≡ true
     still_locked off e = sym (locks_same off true) ∙ (all_locked_is wants tx.locks off true ∙ or_left (is_locked tx.locks off true) (wants_off wants off true) (at.lists.locks off true ∙ e))
 
@@ -234,6 +220,7 @@ module _ (s : Standing) (op : Operation) (wants : List Want) (level : ℕ) (x : 
       level_is = refl;
       works = is.works;
       locks = locks_then;
+      count = count_then;
       recorded = at.lists.recorded;
       records = at.lists.records;
       blocks = at.lists.blocks;
@@ -242,7 +229,7 @@ module _ (s : Standing) (op : Operation) (wants : List Want) (level : ℕ) (x : 
         locked = still_locked a.id.off m.locked;
         aligned = m.aligned;
         size = m.size;
-        sized = held_size_on s at taken.claims taken.seen taken.keeps h.own sound pics a.id.off o.0 o.1 ∙ m.sized;
+        sized = held_size_on s at taken.claims taken.seen taken.keeps at.own sound pics a.id.off o.0 o.1 ∙ m.sized;
         inside = m.inside;
         small = m.small;
       }) at.lists.may_set;
@@ -256,7 +243,7 @@ module _ (s : Standing) (op : Operation) (wants : List Want) (level : ℕ) (x : 
     held_then = held_told next told.call told.actions told.published (locks_with s wants) held
 
     recorded_next : (p : Place) → is_recorded s.view.log.records p ≡ true → IsDataOf next p
-    recorded_next p e = data_on s at taken.claims taken.seen taken.keeps h.own sound pics p (at.recorded p e)
+    recorded_next p e = data_on s at taken.claims taken.seen taken.keeps at.own sound pics p (at.recorded p e)
 
     recorded_then : (p : Place) → is_recorded s.view.log.records p ≡ true → IsDataOf told p
     recorded_then p e = data_told next told.call told.actions told.published sound p (recorded_next p e)
@@ -289,7 +276,7 @@ module _ (s : Standing) (op : Operation) (wants : List Want) (level : ℕ) (x : 
     ran = record { operation = op; seen = unseen; reply = None }
 
     sim : Sim told (entries_so_far s)
-    sim = sim_extends next told (entries_so_far s) (entries_so_far s) None ran (sim_on s at taken.claims taken.seen taken.keeps h.own sound pics)
+    sim = sim_extends next told (entries_so_far s) (entries_so_far s) None ran (sim_on s at taken.claims taken.seen taken.keeps at.own sound pics)
         (record { keeps = record { fixed = refl; entries = refl }; call = refl }) at.tells (tells_grow next op None) (record {
           leaves = is.leaves;
           looks = looks;
@@ -304,46 +291,37 @@ module _ (s : Standing) (op : Operation) (wants : List Want) (level : ℕ) (x : 
 
     stands : At then
     stands = record {
-      working = working_told next told.call told.actions told.published (working_on s at taken.claims taken.seen taken.keeps h.own sound pics);
+      working = working_told next told.call told.actions told.published (working_on s at taken.claims taken.seen taken.keeps at.own sound pics);
       unbumped = at.unbumped;
       begun = begun;
       some = some;
       most = most;
       sound = sound_then;
       sizes = sizes_told next told.call told.actions told.published fit;
-      sealed = seal_on s at taken.claims taken.seen taken.keeps h.own sound pics;
+      sealed = seal_on s at taken.claims taken.seen taken.keeps at.own sound pics;
       number = record { seen = at.number.seen; told = taken.saw (Rattle.pm_view.specs.Steps.Step.NumberSeen at.number.seen) at.number.told; below = at.number.below; none = at.number.none };
       held = held_then;
       lines = record { once = each.once; inside = each.inside };
       few = let m = many in omega (arith, m, few);
+      holds = record { each = record { once = each.once; inside = each.inside; held = each.held }; only = taken.only };
+      own = own_on s.view taken.claims taken.seen taken.keeps at.own;
       room = at.room;
       recorded = recorded_then;
       lists = lists;
+      pending = pending_told next op None is.asks_none is.lists_none (has_pending s.view next refl refl at.pending);
       sim = sim;
       facts = at.facts;
     }
-
-    locks : HoldsLocks then
-    locks = record {
-      each = record { once = each.once; inside = each.inside; held = each.held };
-      only = taken.only;
-      count = ap (λ (tx : Transaction). length tx.locks) lists_then ∙ (ap (λ T. length T) wants_same ∙ (locks_count sh v.fixed.pool s.locks wants tx.locks placed h.count at.lists.locks ∙ sym many));
-      own = λ c i m z. h.own c i (sym (taken.keeps.mine_same (Small c i)) ∙ m) (own_zero c i (sym (taken.keeps.mine_same (Small c i)) ∙ m) z);
-    }
-      where
-        own_zero : (c i : ℕ) → Rattle.pm_crash.specs.Footprints.has_own s.view (Small c i) ≡ true → Rattle.pm_view.specs.Claims.class taken.claims c ≡ 0 → Rattle.pm_view.specs.Claims.class s.view.claims c ≡ 0
-        own_zero c i m z = sym (taken.keeps.class_same c (h.own c i m)) ∙ z
 
     pub leads : LeadsLocks s op wants level x
     leads = subst (LeadsLocks s op wants level) (sym taken.same) (record {
       unrefused = record { looks = looks; none = unrefused };
       allowed = at.working.is_open;
       stands = stands;
-      locks = locks;
     })
 
 -- ---- A LOCK, and an inner level that begins
-module _ (s : Standing) (at : At s) (h : HoldsLocks s) (x : View) where
+module _ (s : Standing) (at : At s) (x : View) where
   open_ : ((lists_of s.view).level == 0) ≡ false
   open_ = ne_eqb (lists_of s.view).level 0 (λ e. let l = at.lists.level_is in let some = at.some in omega (arith, e, l, some))
 
@@ -352,7 +330,7 @@ module _ (s : Standing) (at : At s) (h : HoldsLocks s) (x : View) where
 
   lock_leads : (want : Want) → has_unplaced s.view.fixed.shape s.view.fixed.pool (want ∷ []) ≡ false → length s.locks + length (to_take s (want ∷ [])) ≤ 64 → TakesLocks s (want ∷ []) x
       → LeadsLocks s (Lock want) (want ∷ []) s.level x
-  lock_leads want placed few tk = leads s (Lock want) (want ∷ []) s.level x (can_lock s at) h tk placed few (record {
+  lock_leads want placed few tk = leads s (Lock want) (want ∷ []) s.level x (can_lock s at) tk placed few (record {
     leaves = refl;
     wanted = refl;
     replies = λ w. refl;
@@ -360,16 +338,18 @@ module _ (s : Standing) (at : At s) (h : HoldsLocks s) (x : View) where
     freed = refl;
     stage_then = (lists_of s.view).stage;
     works = at.lists.works;
+    asks_none = λ p. refl;
+    lists_none = refl;
     done = ap (λ n. record (with_locks (want ∷ []) (lists_of s.view)) { level = n; stage = (lists_of s.view).stage }) at.lists.level_is;
   }) (begun_more s.view.call (record { operation = Lock want; reply = None }) at.begun) at.some at.most (no_first _ (
     at_work,
     (
       open_,
       (
-        not_full s (Lock want) (want ∷ []) s.level x (can_lock s at) h tk placed few,
+        not_full s (Lock want) (want ∷ []) s.level x (can_lock s at) tk placed few,
         (
-          all_placed_there s (Lock want) (want ∷ []) s.level x (can_lock s at) h tk placed few,
-          (not_busy s (Lock want) (want ∷ []) s.level x (can_lock s at) h tk placed few, (none_missing s (Lock want) (want ∷ []) s.level x (can_lock s at) h tk placed few, (none_gone s (Lock want) (want ∷ []) s.level x (can_lock s at) h tk placed few, tt))),
+          all_placed_there s (Lock want) (want ∷ []) s.level x (can_lock s at) tk placed few,
+          (not_busy s (Lock want) (want ∷ []) s.level x (can_lock s at) tk placed few, (none_missing s (Lock want) (want ∷ []) s.level x (can_lock s at) tk placed few, (none_gone s (Lock want) (want ∷ []) s.level x (can_lock s at) tk placed few, tt))),
         ),
       ),
     ),
@@ -377,7 +357,7 @@ module _ (s : Standing) (at : At s) (h : HoldsLocks s) (x : View) where
 
   begin_leads : (wants : List Want) → s.level < 64 → has_unplaced s.view.fixed.shape s.view.fixed.pool wants ≡ false → length s.locks + length (to_take s wants) ≤ 64 → TakesLocks s wants x
       → LeadsLocks s (Begin wants) wants (s.level + 1) x
-  begin_leads wants deep placed few tk = leads s (Begin wants) wants (s.level + 1) x (can_lock s at) h tk placed few (record {
+  begin_leads wants deep placed few tk = leads s (Begin wants) wants (s.level + 1) x (can_lock s at) tk placed few (record {
     leaves = refl;
     wanted = refl;
     replies = λ w. refl;
@@ -385,6 +365,8 @@ module _ (s : Standing) (at : At s) (h : HoldsLocks s) (x : View) where
     freed = refl;
     stage_then = stage.Work;
     works = refl;
+    asks_none = λ p. refl;
+    lists_none = refl;
     done = ap (λ n. record (with_locks wants (lists_of s.view)) { level = n + 1; stage = stage.Work }) at.lists.level_is;
   }) (begun_more s.view.call (record { operation = Begin wants; reply = None }) at.begun) (omega arith) (omega (arith, deep)) (no_first _ (
     at_work,
@@ -393,10 +375,10 @@ module _ (s : Standing) (at : At s) (h : HoldsLocks s) (x : View) where
       (
         not_deep,
         (
-          not_full s (Begin wants) wants (s.level + 1) x (can_lock s at) h tk placed few,
+          not_full s (Begin wants) wants (s.level + 1) x (can_lock s at) tk placed few,
           (
-            all_placed_there s (Begin wants) wants (s.level + 1) x (can_lock s at) h tk placed few,
-            (not_busy s (Begin wants) wants (s.level + 1) x (can_lock s at) h tk placed few, (none_missing s (Begin wants) wants (s.level + 1) x (can_lock s at) h tk placed few, (none_gone s (Begin wants) wants (s.level + 1) x (can_lock s at) h tk placed few, tt))),
+            all_placed_there s (Begin wants) wants (s.level + 1) x (can_lock s at) tk placed few,
+            (not_busy s (Begin wants) wants (s.level + 1) x (can_lock s at) tk placed few, (none_missing s (Begin wants) wants (s.level + 1) x (can_lock s at) tk placed few, (none_gone s (Begin wants) wants (s.level + 1) x (can_lock s at) tk placed few, tt))),
           ),
         ),
       ),
@@ -408,83 +390,10 @@ module _ (s : Standing) (at : At s) (h : HoldsLocks s) (x : View) where
 
 -- THE LAW
 pub objects_may_be_locked : ObjectsMayBeLocked
-objects_may_be_locked s (Lock want) wants level x at h may tk =
+objects_may_be_locked s (Lock want) wants level x at may tk =
     subst (λ n. LeadsLocks s (Lock want) wants n x) (sym may.is.1)
-    (subst (λ ws. has_unplaced s.view.fixed.shape s.view.fixed.pool ws ≡ false → length s.locks + length (to_take s ws) ≤ 64 → TakesLocks s ws x → LeadsLocks s (Lock want) ws s.level x) (sym may.is.0) (lock_leads s at h x want) may.placed may.few tk)
-objects_may_be_locked s (Begin these) wants level x at h may tk =
+    (subst (λ ws. has_unplaced s.view.fixed.shape s.view.fixed.pool ws ≡ false → length s.locks + length (to_take s ws) ≤ 64 → TakesLocks s ws x → LeadsLocks s (Lock want) ws s.level x) (sym may.is.0) (lock_leads s at x want) may.placed may.few tk)
+objects_may_be_locked s (Begin these) wants level x at may tk =
     subst (λ n. LeadsLocks s (Begin these) wants n x) (sym may.is.1)
-    (subst (λ ws. has_unplaced s.view.fixed.shape s.view.fixed.pool ws ≡ false → length s.locks + length (to_take s ws) ≤ 64 → TakesLocks s ws x → LeadsLocks s (Begin these) ws (s.level + 1) x) (sym may.is.0) (begin_leads s at h x these may.is.2) may.placed may.few tk)
-objects_may_be_locked s op wants level x at h may tk = absurd may.is
-
--- ---- THE OUTERMOST LEVEL begins
-module _ (s : Standing) (op : IsOpened s) where
-  none_told : lists_of s.view ≡ idle no_pool (pending_of s.view.entries)
-  unfolding after_told
-  none_told = ap (λ call. Rattle.pm_crash.specs.OpenRuns.after_told call (idle no_pool (pending_of s.view.entries))) op.call
-
-  none_recorded : (p : Place) → is_recorded s.view.log.records p ≡ true → ⊥
-  none_recorded p e = both_ways (is_recorded s.view.log.records p) (ap (λ rs. is_recorded rs p) op.records) e
-
-  agrees : AgreesOn s (lists_of s.view)
-  unfolding spans.words_in
-  agrees = subst (AgreesOn s) (sym none_told) (record {
-    locks = λ off write. sym (ap (λ (ls : List HeldLock). is_in_locks ls off write) op.locks ∙ and_right (has_line off) false refl);
-    recorded = sym (ap (λ rs. spans.words_in (map (kept_of s.view.fixed.shape) rs)) op.records);
-    records = sym (ap length op.records);
-    blocks = (refl, refl, refl);
-    sets = op.entries;
-    may_set = tt;
-    error_is = refl;
-  })
-
-  pub opened_can_lock : CanLock s
-  opened_can_lock = record {
-    working = op.working;
-    unbumped = op.unbumped;
-    sound = op.sound;
-    sizes = op.sizes;
-    sealed = op.sealed;
-    number = op.number;
-    held = subst (AreHeld s.view) (sym op.locks) tt;
-    room = subst (λ es. length es < 64) (sym op.entries) (omega arith);
-    recorded = λ p e. absurd (none_recorded p e);
-    lists = agrees;
-    sim = sim_begins s.view op.call op.records;
-    facts = op.facts;
-    tells = inl op.call;
-  }
-
-  no_level : (lists_of s.view).level ≡ 0
-  no_level = ap (λ (tx : Transaction). tx.level) none_told
-
-  pub first_leads : (wants : List Want) (x : View) → HoldsLocks s → has_unplaced s.view.fixed.shape s.view.fixed.pool wants ≡ false → length s.locks + length (to_take s wants) ≤ 64 → TakesLocks s wants x
-      → LeadsLocks s (Begin wants) wants 1 x
-  first_leads wants x h placed few tk = leads s (Begin wants) wants 1 x opened_can_lock h tk placed few (record {
-    leaves = refl;
-    wanted = refl;
-    replies = λ w. refl;
-    sized = refl;
-    freed = refl;
-    stage_then = stage.Work;
-    works = refl;
-    done = ap (λ n. record (with_locks wants (lists_of s.view)) { level = n + 1; stage = stage.Work }) no_level;
-  }) (ap (λ (call : List Told). is_begun (call ++ record { operation = Begin wants; reply = None } ∷ [])) op.call) (omega arith) (omega arith) (no_first _ (
-    and_left (nat_le 1 (lists_of s.view).level) (not (is_working (lists_of s.view).stage)) (ap (nat_le 1) no_level),
-    (
-      and_right ((lists_of s.view).level == 0) false refl,
-      (
-        ap (nat_le 64) no_level,
-        (
-          not_full s (Begin wants) wants 1 x opened_can_lock h tk placed few,
-          (
-            all_placed_there s (Begin wants) wants 1 x opened_can_lock h tk placed few,
-            (not_busy s (Begin wants) wants 1 x opened_can_lock h tk placed few, (none_missing s (Begin wants) wants 1 x opened_can_lock h tk placed few, (none_gone s (Begin wants) wants 1 x opened_can_lock h tk placed few, tt))),
-          ),
-        ),
-      ),
-    ),
-  ))
-
--- THE LAW
-pub transactions_may_begin : TransactionsMayBegin
-transactions_may_begin s wants x op h placed few tk = first_leads s op wants x h placed few tk
+    (subst (λ ws. has_unplaced s.view.fixed.shape s.view.fixed.pool ws ≡ false → length s.locks + length (to_take s ws) ≤ 64 → TakesLocks s ws x → LeadsLocks s (Begin these) ws (s.level + 1) x) (sym may.is.0) (begin_leads s at x these may.is.2) may.placed may.few tk)
+objects_may_be_locked s op wants level x at may tk = absurd may.is

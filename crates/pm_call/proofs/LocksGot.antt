@@ -1,24 +1,28 @@
 -- WHAT pm_lock PROMISES of the locks that are wanted is what a lane at work asks.
-use Rattle.std.specs.Prelude.{take}
+use Rattle.std.specs.Prelude.{drop, filter, take}
 use Rattle.std.proofs.Common.{◌≡◌, ⊎_elim, inl, inr, ℕ, zero, suc, ◌+◌, Bool, true, false, Contains, List, [], ◌∷◌, ◌++◌, length, refl, sym, ap, ◌∙◌, subst, arith}
 use Rattle.std.proofs.lemmas.List.{take_all}
 use Rattle.std.proofs.lemmas.List.Elements.{Contains-append_right}
 use Rattle.pm_objects.specs.declared.calls.Want.{Want}
 use Rattle.pm_view.specs.Steps.{Step}
-use Rattle.pm_view.specs.Steps.Step.{StopSeen, TakeRead, TakeWrite}
+use Rattle.pm_view.specs.Steps.Step.{Raise, StopSeen, TakeRead, TakeWrite}
 use Rattle.pm_view.specs.View.{View}
 use Rattle.pm_view.specs.Views.{after, after_all}
 use Rattle.pm_world.specs.LaneFields.{Standing}
 use Rattle.pm_world.specs.declared.lane.HeldLock.{HeldLock}
 use Rattle.pm_lock.specs.Acquiring.{AreFinds}
 use Rattle.pm_lock.specs.Holding.{IsTaken}
+use Rattle.pm_lock.specs.Objects.{HasLooked, IsOfWorld}
+use Rattle.pm_lock.specs.Raising.{AreRaised, is_raised, raised, raises}
 use Rattle.pm_lock.specs.Steps.{AreWaits, refusals, takes, tries, waits}
 use Rattle.pm_lock.proofs.Holds.{tries_taken, waits_taken}
+use Rattle.pm_lock.proofs.RaisedClaims.{are_raised}
 use Rattle.pm_lock.proofs.Stays.{stays_here}
 use Rattle.pm_lock.proofs.Waiting.{all_then, once_more}
 use Rattle.pm_call.specs.LockRefusals.{TriedLocks}
-use Rattle.pm_call.specs.Locking.{to_take}
-use Rattle.pm_call.specs.LocksGot.{AreGotBy, BusyLocksAreTried, GotLocksAreTaken, MissedLocksAreTried}
+use Rattle.pm_call.specs.Locking.{to_take, to_write}
+use Rattle.pm_call.specs.LocksGot.{AreGotBy, BusyLocksAreTried, GotLocksAreTaken, MissedLocksAreTried, RefusedRaisesAreTried}
+use Rattle.pm_call.proofs.TakenLocks.{no_finds, seen_raises}
 
 -- ---- what was seen, was seen
 seen_take : (v : View) (line : ℕ) (write won : Bool) (n : Step) → Contains v.seen n → Contains (after v (takes line write won)).seen n
@@ -79,18 +83,31 @@ got_locks_are_taken at s wants steps got found = record {
   raises_ = refl;
 }
 
+-- ---- none is raised
+none_raised : (v : View) (writes : ℕ → Bool) → AreRaised v writes [] v
+none_raised v writes = record { same = refl; held = λ _. tt }
+
+-- looks tell nothing but claims
+seen_looked : (v w : View) (n : Step) → HasLooked v w → Contains v.seen n → Contains w.seen n
+seen_looked v w n stays there = subst (λ (y : View). Contains y.seen n) (sym stays.same) there
+
+took_all : (s : Standing) (wants : List Want) → to_take s wants ≡ take (length (to_take s wants)) (to_take s wants)
+took_all s wants = sym (take_all (length (to_take s wants)) (to_take s wants) (omega arith))
+
 pub missed_locks_are_tried : (at : View → Type 0) → MissedLocksAreTried at
 missed_locks_are_tried at s wants steps got missed = record {
   count = length (to_take s wants);
   taken = after_all s.view steps;
-  takes = subst (λ (ls : List HeldLock). IsTaken s.view ls (after_all s.view steps)) (sym (take_all (length (to_take s wants)) (to_take s wants) (omega arith))) (got_taken s.view (to_take s wants) steps got);
-  told = got_seen s.view (to_take s wants) steps got;
+  takes = subst (λ (ls : List HeldLock). IsTaken s.view ls (after_all s.view steps)) (took_all s wants) (got_taken s.view (to_take s wants) steps got);
+  told = λ n there. seen_looked (after_all s.view steps) (after_all (after_all s.view steps) missed.steps) n missed.stays (got_seen s.view (to_take s wants) steps got n there);
   under = missed.before + 1;
   looks = missed.steps;
   finds = missed.looks;
   stays = missed.stays;
-  then = refl;
   world = inl missed.world;
+  rose_ = 0;
+  raises_ = none_raised (after_all (after_all s.view steps) missed.steps) (to_write s wants);
+  lists = ap (λ (ls : List HeldLock). s.locks ++ ls) (took_all s wants);
 }
 
 -- ---- a refused try only tells
@@ -98,7 +115,7 @@ refused_on : (v u : View) (locks : List HeldLock) (line : ℕ) (write : Bool) �
 refused_on v u locks line true is = ap (λ (y : View). record y { seen = TakeWrite line false ∷ u.seen }) is
 refused_on v u locks line false is = ap (λ (y : View). record y { seen = TakeRead line false ∷ u.seen }) is
 
-none_looked : (s : Standing) (wants : List Want) (k : ℕ) (x : View) → IsTaken s.view (take k (to_take s wants)) x → ((n : Step) → Contains s.view.seen n → Contains x.seen n) → TriedLocks s wants x
+pub none_looked : (s : Standing) (wants : List Want) (k : ℕ) (x : View) → IsTaken s.view (take k (to_take s wants)) x → ((n : Step) → Contains s.view.seen n → Contains x.seen n) → TriedLocks s wants (s.locks ++ take k (to_take s wants)) x
 unfolding after_all AreFinds
 none_looked s wants k x is told = record {
   count = k;
@@ -109,8 +126,10 @@ none_looked s wants k x is told = record {
   looks = [];
   finds = refl;
   stays = stays_here x;
-  then = refl;
   world = inr refl;
+  rose_ = 0;
+  raises_ = none_raised x (to_write s wants);
+  lists = refl;
 }
 
 pub busy_taken : (v : View) (got : List HeldLock) (line : ℕ) (write : Bool) → IsTaken v got (after_all v (tries got ++ takes line write false ∷ []))
@@ -123,3 +142,39 @@ busy_locks_are_tried s wants k line write =
     let got : List HeldLock = take k (to_take s wants) in
     none_looked s wants k (after_all s.view (tries got ++ takes line write false ∷ [])) (busy_taken s.view got line write)
     (λ n there. seen_last s.view (tries got) line write false n (seen_tries got s.view n there))
+
+-- ---- some are raised, and a raise is refused
+refused_raise : (v u : View) (writes : ℕ → Bool) (locks : List HeldLock) (line : ℕ) → AreRaised v writes locks u → AreRaised v writes locks (after u (Raise line false))
+refused_raise v u writes locks line r = record { same = ap (λ (y : View). record y { seen = Raise line false ∷ u.seen }) r.same; held = r.held }
+
+module _ (v : View) (writes : ℕ → Bool) (locks : List HeldLock) (line : ℕ) where
+  abbrev one : View
+  one = after_all v (raises writes locks)
+
+  pub last_is : after_all v (raises writes locks ++ Raise line false ∷ []) ≡ after one (Raise line false)
+  last_is = all_then v (raises writes locks) (Raise line false ∷ []) ∙ once_more one (Raise line false)
+
+  pub some_raised : AreRaised v writes locks (after_all v (raises writes locks ++ Raise line false ∷ []))
+  some_raised = subst (AreRaised v writes locks) (sym last_is) (refused_raise v one writes locks line (are_raised writes v locks))
+
+  seen_raised : (n : Step) → Contains v.seen n → Contains (after_all v (raises writes locks ++ Raise line false ∷ [])).seen n
+  seen_raised n there = subst (λ (y : View). Contains y.seen n) (sym last_is) (Contains-append_right (Raise line false ∷ []) one.seen n (seen_raises (filter (is_raised writes) locks) v n there))
+
+pub refused_raises_are_tried : (at : View → Type 0) → RefusedRaisesAreTried at
+refused_raises_are_tried at s wants steps k line got found =
+    let plan : List HeldLock = to_take s wants in
+    let looked : View = after_all (after_all s.view steps) found.steps in
+    let x : View = after_all looked (raises (to_write s wants) (take k (s.locks ++ plan)) ++ Raise line false ∷ []) in record {
+      count = length plan;
+      taken = after_all s.view steps;
+      takes = subst (λ (ls : List HeldLock). IsTaken s.view ls (after_all s.view steps)) (took_all s wants) (got_taken s.view plan steps got);
+      told = λ n there. seen_raised looked (to_write s wants) (take k (s.locks ++ plan)) line n (seen_looked (after_all s.view steps) looked n found.stays (got_seen s.view plan steps got n there));
+      under = length plan;
+      looks = found.steps;
+      finds = subst (λ (ls : List HeldLock). AreFinds s.view.fixed.shape ls found.steps) (took_all s wants) found.looks;
+      stays = found.stays;
+      world = ⊎_elim (λ (w : IsOfWorld looked). inl w) (λ (e : plan ≡ []). inr (no_finds s.view.fixed.shape found.steps (subst (λ (ls : List HeldLock). AreFinds s.view.fixed.shape ls found.steps) e found.looks))) found.world;
+      rose_ = k;
+      raises_ = subst (λ (ls : List HeldLock). AreRaised looked (to_write s wants) (take k (s.locks ++ ls)) x) (took_all s wants) (some_raised looked (to_write s wants) (take k (s.locks ++ plan)) line);
+      lists = ap (λ (ls : List HeldLock). raised (to_write s wants) (take k (s.locks ++ ls)) ++ drop k (s.locks ++ ls)) (took_all s wants);
+    }

@@ -1,6 +1,6 @@
 -- A LANE AT WORK STAYS SO where it only notes, records or stores: what it holds is the same.
 use Rattle.std.specs.Prelude.{map}
-use Rattle.std.proofs.Common.{◌≡◌, ◌≢◌, ℕ, ◌+◌, ◌*◌, ◌%◌, ◌^◌, ◌<◌, ◌≤◌, inl, inr, ⊎_elim, Bool, true, false, List, [], ◌∷◌, refl, sym, ap, ◌∙◌, subst, arith, eq-eqb, nat_le, ◌==◌, Some}
+use Rattle.std.proofs.Common.{◌≡◌, ◌≢◌, ℕ, ◌+◌, ◌*◌, ◌%◌, ◌^◌, ◌<◌, ◌≤◌, inl, inr, ⊎_elim, Bool, true, false, List, [], ◌∷◌, refl, sym, ap, ◌∙◌, subst, arith, eq-eqb, nat_le, ◌==◌, ◌||◌, Some}
 use Rattle.std.specs.List.{AllByRecursion}
 use Rattle.std.proofs.lemmas.Bool.{and_from, both_ways, le-leb}
 use Rattle.pm_world.specs.Lanes.{is_occupancy}
@@ -102,7 +102,7 @@ module _ (v : View) (ns : List Note) (changes : List Undrained) (calls : ℕ) (l
 
       one : (l : HeldLock) → IsHeld v l → IsHeld next l
       one l h = record {
-        held = (λ e. ap (λ f. f l.line) (notes.locked_same ns v.claims) ∙ h.held.0 e, λ e. ap (λ f. f l.line) (notes.reads_same ns v.claims) ∙ h.held.1 e);
+        held = (λ e. ap (λ f. f l.line) (notes.locked_same ns v.claims) ∙ h.held.0 e, (λ i. notes.locked_same ns v.claims i l.line || notes.reads_same ns v.claims i l.line) ∙ h.held.1);
         object = ⊎_elim (λ (z : l.line ≡ 0). inl z) (λ (o : HasObject v l.line). inr (object l.line o)) h.object;
       }
 

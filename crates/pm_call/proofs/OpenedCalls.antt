@@ -1,40 +1,54 @@
--- A CALL OPENS as its lane, between two calls, sees a number.
-use Rattle.std.proofs.Common.{◌≡◌, ℕ, ◌<◌, List, [], ◌∷◌, refl, sym, ap, subst, arith, None}
+-- A CALL OPENS as its lane, between two calls, sees a number; and a lane whose call is open takes the locks that are wanted and begins the outermost level.
+use Rattle.std.proofs.Common.{◌≡◌, ℕ, ◌<◌, List, [], ◌∷◌, refl, sym, ap, subst, arith, None, inl, ◌+◌, ◌-◌, ◌≤◌, nat_le, true, false, not, ◌==◌, ◌++◌, ◌∙◌}
 use Rattle.std.specs.List.{AllByRecursion}
 use Rattle.std.proofs.lemmas.List.Elements.{Contains-push}
 use Rattle.pm_layout.specs.Areas.{greatest_generation}
 use Rattle.pm_view.specs.Changes.{Undrained}
 use Rattle.pm_view.specs.Log.{Log, Open, Phase, new_log}
-use Rattle.pm_view.specs.Places.{Small, Big, Root}
+use Rattle.pm_view.specs.Places.{Small, Big, Root, Place}
 use Rattle.pm_view.specs.Steps.Step.{NumberSeen}
-use Rattle.pm_view.specs.View.{View}
+use Rattle.pm_view.specs.View.{View, Told}
 use Rattle.pm_view.specs.Views.{after, begun, with_seen}
 use Rattle.pm_world.specs.InWorld.{SizesFit}
-use Rattle.pm_world.specs.LaneFields.{Standing, moved}
-use Rattle.std.specs.Prelude.{length}
-use Rattle.std.proofs.lemmas.Bool.{both_ways}
-use Rattle.pm_view.specs.Claims.{holds}
-use Rattle.pm_crash.specs.OpenRuns.{after_told}
-use Rattle.pm_crash.specs.Sim.{lists_of}
-use Rattle.pm_lock.specs.Held.{HoldsEach}
+use Rattle.pm_world.specs.LaneFields.{Standing, moved, kept_of}
+use Rattle.pm_world.specs.declared.lane.HeldLock.{HeldLock}
 use Rattle.pm_plan.specs.Notes.{IsBeyond}
-use Rattle.pm_call.specs.Locking.{CallsMayOpen, HoldsLocks, IsBetweenCalls, IsOpened, OpensCall}
-use Rattle.pm_call.proofs.LockedObjects.{opened_can_lock}
+use Rattle.pm_call.specs.Did.{IsOver}
+use Rattle.pm_call.specs.Held.{HoldsAll, AreHeld, has_line, is_in_locks}
+use Rattle.pm_call.specs.Locking.{CallsMayOpen, IsOpened, AgreesOn, CanLock, OpenedLanesMayLock, TransactionsMayBegin, LeadsLocks, TakesLocks, to_take}
+use Rattle.pm_call.specs.Stages.{IsBetween}
+use Rattle.pm_call.proofs.Staying.{holds_with, pending_opened}
+use Rattle.std.specs.Prelude.{length, map}
+use Rattle.std.proofs.lemmas.Bool.{and_left, and_right, both_ways}
+use Rattle.pm_objects.specs.declared.calls.Operation.TheVariants.{Begin}
+use Rattle.pm_objects.specs.declared.calls.Want.{Want}
+use Rattle.pm_model.specs.Transaction.{Transaction, idle, is_working, with_locks}
+use Rattle.pm_view.specs.Claims.{holds}
+use Rattle.pm_world.specs.Sights.{is_recorded}
+use Rattle.pm_crash.specs.Calls.{pending_of}
+use Rattle.pm_crash.specs.OpenRuns.{after_told, no_pool}
+use Rattle.pm_crash.specs.SimFacts.{is_begun}
+use Rattle.pm_crash.proofs.Simulation.{sim_begins}
+use Rattle.pm_crash.specs.Sim.{lists_of}
+use Rattle.pm_lock.specs.Wants.{has_unplaced}
+use Rattle.pm_call.proofs.LockedObjects.{all_placed_there, leads, no_first, none_gone, none_missing, not_busy, not_full}
+use Rattle.pm_model.specs.declared.stage.Stage.TheVariants as stage
+use Rattle.pm_undo.specs.Spans as spans
 
-module _ (s : Standing) (n : ℕ) (is : IsBetweenCalls s) (below : n < greatest_generation s.view.fixed.shape) where
-  abbrev v : View
-  v = s.view
+module _ (s : Standing) (n : ℕ) (is : IsBetween s) (more : s.view.log.generation < greatest_generation s.view.fixed.shape) (below : n < greatest_generation s.view.fixed.shape) where
+  abbrev over : IsOver s
+  over = is.over
 
   abbrev next : View
   next = record s.view { log = new_log Open s.view.log.generation; seen = NumberSeen n ∷ []; call = []; number = None; published = [] }
 
   opens : after s.view (NumberSeen n) ≡ next
-  opens = ap (λ (ph : Phase). with_seen (NumberSeen n) (begun ph s.view)) (ap (λ (l : Log). l.phase) is.log)
+  opens = ap (λ (ph : Phase). with_seen (NumberSeen n) (begun ph s.view)) (ap (λ (l : Log). l.phase) over.log)
 
   sizes : SizesFit next
-  sizes (Small c i) = is.sizes (Small c i)
-  sizes (Big f) = is.sizes (Big f)
-  sizes Root = is.sizes Root
+  sizes (Small c i) = over.sizes (Small c i)
+  sizes (Big f) = over.sizes (Big f)
+  sizes Root = over.sizes Root
 
   opened : IsOpened (moved s next)
   opened = record {
@@ -42,43 +56,116 @@ module _ (s : Standing) (n : ℕ) (is : IsBetweenCalls s) (below : n < greatest_
       is_open = refl;
       whole = (refl, refl);
       unentered = refl;
-      below = is.below;
-      lane = is.lane;
-      lanes = is.lanes;
-      zones = is.zones;
-      unmaking = is.unmaking;
-      clean = subst (λ (cs : List Undrained). AllByRecursion (λ (u : Undrained). IsBeyond s.view.fixed.shape u.word) cs) (sym is.drained) tt;
+      below = more;
+      lane = over.lane;
+      lanes = over.lanes;
+      zones = over.zones;
+      unmaking = over.unmaking;
+      clean = subst (λ (cs : List Undrained). AllByRecursion (λ (u : Undrained). IsBeyond s.view.fixed.shape u.word) cs) (sym over.drained) tt;
       few = omega arith;
       standing = tt;
       once = tt;
-      known = is.known;
+      known = over.known;
     };
     unbumped = refl;
-    sound = record { small = is.sound.small; some = is.sound.some; zone = is.sound.zone; huge = is.sound.huge };
+    sound = record { small = over.sound.small; some = over.sound.some; zone = over.sound.zone; huge = over.sound.huge };
     sizes = sizes;
-    sealed = is.sealed;
+    sealed = over.sealed;
     number = record { seen = n; told = Contains-push [] (NumberSeen n); below = below; none = refl };
     call = refl;
     records = refl;
-    locks = is.locks;
-    entries = is.entries;
-    facts = is.facts;
+    locks = is.unlocked;
+    holds = holds_with s.view next [] refl refl (subst (λ (ls : List HeldLock). HoldsAll s.view ls) is.unlocked over.holds);
+    own = over.own;
+    entries = is.unlisted;
+    pending = pending_opened s.view next refl refl refl over.pending;
+    facts = over.facts;
   }
 
-  no_locks : length (lists_of next).locks ≡ length s.locks
-  unfolding after_told
-  no_locks = sym (ap length is.locks)
-
-  locks : HoldsLocks (moved s next)
-  locks = record {
-    each = subst (HoldsEach next) (sym is.locks) (record { once = tt; inside = tt; held = tt });
-    only = λ line e. absurd (both_ways (holds s.view.claims line) (is.free line) e);
-    count = no_locks;
-    own = is.own;
-  }
-
-  pub opens_call : OpensCall (moved s (after s.view (NumberSeen n)))
-  opens_call = subst (λ (y : View). OpensCall (moved s y)) (sym opens) (record { opened = opened; may = opened_can_lock (moved s next) opened; locks = locks })
+  pub opens_call : IsOpened (moved s (after s.view (NumberSeen n)))
+  opens_call = subst (λ (y : View). IsOpened (moved s y)) (sym opens) opened
 
 pub calls_may_open : CallsMayOpen
-calls_may_open s n is below = opens_call s n is below
+calls_may_open s n is more below = opens_call s n is more below
+
+-- ---- THE OUTERMOST LEVEL BEGINS in an open call
+module _ (s : Standing) (op : IsOpened s) where
+  none_told : lists_of s.view ≡ idle no_pool (pending_of s.view.entries)
+  unfolding after_told
+  none_told = ap (λ call. Rattle.pm_crash.specs.OpenRuns.after_told call (idle no_pool (pending_of s.view.entries))) op.call
+
+  none_recorded : (p : Place) → is_recorded s.view.log.records p ≡ true → ⊥
+  none_recorded p e = both_ways (is_recorded s.view.log.records p) (ap (λ rs. is_recorded rs p) op.records) e
+
+  agrees : AgreesOn s (lists_of s.view)
+  unfolding spans.words_in
+  agrees = subst (AgreesOn s) (sym none_told) (record {
+    locks = λ off write. sym (ap (λ (ls : List HeldLock). is_in_locks ls off write) op.locks ∙ and_right (has_line off) false refl);
+    count = sym (ap (λ (ls : List HeldLock). length ls) op.locks);
+    recorded = sym (ap (λ rs. spans.words_in (map (kept_of s.view.fixed.shape) rs)) op.records);
+    records = sym (ap length op.records);
+    blocks = (refl, refl, refl);
+    sets = op.entries;
+    may_set = tt;
+    error_is = refl;
+  })
+
+  opened_can_lock : CanLock s
+  opened_can_lock = record {
+    working = op.working;
+    unbumped = op.unbumped;
+    sound = op.sound;
+    sizes = op.sizes;
+    sealed = op.sealed;
+    number = op.number;
+    held = subst (AreHeld s.view) (sym op.locks) tt;
+    holds = subst (HoldsAll s.view) (sym op.locks) op.holds;
+    own = op.own;
+    room = subst (λ es. length es < 64) (sym op.entries) (omega arith);
+    recorded = λ p e. absurd (none_recorded p e);
+    lists = agrees;
+    pending = op.pending;
+    sim = sim_begins s.view op.call op.records;
+    facts = op.facts;
+    tells = inl op.call;
+  }
+
+  no_level : (lists_of s.view).level ≡ 0
+  no_level = ap (λ (tx : Transaction). tx.level) none_told
+
+  first_leads : (wants : List Want) (x : View) → has_unplaced s.view.fixed.shape s.view.fixed.pool wants ≡ false → length s.locks + length (to_take s wants) ≤ 64 → TakesLocks s wants x
+      → LeadsLocks s (Begin wants) wants 1 x
+  first_leads wants x placed few tk = leads s (Begin wants) wants 1 x opened_can_lock tk placed few (record {
+    leaves = refl;
+    wanted = refl;
+    replies = λ w. refl;
+    sized = refl;
+    freed = refl;
+    stage_then = stage.Work;
+    works = refl;
+    asks_none = λ p. refl;
+    lists_none = refl;
+    done = ap (λ n. record (with_locks wants (lists_of s.view)) { level = n + 1; stage = stage.Work }) no_level;
+  }) (ap (λ (call : List Told). is_begun (call ++ record { operation = Begin wants; reply = None } ∷ [])) op.call) (omega arith) (omega arith) (no_first _ (
+    and_left (nat_le 1 (lists_of s.view).level) (not (is_working (lists_of s.view).stage)) (ap (nat_le 1) no_level),
+    (
+      and_right ((lists_of s.view).level == 0) false refl,
+      (
+        ap (nat_le 64) no_level,
+        (
+          not_full s (Begin wants) wants 1 x opened_can_lock tk placed few,
+          (
+            all_placed_there s (Begin wants) wants 1 x opened_can_lock tk placed few,
+            (not_busy s (Begin wants) wants 1 x opened_can_lock tk placed few, (none_missing s (Begin wants) wants 1 x opened_can_lock tk placed few, (none_gone s (Begin wants) wants 1 x opened_can_lock tk placed few, tt))),
+          ),
+        ),
+      ),
+    ),
+  ))
+
+-- THE LAWS
+pub opened_lanes_may_lock : OpenedLanesMayLock
+opened_lanes_may_lock s op = opened_can_lock s op
+
+pub transactions_may_begin : TransactionsMayBegin
+transactions_may_begin s wants x op placed few tk = first_leads s op wants x placed few tk

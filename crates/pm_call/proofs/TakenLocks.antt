@@ -2,12 +2,12 @@
 -- its claims and for what the tries told; it has and knows what it did, and holds the longer list
 -- of locks, and no other.
 use Rattle.std.specs.Prelude.{filter, map}
-use Rattle.std.proofs.Common.{◌≡◌, ◌≢◌, ⊎_elim, inl, inr, ◌⊎◌, ℕ, ◌<◌, ◌≤◌, Bool, true, false, cond, not, ◌==◌, ◌&&◌, ◌||◌, Contains, List, [], ◌∷◌, ◌++◌, refl, sym, ap, ◌∙◌, subst}
-use Rattle.std.specs.List.{AllByRecursion, list_any}
-use Rattle.std.proofs.lemmas.Bool.{and_right, both_ways, or_cases, or_left, or_right}
+use Rattle.std.proofs.Common.{◌≡◌, ⊎_elim, inr, ◌⊎◌, ℕ, Bool, true, false, ◌||◌, Contains, List, [], ◌∷◌, ◌++◌, refl, sym, ap, ◌∙◌, subst}
+use Rattle.std.specs.List.{AllByRecursion}
+use Rattle.std.proofs.lemmas.Bool.{both_ways, or_left}
 use Rattle.std.proofs.lemmas.List.Elements.{Contains-append_right}
 use Rattle.pm_objects.specs.declared.calls.Want.{Want}
-use Rattle.pm_view.specs.Claims.{Claim, Raised, Took, holds, locked, pictured, reads}
+use Rattle.pm_view.specs.Claims.{Claim, Raised, holds, locked, pictured, reads}
 use Rattle.pm_view.specs.Log.{is_early}
 use Rattle.pm_view.specs.Places.{Small, Big, Root, word_of}
 use Rattle.pm_view.specs.Steps.{Step}
@@ -24,13 +24,14 @@ use Rattle.pm_lock.specs.Acquiring.{AreFinds, MayWant}
 use Rattle.pm_lock.specs.Held.{HoldsEach}
 use Rattle.pm_lock.specs.Holding.{took}
 use Rattle.pm_lock.specs.Objects.{CanLook, HasLooked, IsOfWorld, StandsAt, is_chunk_line}
-use Rattle.pm_lock.specs.Raising.{is_raised, raised, raises, rose}
+use Rattle.pm_lock.specs.Raising.{is_raised, raises, rose}
 use Rattle.pm_lock.specs.Wants.{is_listed}
 use Rattle.pm_lock.proofs.Acquired.{may_lock_wanted}
 use Rattle.pm_lock.proofs.HeldLocks.{held_are_raised, held_grow, held_stay}
 use Rattle.pm_lock.proofs.KeptBlocks.{raised_keep, taken_keep}
 use Rattle.pm_lock.proofs.RaisedClaims.{are_raised}
-use Rattle.pm_call.specs.Locking.{CanLock, HoldsLocks, LanesAtWorkMayLock, LocksMayBeWanted, TakesLocks, locks_with, to_take, to_write}
+use Rattle.pm_call.specs.Locking.{CanLock, LanesAtWorkMayLock, LocksMayBeWanted, TakesLocks, locks_with, to_take, to_write}
+use Rattle.pm_call.proofs.HeldLines.{has_filter, has_left, has_lock, has_raised, has_right, holds_rose, holds_taken, listed_has}
 use Rattle.pm_call.proofs.KeptByLooks.{keeps_looked}
 use Rattle.pm_call.proofs.KeptClaims.{IsFree, KeepsAll, claiming, keeps_more, keeps_rose, keeps_taken}
 use Rattle.pm_call.proofs.KeptGrows.{KeepsPictures, SeesInside, locking, pictures_on}
@@ -43,7 +44,7 @@ all_with P Q R [] f a b = tt
 all_with P Q R (x ∷ xs) f a b = (f x a.0 b.0, all_with P Q R xs f a.1 b.1)
 
 pub locks_may_be_wanted : LocksMayBeWanted
-locks_may_be_wanted s at h = record { shape = refl; area = at.working.lane; early = ap is_early at.working.is_open; unmaking = at.working.unmaking; listed = h.only }
+locks_may_be_wanted s at = record { shape = refl; area = at.working.lane; early = ap is_early at.working.is_open; unmaking = at.working.unmaking; listed = at.holds.only }
 
 -- a lane at work may lock
 pub can_lock : LanesAtWorkMayLock
@@ -55,16 +56,19 @@ can_lock s at = record {
   sealed = at.sealed;
   number = at.number;
   held = at.held;
+  holds = at.holds;
+  own = at.own;
   room = at.room;
   recorded = at.recorded;
-  lists = record { locks = at.lists.locks; recorded = at.lists.recorded; records = at.lists.records; blocks = at.lists.blocks; sets = at.lists.sets; may_set = at.lists.may_set; error_is = at.lists.error_is };
+  lists = record { locks = at.lists.locks; count = at.lists.count; recorded = at.lists.recorded; records = at.lists.records; blocks = at.lists.blocks; sets = at.lists.sets; may_set = at.lists.may_set; error_is = at.lists.error_is };
+  pending = at.pending;
   sim = at.sim;
   facts = at.facts;
   tells = inr at.lists.works;
 }
 
 -- what was seen, was seen
-seen_raises : (locks : List HeldLock) (v : View) (n : Step) → Contains v.seen n → Contains (after_all v (map (λ (l : HeldLock). Raise l.line true) locks)).seen n
+pub seen_raises : (locks : List HeldLock) (v : View) (n : Step) → Contains v.seen n → Contains (after_all v (map (λ (l : HeldLock). Raise l.line true) locks)).seen n
 unfolding after_all
 seen_raises [] v n there = there
 seen_raises (l ∷ locks) v n there = seen_raises locks (after v (Raise l.line true)) n (Contains-append_right (Raise l.line true ∷ []) v.seen n there)
@@ -84,55 +88,6 @@ keeps_seen v seen t t' k = record {
   roots_on = k.roots_on;
 }
 
--- ---- no other line is held
-abbrev has_lock : List HeldLock → ℕ → Bool
-has_lock locks line = list_any (λ (l : HeldLock). l.line == line) locks
-
-one_taken : (w a b c : Bool) → (((w && a) || b) || ((not w && a) || c)) ≡ true → (a ≡ true) ⊎ ((b || c) ≡ true)
-one_taken w true b c e = inl refl
-one_taken true false b c e = inr e
-one_taken false false b c e = inr e
-
-one_raised : (a b c : Bool) → ((a || b) || (not a && c)) ≡ true → (a ≡ true) ⊎ ((b || c) ≡ true)
-one_raised true b c e = inl refl
-one_raised false b c e = inr e
-
-holds_taken : (locks : List HeldLock) (t : List Claim) (line : ℕ) → holds (took locks t) line ≡ true → (holds t line ≡ true) ⊎ (has_lock locks line ≡ true)
-holds_taken [] t line e = inl e
-holds_taken (l ∷ locks) t line e = ⊎_elim
-    (λ (h : holds (Took l.line l.write ∷ t) line ≡ true). ⊎_elim (λ (q : (l.line == line) ≡ true). inr (or_left (l.line == line) (has_lock locks line) q)) (λ (q : holds t line ≡ true). inl q) (one_taken l.write (l.line == line) (locked t line) (reads t line) h))
-    (λ (h : has_lock locks line ≡ true). inr (or_right (l.line == line) (has_lock locks line) h))
-    (holds_taken locks (Took l.line l.write ∷ t) line e)
-
-holds_rose : (locks : List HeldLock) (t : List Claim) (line : ℕ) → holds (rose locks t) line ≡ true → (holds t line ≡ true) ⊎ (has_lock locks line ≡ true)
-holds_rose [] t line e = inl e
-holds_rose (l ∷ locks) t line e = ⊎_elim
-    (λ (h : holds (Raised l.line ∷ t) line ≡ true). ⊎_elim (λ (q : (l.line == line) ≡ true). inr (or_left (l.line == line) (has_lock locks line) q)) (λ (q : holds t line ≡ true). inl q) (one_raised (l.line == line) (locked t line) (reads t line) h))
-    (λ (h : has_lock locks line ≡ true). inr (or_right (l.line == line) (has_lock locks line) h))
-    (holds_rose locks (Raised l.line ∷ t) line e)
-
-has_filter : (P : HeldLock → Bool) (locks : List HeldLock) (line : ℕ) → has_lock (filter P locks) line ≡ true → has_lock locks line ≡ true
-has_filter P [] line e = e
-has_filter P (l ∷ locks) line e = by (P l) (has_filter P locks line) e where
-  by : (b : Bool) → (has_lock (filter P locks) line ≡ true → has_lock locks line ≡ true) → has_lock (cond b (l ∷ filter P locks) (filter P locks)) line ≡ true → (l.line == line || has_lock locks line) ≡ true
-  by true rest e = ⊎_elim (λ (h : (l.line == line) ≡ true). or_left (l.line == line) (has_lock locks line) h) (λ (h : has_lock (filter P locks) line ≡ true). or_right (l.line == line) (has_lock locks line) (rest h)) (or_cases (l.line == line) (has_lock (filter P locks) line) e)
-  by false rest e = or_right (l.line == line) (has_lock locks line) (rest e)
-
-has_left : (one two : List HeldLock) (line : ℕ) → has_lock one line ≡ true → has_lock (one ++ two) line ≡ true
-has_left [] two line e = absurd (both_ways false refl e)
-has_left (l ∷ one) two line e = ⊎_elim (λ (h : (l.line == line) ≡ true). or_left (l.line == line) (has_lock (one ++ two) line) h) (λ (h : has_lock one line ≡ true). or_right (l.line == line) (has_lock (one ++ two) line) (has_left one two line h)) (or_cases (l.line == line) (has_lock one line) e)
-
-has_right : (one two : List HeldLock) (line : ℕ) → has_lock two line ≡ true → has_lock (one ++ two) line ≡ true
-has_right [] two line e = e
-has_right (l ∷ one) two line e = or_right (l.line == line) (has_lock (one ++ two) line) (has_right one two line e)
-
-has_raised : (writes : ℕ → Bool) (locks : List HeldLock) (line : ℕ) → has_lock (raised writes locks) line ≡ has_lock locks line
-has_raised writes [] line = refl
-has_raised writes (l ∷ locks) line = ap (λ b. l.line == line || b) (has_raised writes locks line)
-
-listed_has : (locks : List HeldLock) (line : ℕ) → is_listed locks [] line ≡ true → has_lock locks line ≡ true
-listed_has locks line e = ⊎_elim (λ (h : has_lock locks line ≡ true). h) (λ (h : false ≡ true). absurd (both_ways false refl h)) (or_cases (has_lock locks line) false e)
-
 -- ---- THE VIEW THEN
 pub record IsTakenView (s : Standing) (wants : List Want) (x : View) : Type 0 where
   pub claims : List Claim
@@ -148,7 +103,7 @@ pub record IsTakenView (s : Standing) (wants : List Want) (x : View) : Type 0 wh
   pub pictures : KeepsPictures s.view claims
 
 -- ---- sizes fit whatever tries told, and so they do once locks are raised
-sizes_seen : (v : View) (seen : List Step) → SizesFit v → SizesFit (locking v v.claims seen)
+pub sizes_seen : (v : View) (seen : List Step) → SizesFit v → SizesFit (locking v v.claims seen)
 sizes_seen v seen f (Small c i) n = f (Small c i) n
 sizes_seen v seen f (Big g) n = f (Big g) n
 sizes_seen v seen f Root n = f Root n
@@ -158,11 +113,11 @@ raised_fits v m f (Small c i) n = f (Small c i) n
 raised_fits v m f (Big g) n = f (Big g) n
 raised_fits v m f Root n = f Root n
 
-rose_fits : (v : View) (locks : List HeldLock) → SizesFit v → SizesFit (record v { claims = rose locks v.claims })
+pub rose_fits : (v : View) (locks : List HeldLock) → SizesFit v → SizesFit (record v { claims = rose locks v.claims })
 rose_fits v [] f = sizes_seen v v.seen f
 rose_fits v (l ∷ locks) f = rose_fits (record v { claims = Raised l.line ∷ v.claims }) locks (raised_fits v l.line f)
 
-rose_word : (sh : Shape) (locks : List HeldLock) (t : List Claim) (u : ℕ) → pictured sh (rose locks t) u ≡ pictured sh t u
+pub rose_word : (sh : Shape) (locks : List HeldLock) (t : List Claim) (u : ℕ) → pictured sh (rose locks t) u ≡ pictured sh t u
 rose_word sh [] t u = refl
 rose_word sh (l ∷ locks) t u = rose_word sh locks (Raised l.line ∷ t) u
 
@@ -171,11 +126,11 @@ pub after_none : (v : View) → after_all v [] ≡ v
 unfolding after_all
 after_none v = refl
 
-no_finds : (sh : Shape) (looks : List Step) → AreFinds sh [] looks → looks ≡ []
+pub no_finds : (sh : Shape) (looks : List Step) → AreFinds sh [] looks → looks ≡ []
 unfolding AreFinds
 no_finds sh looks f = f
 
-module _ (s : Standing) (wants : List Want) (x : View) (at : CanLock s) (h : HoldsLocks s) (tk : TakesLocks s wants x) where
+module _ (s : Standing) (wants : List Want) (x : View) (at : CanLock s) (tk : TakesLocks s wants x) where
   abbrev v : View
   v = s.view
 
@@ -189,7 +144,7 @@ module _ (s : Standing) (wants : List Want) (x : View) (at : CanLock s) (h : Hol
   up = filter (is_raised (to_write s wants)) (s.locks ++ to_take s wants)
 
   may : MayWant s.view s.view.fixed.shape s.locks []
-  may = locks_may_be_wanted s at h
+  may = locks_may_be_wanted s at
 
   lines : AllByRecursion (λ (l : HeldLock). is_chunk_line s.view.fixed.shape l.line ≡ true) (to_take s wants)
   lines = all_map (λ (l : HeldLock). CanLook tk.taken s.view.fixed.shape l.line) (λ (l : HeldLock). is_chunk_line s.view.fixed.shape l.line ≡ true) plan (λ l c. c.chunk)
@@ -237,7 +192,7 @@ module _ (s : Standing) (wants : List Want) (x : View) (at : CanLock s) (h : Hol
 
   each_last : HoldsEach x (locks_with s wants)
   each_last = subst (λ (y : View). HoldsEach y (locks_with s wants)) (sym tk.raises_)
-      (held_are_raised (after_all tk.taken tk.looks) (to_write s wants) all (held_stay tk.taken (after_all tk.taken tk.looks) all tk.stays (held_grow v tk.taken v.fixed.shape v.fixed.pool s.locks [] wants may h.each tk.takes)))
+      (held_are_raised (after_all tk.taken tk.looks) (to_write s wants) all (held_stay tk.taken (after_all tk.taken tk.looks) all tk.stays (held_grow v tk.taken v.fixed.shape v.fixed.pool s.locks [] wants may at.holds.each tk.takes)))
 
   stands_last : AllByRecursion (λ (l : HeldLock). StandsAt x l.line) (to_take s wants)
   stands_last = all_map (λ (l : HeldLock). StandsAt (after_all tk.taken tk.looks) l.line) (λ (l : HeldLock). StandsAt x l.line) plan
@@ -250,7 +205,7 @@ module _ (s : Standing) (wants : List Want) (x : View) (at : CanLock s) (h : Hol
   only_last : (line : ℕ) → holds last_claims line ≡ true → is_listed (locks_with s wants) [] line ≡ true
   only_last line e = or_left (has_lock (locks_with s wants) line) false (has_raised (to_write s wants) all line ∙ ⊎_elim
       (λ (q : holds looked_here.0 line ≡ true). ⊎_elim
-      (λ (r : holds s.view.claims line ≡ true). has_left s.locks plan line (listed_has s.locks line (h.only line r)))
+      (λ (r : holds s.view.claims line ≡ true). has_left s.locks plan line (listed_has s.locks line (at.holds.only line r)))
       (λ (r : has_lock plan line ≡ true). has_right s.locks plan line r)
       (holds_taken plan s.view.claims line (sym (looked_locks line) ∙ q)))
       (λ (q : has_lock up line ≡ true). has_filter (is_raised (to_write s wants)) all line q)

@@ -19,21 +19,21 @@ use Rattle.pm_lock.specs.Wants.{has_unplaced, wanted}
 use Rattle.pm_lock.proofs.Holds.{tries_taken}
 use Rattle.pm_lock.proofs.Stays.{stays_here}
 use Rattle.pm_call.specs.At.{At}
-use Rattle.pm_call.specs.Did.{IsAtSo}
-use Rattle.pm_call.specs.Locking.{HoldsLocks, to_take}
+use Rattle.pm_call.specs.Did.{IsAt}
+use Rattle.pm_call.specs.Locking.{to_take}
 use Rattle.pm_call.specs.WantedTried.{WantedTried, WantedTriedAs, WorksWith, got_all}
 use Rattle.pm_call.proofs.LocksGot.{busy_taken}
 use Rattle.pm_call.proofs.TakenLocks.{can_lock, locks_may_be_wanted}
 
 module _ {M : Type 0} (at : M → View → Type 0) (old : Lane M) (wants : List Want) where
-  can_acquire : (s : Standing) → Works at old s → At s → HoldsLocks s → CanAcquire at old [] s.view
-  can_acquire s works stands h = record {
+  can_acquire : (s : Standing) → Works at old s → At s → CanAcquire at old [] s.view
+  can_acquire s works stands = record {
     memory = works.memory;
-    may = subst (λ (f : Fields). MayWant s.view f.shape f.locks []) (sym works.fields) (locks_may_be_wanted s (can_lock s stands) h);
+    may = subst (λ (f : Fields). MayWant s.view f.shape f.locks []) (sym works.fields) (locks_may_be_wanted s (can_lock s stands));
   }
 
-  pub may_try : IsAtSo at old HoldsLocks → (v : View) × CanAcquire at old [] v
-  may_try is = (is.standing.view, can_acquire is.standing is.works is.stands is.holds)
+  pub may_try : IsAt at old → (v : View) × CanAcquire at old [] v
+  may_try is = (is.standing.view, can_acquire is.standing is.works is.stands)
 
   module _ (new : Lane M) (s : Standing) (works : Works at old s) where
     -- the fields, but the locks, are as they were
@@ -92,5 +92,5 @@ module _ {M : Type 0} (at : M → View → Type 0) (old : Lane M) (wants : List 
 
   pub wanted_tried : (new : Lane M) (result : Result (Unit {0}) Refusal) → TriedObjects at [] wants old new result → WantedTried at old new wants result
   unfolding TriedObjects WantedTried
-  wanted_tried new result tried s works stands h = tried_as new s works result
-      (subst (λ P. TriedObjectsAs at P wants s.view old new result) (plan_is new s works) (tried s.view (can_acquire s works stands h)))
+  wanted_tried new result tried s works stands = tried_as new s works result
+      (subst (λ P. TriedObjectsAs at P wants s.view old new result) (plan_is new s works) (tried s.view (can_acquire s works stands)))

@@ -15,4 +15,5 @@ pub mod Locking
 pub mod LockRefusals
 pub mod LocksGot
 pub mod WantedTried
+pub mod WantedTaken
 pub mod Commits

@@ -43,7 +43,7 @@ pub use ranges::{ranges_are_looked_at, refusals_of_ranges_are_the_models};
 pub use reading::{do_read, ranges_may_be_read};
 pub use rollback::{give_up, refuse, stop, take_back};
 pub use stages::{end_refusal, work_refusal};
-pub use trying::try_wanted;
+pub use trying::{take_wanted, try_wanted};
 pub use writing::{check_recorded, count_words, do_write, ranges_may_be_written};
 
 #[cfg(test)]

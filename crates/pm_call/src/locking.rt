@@ -15,6 +15,7 @@ ghost use Rattle.pm_call.specs.Locking.{
   LanesAtWorkMayLock,
   LocksMayBeWanted,
   ObjectsMayBeLocked,
+  OpenedLanesMayLock,
   TransactionsMayBegin,
 };
 

@@ -1,0 +1,51 @@
+-- WHAT TAKING THE LOCKS THAT ARE WANTED DID to a lane at work: by cases of what it returns.
+use Rattle.std.specs.Prelude.{◌≡◌, ◌≢◌, ◌⊎◌, ℕ, ◌+◌, ◌*◌, true, List, Some, Result, Ok, Err}
+use Rattle.pm_objects.specs.declared.calls.Want.{Want}
+use Rattle.pm_objects.specs.declared.refusal.Refusal.{Refusal}
+use Rattle.pm_objects.specs.declared.refusal.Refusal.TheVariants as refusal
+use Rattle.pm_model.specs.Items.{is_among}
+use Rattle.pm_model.specs.Refusals.{Seen, first_of}
+use Rattle.pm_view.specs.View.{View}
+use Rattle.pm_world.specs.Causes.{was_refused}
+use Rattle.pm_world.specs.LaneFields.{Standing, Works, moved}
+use Rattle.pm_world.specs.declared.lane.HeldLock.{HeldLock}
+use Rattle.pm_world.specs.declared.lane.Lane.{Lane}
+use Rattle.pm_lock.specs.Objects.{MissesAt, ToldNoRun}
+use Rattle.pm_call.specs.At.{At}
+use Rattle.pm_call.specs.LockRefusals.{TriedLocks, locking_tests}
+use Rattle.pm_call.specs.Locking.{TakesLocks, locks_with}
+use Rattle.pm_call.specs.WantedTried.{AreFew, IsPlaced}
+
+-- since the one view no object was found at a line: each block that would begin there was missed,
+-- or its chunk was told to be a run of blocks without lines
+abbrev pub IsMissed : View → ℕ → View → Type 0
+IsMissed v line w = MissesAt v line w ⊎ ToldNoRun w line
+
+-- REFUSED: the locks that it holds by then, what it saw, and the first test that applies. A lock
+-- that was another lane's was refused at a try; under that of an object that is missing none was
+-- found
+pub record WantsRefused {M : Type 0} (at : M → View → Type 0) (lane : Lane M) (s : Standing)
+    (wants : List Want) (r : Refusal) : Type 0 where
+  pub view : View
+  pub all : List HeldLock
+  pub tried : TriedLocks s wants all view
+  pub works : Works at lane (record s { view = view; locks = all })
+  pub seen : Seen
+  pub first : first_of (locking_tests seen (moved s view) wants) ≡ Some r
+  pub unstopped : r ≢ refusal.Stopped
+  pub busy : seen.busy ≡ true → (line : ℕ) × (was_refused line view.seen ≡ true)
+  pub missing : (off : ℕ) → is_among seen.missing off ≡ true
+      → (line : ℕ) × (off ≡ 64 * line + 64) × IsMissed s.view line view
+
+-- ALL ARE TAKEN, and the lane works with the longer list, each lock raised that is to be written
+abbrev pub WantedTakenAs : {M : Type 0} → (M → View → Type 0) → Lane M → Standing → List Want
+    → Result (Unit {0}) Refusal → Type 0
+WantedTakenAs at lane s wants (Ok done) = AreFew s wants × IsPlaced s wants
+    × ((x : View) × TakesLocks s wants x
+    × Works at lane (record s { view = x; locks = locks_with s wants }))
+WantedTakenAs at lane s wants (Err r) = WantsRefused at lane s wants r
+
+unfoldable pub WantedTaken : {M : Type 0} → (M → View → Type 0) → Lane M → Lane M → List Want
+    → Result (Unit {0}) Refusal → Type 0
+WantedTaken at old new wants result = (s : Standing) → Works at old s → At s
+    → WantedTakenAs at new s wants result
