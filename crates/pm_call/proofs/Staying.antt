@@ -20,7 +20,7 @@ use Rattle.pm_plan.proofs.Notes as notes
 use Rattle.pm_lock.specs.Held.{HoldsEach}
 use Rattle.pm_lock.specs.Holding.{IsHeldAs}
 use Rattle.pm_call.specs.Held.{HoldsAll, KnowsOwn}
-use Rattle.pm_call.specs.Waiting.{HasPending, listed_set, pending_now}
+use Rattle.pm_call.specs.Waiting.{HasPending, IsWord, listed_set, pending_now}
 use Rattle.pm_call.proofs.Frames.{noting}
 use Rattle.pm_call.proofs.Noting.{all_map}
 
@@ -71,6 +71,7 @@ has_pending v w now lists h = record {
   none_reserved = ap (λ (p : Pending). p.reserved) now ∙ h.none_reserved;
   on_time = ap (λ (p : Pending). p.late) now ∙ h.on_time;
   few = subst (λ (p : Pending). Rattle.std.specs.Prelude.◌≤◌ (length p.sets) max_actions) (sym now) h.few;
+  words = subst (λ (p : Pending). AllByRecursion IsWord p.sets) (sym now) h.words;
 }
 
 -- an operation that asks for none is told

@@ -1,5 +1,6 @@
 -- WHAT A LANE HAS PENDING, by what it told: each action that it lists is a word to be set. No call of these crates reserves or frees a block.
-use Rattle.std.specs.Prelude.{◌≡◌, ◌≤◌, false, [], length, map}
+use Rattle.std.specs.Prelude.{◌≡◌, ◌%◌, ◌^◌, ◌<◌, ◌≤◌, false, [], length, map}
+use Rattle.std.specs.List.{AllByRecursion}
 use Rattle.pm_model.specs.Pending.{Pending, SetWord, max_actions}
 use Rattle.pm_view.specs.View.{View}
 use Rattle.pm_world.specs.LaneFields.{listed}
@@ -15,6 +16,10 @@ pending_now v = pending_after v.call (pending_of v.entries)
 abbrev pub listed_set : SetWord → PendingAction
 listed_set a = Set a.id a.off a.value
 
+-- it begins at a multiple of eight, and its value has eight bytes
+abbrev pub IsWord : SetWord → Type 0
+IsWord a = (a.off % 8 ≡ 0) × (a.value < 2 ^ 64)
+
 -- THE LANE LISTS WHAT IS PENDING, in order
 pub record HasPending (v : View) : Type 0 where
   pub lists : listed v.actions ≡ map listed_set (pending_now v).sets
@@ -22,3 +27,4 @@ pub record HasPending (v : View) : Type 0 where
   pub none_reserved : (pending_now v).reserved ≡ []
   pub on_time : (pending_now v).late ≡ false
   pub few : length (pending_now v).sets ≤ max_actions
+  pub words : AllByRecursion IsWord (pending_now v).sets
