@@ -1,11 +1,12 @@
 -- What a lane holds and has pending stays, as it notes what it knows, tells an operation and takes its number.
-use Rattle.std.proofs.Common.{◌≡◌, ◌≢◌, ℕ, ◌+◌, Bool, true, List, [], ◌∷◌, ◌++◌, ◌||◌, length, map, Option, refl, sym, ◌∙◌, ap, subst}
+use Rattle.std.proofs.Common.{◌≡◌, ℕ, ◌/◌, ◌<◌, List, [], ◌∷◌, ◌++◌, ◌||◌, Option, refl, sym, ◌∙◌, ap, subst}
 use Rattle.std.specs.List.{AllByRecursion}
-use Rattle.pm_model.specs.Pending.{Pending, SetWord, max_actions}
+use Rattle.pm_layout.specs.Chunks.{words_of}
+use Rattle.pm_model.specs.Pending.{Pending}
 use Rattle.pm_objects.specs.declared.calls.Operation.{Operation}
 use Rattle.pm_objects.specs.declared.history.Value.{Value}
 use Rattle.pm_view.specs.Changes.{Undrained}
-use Rattle.pm_view.specs.Claims.{Claim, class, holds, making}
+use Rattle.pm_view.specs.Claims.{Claim, class, holds}
 use Rattle.pm_view.specs.Log.{Log}
 use Rattle.pm_view.specs.Places.{Small}
 use Rattle.pm_view.specs.Steps.Step.{Draw, Tell}
@@ -14,15 +15,13 @@ use Rattle.pm_view.specs.Views.{actions_told, after}
 use Rattle.pm_world.specs.LaneFields.{listed}
 use Rattle.pm_world.specs.declared.lane.HeldLock.{HeldLock}
 use Rattle.pm_crash.specs.Calls.{pending_after, pending_of, pending_with}
-use Rattle.pm_crash.specs.Footprints.{has_own}
 use Rattle.pm_plan.specs.Notes.{AreNotes, Note, noted}
 use Rattle.pm_plan.proofs.Notes as notes
-use Rattle.pm_lock.specs.Held.{HoldsEach}
 use Rattle.pm_lock.specs.Holding.{IsHeldAs}
+use Rattle.pm_lock.proofs.Planned.{all_weaker}
 use Rattle.pm_call.specs.Held.{HoldsAll, KnowsOwn}
-use Rattle.pm_call.specs.Waiting.{HasPending, IsWord, listed_set, pending_now}
+use Rattle.pm_call.specs.Waiting.{HasLeftPending, HasPending, ListsPending, pending_now}
 use Rattle.pm_call.proofs.Frames.{noting}
-use Rattle.pm_call.proofs.Noting.{all_map}
 
 -- ---- LOCKS, and blocks of its own
 
@@ -39,7 +38,7 @@ module _ (v : View) (ns : List Note) (changes : List Undrained) (calls : ℕ) (l
 
   pub noted_holds : (locks : List HeldLock) → HoldsAll v locks → HoldsAll next locks
   noted_holds locks h = record {
-    each = record { once = h.each.once; inside = h.each.inside; held = all_map (IsHeldAs v.claims) (IsHeldAs next.claims) locks held_noted h.each.held };
+    each = record { once = h.each.once; inside = h.each.inside; held = all_weaker (IsHeldAs v.claims) (IsHeldAs next.claims) locks held_noted h.each.held };
     only = λ line e. h.only line (sym (holds_noted ns v.claims line) ∙ e);
   }
 
@@ -51,7 +50,7 @@ pub holds_with : (v w : View) (locks : List HeldLock) → w.fixed ≡ v.fixed �
 holds_with v w locks fixed claims h = record {
   each = record {
     once = h.each.once;
-    inside = subst (λ f. AllByRecursion (λ (l : HeldLock). Rattle.std.specs.Prelude.◌<◌ l.line (Rattle.std.specs.Prelude.◌/◌ (Rattle.pm_layout.specs.Chunks.words_of f.shape) 8)) locks) (sym fixed) h.each.inside;
+    inside = subst (λ f. AllByRecursion (λ (l : HeldLock). l.line < words_of f.shape / 8) locks) (sym fixed) h.each.inside;
     held = subst (λ t. AllByRecursion (IsHeldAs t) locks) (sym claims) h.each.held;
   };
   only = λ line e. h.only line (ap (λ t. holds t line) (sym claims) ∙ e);
@@ -59,28 +58,29 @@ holds_with v w locks fixed claims h = record {
 
 -- ---- WHAT IS PENDING
 
-pending_more : (told : List Told) (t : Told) (p : Pending) → pending_after (told ++ t ∷ []) p ≡ pending_with t.operation t.reply (pending_after told p)
+pub pending_more : (told : List Told) (t : Told) (p : Pending) → pending_after (told ++ t ∷ []) p ≡ pending_with t.operation t.reply (pending_after told p)
 unfolding pending_after
 pending_more [] t p = refl
 pending_more (u ∷ told) t p = pending_more told t (pending_with u.operation u.reply p)
 
+pub lists_pending : (v w : View) (p q : Pending) → q ≡ p → listed w.actions ≡ listed v.actions → ListsPending v p → ListsPending w q
+lists_pending v w p q same lists h = subst (ListsPending w) (sym same) (record { lists = lists ∙ h.lists; no_frees = h.no_frees; none_reserved = h.none_reserved; on_time = h.on_time; few = h.few; words = h.words })
+
 pub has_pending : (v w : View) → pending_now w ≡ pending_now v → listed w.actions ≡ listed v.actions → HasPending v → HasPending w
-has_pending v w now lists h = record {
-  lists = lists ∙ h.lists ∙ ap (λ (p : Pending). map listed_set p.sets) (sym now);
-  no_frees = ap (λ (p : Pending). p.frees) now ∙ h.no_frees;
-  none_reserved = ap (λ (p : Pending). p.reserved) now ∙ h.none_reserved;
-  on_time = ap (λ (p : Pending). p.late) now ∙ h.on_time;
-  few = subst (λ (p : Pending). Rattle.std.specs.Prelude.◌≤◌ (length p.sets) max_actions) (sym now) h.few;
-  words = subst (λ (p : Pending). AllByRecursion IsWord p.sets) (sym now) h.words;
-}
+has_pending v w now lists h = lists_pending v w (pending_now v) (pending_now w) now lists h
 
 -- an operation that asks for none is told
-pub pending_told : (v : View) (op : Operation) (reply : Option Value) → ((p : Pending) → pending_with op reply p ≡ p) → actions_told op reply v.actions ≡ v.actions → HasPending v → HasPending (after v (Tell op reply))
-pending_told v op reply plain same = has_pending v (after v (Tell op reply)) (pending_more v.call (record { operation = op; reply = reply }) (pending_of v.entries) ∙ plain (pending_now v)) (ap listed same)
+pub now_told : (v : View) (op : Operation) (reply : Option Value) → ((p : Pending) → pending_with op reply p ≡ p) → pending_now (after v (Tell op reply)) ≡ pending_now v
+now_told v op reply plain = pending_more v.call (record { operation = op; reply = reply }) (pending_of v.entries) ∙ plain (pending_now v)
 
--- the call takes its number
-pub pending_drawn : (v : View) (n : ℕ) → HasPending v → HasPending (after v (Draw n))
-pending_drawn v n = has_pending v (after v (Draw n)) drawn refl where
-  drawn : pending_now (after v (Draw n)) ≡ pending_now v
-  unfolding pending_after pending_of
-  drawn = refl
+pub pending_told : (v : View) (op : Operation) (reply : Option Value) → ((p : Pending) → pending_with op reply p ≡ p) → actions_told op reply v.actions ≡ v.actions → HasPending v → HasPending (after v (Tell op reply))
+pending_told v op reply plain same = has_pending v (after v (Tell op reply)) (now_told v op reply plain) (ap listed same)
+
+-- the call takes its number, and a call opens
+pub pending_drawn : (v : View) (n : ℕ) → HasPending v → HasLeftPending (after v (Draw n))
+unfolding pending_of
+pending_drawn v n h = record { lists = h.lists; no_frees = h.no_frees; none_reserved = h.none_reserved; on_time = h.on_time; few = h.few; words = h.words }
+
+pub pending_opened : (v w : View) → w.call ≡ [] → w.entries ≡ v.entries → w.actions ≡ v.actions → HasLeftPending v → HasPending w
+unfolding pending_after
+pending_opened v w call entries actions h = lists_pending v w (pending_of v.entries) (pending_now w) (ap (λ c. pending_after c (pending_of w.entries)) call ∙ ap pending_of entries) (ap listed actions) h

@@ -3,7 +3,7 @@ use Rattle.std.specs.Prelude.{◌≡◌, ◌≢◌, ◌⊎◌, ℕ, zero, suc, �
 use Rattle.std.specs.List.{AllByRecursion, list_any}
 use Rattle.pm_layout.specs.Chunks.{words_of}
 use Rattle.pm_layout.specs.declared.shape.Shape.{Shape}
-use Rattle.pm_view.specs.Claims.{class, header_in, holds}
+use Rattle.pm_view.specs.Claims.{Claim, class, header_in, holds, locked}
 use Rattle.pm_view.specs.Founds.{FindsKnown}
 use Rattle.pm_view.specs.Places.{Block, Small, word_of}
 use Rattle.pm_view.specs.Steps.Step.{Load}
@@ -15,7 +15,7 @@ use Rattle.pm_world.specs.declared.lane.HeldLock.{HeldLock}
 use Rattle.pm_crash.specs.Footprints.{has_found, has_own}
 use Rattle.pm_crash.specs.Looked.{word_place, words_in}
 use Rattle.pm_lock.specs.Held.{HoldsEach}
-use Rattle.pm_lock.specs.Holding.{AreOnce, IsHeldAs}
+use Rattle.pm_lock.specs.Holding.{AreOnce}
 use Rattle.pm_lock.specs.Wants.{is_listed}
 
 -- ---- the list of locks
@@ -41,9 +41,13 @@ pub record HasObject (v : View) (line : ℕ) : Type 0 where
   pub at : header_in v.fixed.shape v.claims block ≡ line
   pub inside : is_occupancy v.fixed.shape block ≡ true
 
+-- a lock of the list is held, and for writing where the list says so; it may be held for writing where the list says for reading, once it was raised for an operation that was refused
+abbrev pub IsHeldFor : List Claim → HeldLock → Type 0
+IsHeldFor t l = (l.write ≡ true → locked t l.line ≡ true) × (holds t l.line ≡ true)
+
 -- EACH LOCK IS HELD, and under it an object was found; under that of line 0, which is the root word's, none
 pub record IsHeld (v : View) (l : HeldLock) : Type 0 where
-  pub held : IsHeldAs v.claims l
+  pub held : IsHeldFor v.claims l
   pub object : (l.line ≡ 0) ⊎ HasObject v l.line
 
 abbrev pub AreHeld : View → List HeldLock → Type 0
