@@ -1,15 +1,15 @@
--- What a lane holds and has pending stays, as it notes what it knows, tells an operation and takes its number.
-use Rattle.std.proofs.Common.{◌≡◌, ℕ, ◌/◌, ◌<◌, List, [], ◌∷◌, ◌++◌, ◌||◌, Option, refl, sym, ◌∙◌, ap, subst}
+-- What a lane holds and has pending stays, as it notes what it knows, tells an operation and opens a call.
+use Rattle.std.proofs.Common.{◌≡◌, ℕ, ◌/◌, ◌<◌, ◌≤◌, List, [], ◌∷◌, ◌++◌, ◌||◌, length, map, Option, refl, sym, ◌∙◌, ap, subst}
 use Rattle.std.specs.List.{AllByRecursion}
 use Rattle.pm_layout.specs.Chunks.{words_of}
-use Rattle.pm_model.specs.Pending.{Pending}
+use Rattle.pm_model.specs.Pending.{Pending, max_actions}
 use Rattle.pm_objects.specs.declared.calls.Operation.{Operation}
 use Rattle.pm_objects.specs.declared.history.Value.{Value}
 use Rattle.pm_view.specs.Changes.{Undrained}
 use Rattle.pm_view.specs.Claims.{Claim, class, holds}
 use Rattle.pm_view.specs.Log.{Log}
 use Rattle.pm_view.specs.Places.{Small}
-use Rattle.pm_view.specs.Steps.Step.{Draw, Tell}
+use Rattle.pm_view.specs.Steps.Step.{Tell}
 use Rattle.pm_view.specs.View.{Told, View}
 use Rattle.pm_view.specs.Views.{actions_told, after}
 use Rattle.pm_world.specs.LaneFields.{listed}
@@ -20,7 +20,7 @@ use Rattle.pm_plan.proofs.Notes as notes
 use Rattle.pm_lock.specs.Holding.{IsHeldAs}
 use Rattle.pm_lock.proofs.Planned.{all_weaker}
 use Rattle.pm_call.specs.Held.{HoldsAll, KnowsOwn}
-use Rattle.pm_call.specs.Waiting.{HasLeftPending, HasPending, ListsPending, pending_now}
+use Rattle.pm_call.specs.Waiting.{HasPending, IsWord, listed_set, pending_now, uncalled}
 use Rattle.pm_call.proofs.Frames.{noting}
 
 -- ---- LOCKS, and blocks of its own
@@ -63,11 +63,15 @@ unfolding pending_after
 pending_more [] t p = refl
 pending_more (u ∷ told) t p = pending_more told t (pending_with u.operation u.reply p)
 
-pub lists_pending : (v w : View) (p q : Pending) → q ≡ p → listed w.actions ≡ listed v.actions → ListsPending v p → ListsPending w q
-lists_pending v w p q same lists h = subst (ListsPending w) (sym same) (record { lists = lists ∙ h.lists; no_frees = h.no_frees; none_reserved = h.none_reserved; on_time = h.on_time; few = h.few; words = h.words })
-
 pub has_pending : (v w : View) → pending_now w ≡ pending_now v → listed w.actions ≡ listed v.actions → HasPending v → HasPending w
-has_pending v w now lists h = lists_pending v w (pending_now v) (pending_now w) now lists h
+has_pending v w now lists h = record {
+  lists = lists ∙ h.lists ∙ ap (λ (p : Pending). map listed_set p.sets) (sym now);
+  no_frees = ap (λ (p : Pending). p.frees) now ∙ h.no_frees;
+  none_reserved = ap (λ (p : Pending). p.reserved) now ∙ h.none_reserved;
+  on_time = ap (λ (p : Pending). p.late) now ∙ h.on_time;
+  few = subst (λ (p : Pending). length p.sets ≤ max_actions) (sym now) h.few;
+  words = subst (λ (p : Pending). AllByRecursion IsWord p.sets) (sym now) h.words;
+}
 
 -- an operation that asks for none is told
 pub now_told : (v : View) (op : Operation) (reply : Option Value) → ((p : Pending) → pending_with op reply p ≡ p) → pending_now (after v (Tell op reply)) ≡ pending_now v
@@ -76,11 +80,8 @@ now_told v op reply plain = pending_more v.call (record { operation = op; reply 
 pub pending_told : (v : View) (op : Operation) (reply : Option Value) → ((p : Pending) → pending_with op reply p ≡ p) → actions_told op reply v.actions ≡ v.actions → HasPending v → HasPending (after v (Tell op reply))
 pending_told v op reply plain same = has_pending v (after v (Tell op reply)) (now_told v op reply plain) (ap listed same)
 
--- the call takes its number, and a call opens
-pub pending_drawn : (v : View) (n : ℕ) → HasPending v → HasLeftPending (after v (Draw n))
-unfolding pending_of
-pending_drawn v n h = record { lists = h.lists; no_frees = h.no_frees; none_reserved = h.none_reserved; on_time = h.on_time; few = h.few; words = h.words }
-
-pub pending_opened : (v w : View) → w.call ≡ [] → w.entries ≡ v.entries → w.actions ≡ v.actions → HasLeftPending v → HasPending w
-unfolding pending_after
-pending_opened v w call entries actions h = lists_pending v w (pending_of v.entries) (pending_now w) (ap (λ c. pending_after c (pending_of w.entries)) call ∙ ap pending_of entries) (ap listed actions) h
+-- a call opens after one that has its number
+pub pending_opened : (v w : View) → w.call ≡ [] → w.entries ≡ v.entries → w.actions ≡ v.actions → HasPending (uncalled v) → HasPending w
+pending_opened v w call entries actions = has_pending (uncalled v) w
+    (ap (λ c. pending_after c (pending_of w.entries)) call ∙ ap (λ es. pending_after [] (pending_of es)) entries)
+    (ap listed actions)

@@ -24,7 +24,7 @@ use Rattle.pm_crash.specs.SimOps.{LookedAt}
 use Rattle.pm_plan.specs.Plans.{Plan, Ready}
 use Rattle.pm_call.specs.At.{At, entries_so_far}
 use Rattle.pm_call.specs.Held.{HoldsAll, KnowsOwn, Looks}
-use Rattle.pm_call.specs.Waiting.{HasLeftPending}
+use Rattle.pm_call.specs.Waiting.{HasPending, uncalled}
 use Rattle.pm_call.specs.Plans.{gives_up}
 
 -- ---- STAGES OF A LANE
@@ -103,7 +103,7 @@ pub record IsOver (s : Standing) : Type 0 where
   pub sealed : value_in s.view (word_of_seal s.view.fixed.shape s.view.fixed.lane) ≡ Some 0
   pub holds : HoldsAll s.view s.locks
   pub own : KnowsOwn s.view
-  pub pending : HasLeftPending s.view
+  pub pending : HasPending (uncalled s.view)
   pub facts : HaveFacts s.view
 
 -- the fields of a lane whose call was given up for this reason

@@ -8,6 +8,14 @@ use Rattle.pm_world.specs.declared.lane.PendingAction.{PendingAction}
 use Rattle.pm_world.specs.declared.lane.PendingAction.TheVariants.{Set}
 use Rattle.pm_crash.specs.Calls.{pending_after, pending_of}
 
+-- what the model has pending, after the lane's entries and what it told since
+abbrev pub pending_now : View → Pending
+pending_now v = pending_after v.call (pending_of v.entries)
+
+-- a view whose call has its number: what it told is among the entries, and nothing was told since
+abbrev pub uncalled : View → View
+uncalled v = record v { call = [] }
+
 -- a word to be set, as the lane lists it
 abbrev pub listed_set : SetWord → PendingAction
 listed_set a = Set a.id a.off a.value
@@ -16,22 +24,11 @@ listed_set a = Set a.id a.off a.value
 abbrev pub IsWord : SetWord → Type 0
 IsWord a = (a.off % 8 ≡ 0) × (a.value < 2 ^ 64)
 
--- THE LANE LISTS WHAT IS PENDING in the model, in order
-pub record ListsPending (v : View) (p : Pending) : Type 0 where
-  pub lists : listed v.actions ≡ map listed_set p.sets
-  pub no_frees : p.frees ≡ []
-  pub none_reserved : p.reserved ≡ []
-  pub on_time : p.late ≡ false
-  pub few : length p.sets ≤ max_actions
-  pub words : AllByRecursion IsWord p.sets
-
--- while a call is open: after the lane's entries, and what the call told
-abbrev pub pending_now : View → Pending
-pending_now v = pending_after v.call (pending_of v.entries)
-
-abbrev pub HasPending : View → Type 0
-HasPending v = ListsPending v (pending_now v)
-
--- once it has its number: its entry has what it told
-abbrev pub HasLeftPending : View → Type 0
-HasLeftPending v = ListsPending v (pending_of v.entries)
+-- THE LANE LISTS WHAT IS PENDING, in order
+pub record HasPending (v : View) : Type 0 where
+  pub lists : listed v.actions ≡ map listed_set (pending_now v).sets
+  pub no_frees : (pending_now v).frees ≡ []
+  pub none_reserved : (pending_now v).reserved ≡ []
+  pub on_time : (pending_now v).late ≡ false
+  pub few : length (pending_now v).sets ≤ max_actions
+  pub words : AllByRecursion IsWord (pending_now v).sets
