@@ -68,6 +68,7 @@ use Rattle.pm_call.proofs.RangeRefusals.{none_new, range_refusals, ranges_are_lo
 use Rattle.pm_call.proofs.LockedRanges.{InRange, block, found, holds_object, in_object, in_range, known_word_of, knows_new}
 use Rattle.pm_call.proofs.RangeReads.{begun_more, range_passes}
 use Rattle.pm_call.proofs.RangeWords.{index, sized}
+use Rattle.pm_call.proofs.Staying.{now_told, pending_told}
 
 -- ---- options
 
@@ -321,9 +322,11 @@ module _ (s : Standing) (at : At s) (id : Oid) (off len : ℕ) (may : CanAdd s i
       level_is = at.lists.level_is;
       works = at.lists.works;
       locks = at.lists.locks;
+      count = at.lists.count;
       recorded = (λ i. at.lists.recorded i ++ cond (none_new s at id.off i) [] (new_words (at.lists.recorded i) (covered_words (id.off + off) len))) ∙ sym (words_recorded s.view (id.off + off) len can.each);
       records = (λ i. at.lists.records i + length (records_of (cond (none_new s at id.off i) [] (new_words (at.lists.recorded i) (covered_words (id.off + off) len))))) ∙ sym (records_more s.view (id.off + off) len);
       blocks = at.lists.blocks;
+      pending = at.lists.pending ∙ sym (now_told s.view (AddRange id off len) None (λ p. refl));
       sets = at.lists.sets;
       may_set = all_map (MaySet s) (MaySet (moved s told_view)) (lists_of s.view).sets (λ a m. record { locked = m.locked; aligned = m.aligned; size = m.size; sized = keeps.sizes a m ∙ m.sized; inside = m.inside; small = m.small }) at.lists.may_set;
       error_is = at.lists.error_is;
@@ -352,7 +355,8 @@ module _ (s : Standing) (at : At s) (id : Oid) (off len : ℕ) (may : CanAdd s i
     })
 
     pub stands_told : IsAt (moved s told_view) s.level
-    stands_told = told_at s s.level at ns w.changes w.calls log keeps (s.view.call ++ t ∷ []) s.view.actions s.view.published s.level at.some at.most (begun_more s.view.call t at.begun) lists sim
+    stands_told = told_at s s.level at ns w.changes w.calls log keeps (s.view.call ++ t ∷ []) s.view.actions s.view.published s.level at.some at.most (begun_more s.view.call t at.begun) lists
+        (pending_told s.view (AddRange id off len) None (λ p. refl) refl at.pending) sim
 
     pub stands_after : IsAt (moved s (after w (Tell (AddRange id off len) None))) s.level
     stands_after = subst (λ (y : View). IsAt (moved s y) s.level) (sym (ap (λ (y : View). after y (Tell (AddRange id off len) None)) noted_so)) stands_told

@@ -138,9 +138,11 @@ lists_at n level s tx lists = record {
   level_is = lists.level_is;
   works = lists.works;
   locks = lists.locks;
+  count = lists.count;
   recorded = lists.recorded;
   records = lists.records;
   blocks = lists.blocks;
+  pending = lists.pending;
   sets = lists.sets;
   may_set = all_map (MaySet s) (MaySet (at_level n s)) tx.sets (λ a m. record { locked = m.locked; aligned = m.aligned; size = m.size; sized = m.sized; inside = m.inside; small = m.small }) lists.may_set;
   error_is = lists.error_is;
@@ -160,9 +162,12 @@ work_at n level s at = record {
   held = at.held;
   lines = at.lines;
   few = at.few;
+  holds = at.holds;
+  own = at.own;
   room = at.room;
   recorded = at.recorded;
   lists = lists_at n level s (lists_of s.view) at.lists;
+  pending = at.pending;
   sim = at.sim;
   facts = at.facts;
 }

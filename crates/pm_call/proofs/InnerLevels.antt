@@ -25,6 +25,7 @@ use Rattle.pm_call.specs.Did.{IsUnrefused, unseen}
 use Rattle.pm_call.proofs.Ending.{commit_unrefused}
 use Rattle.pm_call.proofs.Noting.{all_map, told_at}
 use Rattle.pm_call.proofs.RangeReads.{begun_more, keeps_same}
+use Rattle.pm_call.proofs.Staying.{now_told, pending_told}
 
 -- no word is set
 pub sets_none : (v next : View) → ((q : Rattle.pm_view.specs.Places.Place) (b : ℕ) → Rattle.pm_crash.specs.Sim.change_so_far next [] q b ≡ Rattle.pm_crash.specs.Sim.change_so_far v [] q b) → SetsWords v [] next [] []
@@ -85,9 +86,11 @@ module _ (s : Standing) (at : At s) (inner : 2 ≤ s.level) where
     level_is = ap (λ n. n - 1) at.lists.level_is;
     works = ap (λ e. is_working (cond (is_none e) stage.Work stage.OnAbort)) at.lists.error_is;
     locks = at.lists.locks;
+    count = at.lists.count;
     recorded = at.lists.recorded;
     records = at.lists.records;
     blocks = at.lists.blocks;
+    pending = at.lists.pending ∙ sym (now_told s.view Commit None (λ p. refl));
     sets = at.lists.sets;
     may_set = all_map (MaySet s) (MaySet (moved s u)) lists.sets (λ a m. record { locked = m.locked; aligned = m.aligned; size = m.size; sized = m.sized; inside = m.inside; small = m.small }) at.lists.may_set;
     error_is = at.lists.error_is;
@@ -113,7 +116,7 @@ module _ (s : Standing) (at : At s) (inner : 2 ≤ s.level) where
 
   stands : IsAt (moved s u) (s.level - 1)
   stands = told_at s s.level at [] s.view.changes s.view.calls s.view.log (keeps_same s s.level at) u.call u.actions u.published (s.level - 1) (omega (arith, inner)) (let m = at.most in omega (arith, m))
-      (begun_more s.view.call t at.begun) are_lists sim
+      (begun_more s.view.call t at.begun) are_lists (pending_told s.view Commit None (λ p. refl) refl at.pending) sim
 
   leaves_level : LeavesLevel s
   unfolding Ready one after_all

@@ -28,7 +28,9 @@ use Rattle.pm_plan.proofs.Notes as notes
 use Rattle.pm_call.specs.At.{AreLists, IsAt, IsDataOf, MaySet, entries_so_far}
 use Rattle.pm_call.specs.Held.{AreHeld, HasObject, IsHeld, IsObjectWord, has_line, line_of}
 use Rattle.pm_call.proofs.KnownObjects.{size_known}
+use Rattle.pm_call.specs.Waiting.{HasPending}
 use Rattle.pm_call.proofs.Frames.{header_so, noting, noting_grows}
+use Rattle.pm_call.proofs.Staying.{has_pending, holds_with, noted_holds, noted_own}
 
 pub all_map : {A : Type 0} (P Q : A → Type 0) (xs : List A) → ((x : A) → P x → Q x) → AllByRecursion P xs → AllByRecursion Q xs
 all_map P Q [] f all = tt
@@ -232,9 +234,10 @@ module _ (s : Standing) (level : ℕ) (at : IsAt s level) (ns : List Note) (chan
 
   pub held_told_at : (call actions published : List Told) (level' : ℕ) → 1 ≤ level' → level' ≤ 64 → is_begun call ≡ true
       → AreLists (moved s (told next_view call actions published)) level' (lists_of (told next_view call actions published))
+      → HasPending (told s.view call actions published)
       → Sim (told next_view call actions published) (entries_so_far s)
       → IsAt (moved s (told next_view call actions published)) level'
-  held_told_at call actions published level' some most begun lists sim = record {
+  held_told_at call actions published level' some most begun lists pending sim = record {
     working = working_told next_view call actions published k.working;
     unbumped = k.unbumped;
     begun = begun;
@@ -247,9 +250,12 @@ module _ (s : Standing) (level : ℕ) (at : IsAt s level) (ns : List Note) (chan
     held = held_told next_view call actions published s.locks (held_so s.view ns changes calls log k.each at.working.unmaking s.locks at.held);
     lines = at.lines;
     few = at.few;
+    holds = holds_with next_view (told next_view call actions published) s.locks refl refl (noted_holds s.view ns changes calls log s.locks at.holds);
+    own = noted_own s.view ns changes calls log k.each at.own;
     room = at.room;
     recorded = λ p e. data_told next_view call actions published (sound_so s.view ns changes calls log k.each at.working.unmaking at.sound) p (k.recorded p e);
     lists = lists;
+    pending = has_pending (told s.view call actions published) (told next_view call actions published) refl refl pending;
     sim = sim;
     facts = at.facts;
   }
@@ -271,22 +277,25 @@ module _ (s : Standing) (level : ℕ) (at : IsAt s level) (ns : List Note) (chan
 
   pub told_at : (call actions published : List Told) (level' : ℕ) → 1 ≤ level' → level' ≤ 64 → is_begun call ≡ true
       → AreLists (moved s (told noted_view call actions published)) level' (lists_of (told noted_view call actions published))
+      → HasPending (told s.view call actions published)
       → Sim (told noted_view call actions published) (entries_so_far s)
       → IsAt (moved s (told noted_view call actions published)) level'
-  told_at call actions published level' some most begun lists sim = held_told_at s level at ns changes calls log held_of call actions published level' some most begun lists sim
+  told_at call actions published level' some most begun lists pending sim = held_told_at s level at ns changes calls log held_of call actions published level' some most begun lists pending sim
 
   -- AND WITH NOTHING TOLD, where no record is new
   pub noted_at : log.records ≡ s.view.log.records → IsAt (moved s noted_view) level
-  noted_at same = told_at s.view.call s.view.actions s.view.published level at.some at.most at.begun lists noted_sim
+  noted_at same = told_at s.view.call s.view.actions s.view.published level at.some at.most at.begun lists (has_pending s.view (told s.view s.view.call s.view.actions s.view.published) refl refl at.pending) noted_sim
     where
       lists : AreLists (moved s noted_view) level (lists_of s.view)
       lists = record {
         level_is = at.lists.level_is;
         works = at.lists.works;
         locks = at.lists.locks;
+        count = at.lists.count;
         recorded = at.lists.recorded ∙ ap (λ rs. Rattle.pm_undo.specs.Spans.words_in (map (Rattle.pm_world.specs.LaneFields.kept_of s.view.fixed.shape) rs)) (sym same);
         records = at.lists.records ∙ ap Rattle.std.specs.Prelude.length (sym same);
         blocks = at.lists.blocks;
+        pending = at.lists.pending;
         sets = at.lists.sets;
         may_set = all_map (MaySet s) (MaySet (moved s noted_view)) (lists_of s.view).sets (λ a m. record { locked = m.locked; aligned = m.aligned; size = m.size; sized = k.sizes a m ∙ m.sized; inside = m.inside; small = m.small }) at.lists.may_set;
         error_is = at.lists.error_is;

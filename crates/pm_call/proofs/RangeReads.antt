@@ -24,9 +24,11 @@ use Rattle.pm_call.specs.At.{At, AreLists, IsAt, MaySet, entries_so_far}
 use Rattle.pm_call.specs.Did.{IsUnrefused, unseen}
 use Rattle.pm_call.specs.Ranges.{HasRange, KnowsWords, is_held_so, size_or_none}
 use Rattle.pm_call.specs.Reading.{LeadsRead, RangesMayBeRead}
+use Rattle.pm_call.specs.Waiting.{pending_now}
 use Rattle.pm_call.proofs.Noting.{Keeps, all_map, data_told, told_at}
 use Rattle.pm_call.proofs.RangeRefusals.{range_refusals, ranges_are_looked_at}
 use Rattle.pm_call.proofs.RangeWords.{knows_range}
+use Rattle.pm_call.proofs.Staying.{now_told, pending_told}
 
 pub begun_more : (told : List Told) (t : Told) → is_begun told ≡ true → is_begun (told ++ t ∷ []) ≡ true
 begun_more [] t e = absurd (Rattle.std.proofs.lemmas.Bool.both_ways false refl e)
@@ -50,14 +52,17 @@ keeps_same s level at = record {
 -- an operation that leaves the model's lists leaves the lane's
 pub lists_told : (s : Standing) (level : ℕ) (call actions published : List Told) → IsAt s level
     → lists_of (record s.view { call = call; actions = actions; published = published }) ≡ lists_of s.view
+    → pending_now (record s.view { call = call; actions = actions; published = published }) ≡ pending_now s.view
     → AreLists (moved s (record s.view { call = call; actions = actions; published = published })) level (lists_of (record s.view { call = call; actions = actions; published = published }))
-lists_told s level call actions published at same = subst (AreLists (moved s (record s.view { call = call; actions = actions; published = published })) level) (sym same) (record {
+lists_told s level call actions published at same now = subst (AreLists (moved s (record s.view { call = call; actions = actions; published = published })) level) (sym same) (record {
   level_is = at.lists.level_is;
   works = at.lists.works;
   locks = at.lists.locks;
+  count = at.lists.count;
   recorded = at.lists.recorded;
   records = at.lists.records;
   blocks = at.lists.blocks;
+  pending = at.lists.pending ∙ sym now;
   sets = at.lists.sets;
   may_set = all_map (MaySet s) (MaySet (moved s (record s.view { call = call; actions = actions; published = published }))) (lists_of s.view).sets
       (λ a m. record { locked = m.locked; aligned = m.aligned; size = m.size; sized = m.sized; inside = m.inside; small = m.small }) at.lists.may_set;
@@ -114,7 +119,8 @@ module _ (s : Standing) (id : Oid) (off len : ℕ) (at : At s) (r : HasRange s i
       })
 
   stands : At (moved s (record s.view { call = s.view.call ++ told ∷ []; actions = s.view.actions; published = s.view.published }))
-  stands = told_at s s.level at [] v.changes v.calls v.log (keeps_same s s.level at) u.call u.actions u.published s.level at.some at.most (begun_more v.call told at.begun) (lists_told s s.level u.call u.actions u.published at lists_same) sim
+  stands = told_at s s.level at [] v.changes v.calls v.log (keeps_same s s.level at) u.call u.actions u.published s.level at.some at.most (begun_more v.call told at.begun) (lists_told s s.level u.call u.actions u.published at lists_same (now_told v (Read id off len) (Some (Bytes bytes)) (λ p. refl)))
+      (pending_told v (Read id off len) (Some (Bytes bytes)) (λ p. refl) refl at.pending) sim
 
   pub leads_read : LeadsRead s id off len
   unfolding Ready one after_all

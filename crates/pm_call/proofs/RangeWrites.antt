@@ -59,6 +59,7 @@ use Rattle.pm_call.proofs.RangeWords.{sized}
 use Rattle.pm_call.proofs.RecordedWords.{header_apart, one_use}
 use Rattle.pm_call.proofs.Storing as storing
 use Rattle.pm_call.proofs.Storing.{IsCovered, Stored, Storing, block, goes_word, index, new_small, new_word, range_place, storing_starts}
+use Rattle.pm_call.proofs.Staying.{now_told, pending_told}
 
 -- a word is covered, or not
 covered_or : (place len i : ℕ) → Contains (covered_words place len) i ⊎ (¬ Contains (covered_words place len) i)
@@ -242,9 +243,11 @@ module _ (s : Standing) (at : At s) (id : Oid) (off : ℕ) (bytes : List ℕ) (c
       level_is = at.lists.level_is;
       works = at.lists.works;
       locks = at.lists.locks;
+      count = at.lists.count;
       recorded = at.lists.recorded;
       records = at.lists.records;
       blocks = at.lists.blocks;
+      pending = at.lists.pending ∙ sym (now_told v (Write id off bytes) None (λ p. refl));
       sets = at.lists.sets;
       may_set = all_map (MaySet s) (MaySet (moved s next_view)) (lists_of s.view).sets
           (λ a m. record { locked = m.locked; aligned = m.aligned; size = m.size; sized = size_held a m ∙ m.sized; inside = m.inside; small = m.small }) at.lists.may_set;
@@ -276,7 +279,8 @@ module _ (s : Standing) (at : At s) (id : Oid) (off : ℕ) (bytes : List ℕ) (c
         (record { looks = un.looks; unrefused = un.none; off = id.off; at = off; bytes = bytes; is = inl (id, refl, refl, refl); puts = puts_bytes })
 
     stands : IsUnrefused s (Write id off bytes) → At (moved s next_view)
-    stands un = held_told_at s s.level at ns changes calls v.log keeps next_view.call next_view.actions next_view.published s.level at.some at.most (begun_more v.call told_write at.begun) lists (sim un)
+    stands un = held_told_at s s.level at ns changes calls v.log keeps next_view.call next_view.actions next_view.published s.level at.some at.most (begun_more v.call told_write at.begun) lists
+        (pending_told v (Write id off bytes) None (λ p. refl) refl at.pending) (sim un)
 
   -- ---- all of it
 

@@ -26,7 +26,7 @@ use Rattle.pm_undo.specs.Records.{kept_by}
 use Rattle.pm_undo.specs.Spans as spans
 use Rattle.pm_undo.specs.Working.{IsWorking}
 use Rattle.pm_call.specs.Held.{AreHeld, AreLines, HoldsAll, KnowsOwn, is_in_locks}
-use Rattle.pm_call.specs.Waiting.{HasPending}
+use Rattle.pm_call.specs.Waiting.{HasPending, pending_now}
 
 -- the entries of the blocks that the call made and freed so far: none, as long as no call of a transaction makes or frees a block
 abbrev pub entries_so_far : Standing → List Entry
@@ -53,6 +53,8 @@ pub record AreLists (s : Standing) (level : ℕ) (tx : Transaction) : Type 0 whe
   pub recorded : tx.recorded ≡ spans.words_in (kept_by s.view)
   pub records : tx.records ≡ length s.view.log.records
   pub blocks : (tx.made ≡ []) × (tx.dropped ≡ []) × (tx.freed ≡ [])
+  -- what is pending follows from what was told, with its replies
+  pub pending : tx.pending ≡ pending_now s.view
   -- the words that it published are entries to be logged
   pub sets : s.entries ≡ map set_entry tx.sets
   pub may_set : AllByRecursion (MaySet s) tx.sets

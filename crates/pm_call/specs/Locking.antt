@@ -36,7 +36,7 @@ use Rattle.pm_lock.specs.Raising.{raised, raises}
 use Rattle.pm_lock.specs.Wants.{has_unplaced, is_listed, wanted, wants_to_write}
 use Rattle.pm_call.specs.At.{At, IsDataOf, MaySet, MayTakeNumber, entries_so_far, set_entry}
 use Rattle.pm_call.specs.Held.{AreHeld, HoldsAll, KnowsOwn, is_in_locks}
-use Rattle.pm_call.specs.Waiting.{HasPending}
+use Rattle.pm_call.specs.Waiting.{HasPending, pending_now}
 use Rattle.pm_call.specs.Did.{IsUnrefused}
 use Rattle.pm_call.specs.Stages.{IsBetween}
 
@@ -77,6 +77,8 @@ pub record AgreesOn (s : Standing) (tx : Transaction) : Type 0 where
   pub recorded : tx.recorded ≡ spans.words_in (kept_by s.view)
   pub records : tx.records ≡ length s.view.log.records
   pub blocks : (tx.made ≡ []) × (tx.dropped ≡ []) × (tx.freed ≡ [])
+  -- what is pending follows from what was told, with its replies
+  pub pending : tx.pending ≡ pending_now s.view
   pub sets : s.entries ≡ map set_entry tx.sets
   pub may_set : AllByRecursion (MaySet s) tx.sets
   pub error_is : tx.error ≡ error.None

@@ -1,8 +1,9 @@
 -- A WORD IS ASKED FOR: it is told, done or refused, and the lane is at work then.
-use Rattle.std.proofs.Common.{◌≡◌, ℕ, suc, ◌%◌, ◌==◌, nat_le, inl, inr, true, false, Contains, List, [], ◌∷◌, ◌++◌, length, not, refl, sym, ap, ◌∙◌, subst, arith, rules, eq-eqb, ne_eqb, None, Some, Result, Ok, Err}
+use Rattle.std.proofs.Common.{◌≡◌, ℕ, suc, ◌%◌, ◌^◌, ◌<◌, ◌≤◌, ◌==◌, ◌||◌, nat_le, inl, inr, true, false, Contains, List, [], ◌∷◌, ◌++◌, length, map, not, refl, sym, ap, ◌∙◌, subst, arith, rules, eq-eqb, ne_eqb, None, Some, Result, Ok, Err}
+use Rattle.std.specs.List.{AllByRecursion, list_any}
 use Rattle.std.proofs.lemmas.Bool.{false_from_ne_true, le-leb, leb-true}
 use Rattle.pm_memory.specs.Runs.{Made}
-use Rattle.pm_model.specs.Pending.{max_actions, pending_count, with_set}
+use Rattle.pm_model.specs.Pending.{Pending, SetWord, max_actions, pending_count, with_set}
 use Rattle.pm_model.specs.Refusals.{first_of}
 use Rattle.pm_model.specs.Transaction.{idle}
 use Rattle.pm_objects.specs.declared.calls.Operation.TheVariants.{SetValue}
@@ -30,11 +31,13 @@ use Rattle.pm_crash.proofs.SimOps.{sim_extends, sim_refuses}
 use Rattle.pm_crash.proofs.Telling.{no_root_is_asked, tells_grow}
 use Rattle.pm_plan.specs.Plans.{Ready, one}
 use Rattle.pm_call.specs.At.{At, AreLists, MaySet}
-use Rattle.pm_call.specs.Did.{IsAt, IsAtSo, IsRefused, IsUnrefused, next, unseen, work_refusal}
+use Rattle.pm_call.specs.Did.{IsRefused, IsUnrefused, next, unseen, work_refusal}
 use Rattle.pm_call.specs.Plans.{tells}
+use Rattle.pm_call.specs.Waiting.{HasPending, IsWord, listed_set, pending_now}
 use Rattle.pm_call.proofs.Noting.{all_map, data_told, told_at}
-use Rattle.pm_call.proofs.RangeReads.{begun_more, keeps_same}
-use Rattle.pm_tx.specs.Actions.{Asked, AskedSo, HasTold, IsTold, JudgedSet, ListsActions}
+use Rattle.pm_call.proofs.RangeReads.{begun_more, keeps_same, lists_told}
+use Rattle.pm_call.proofs.Staying.{now_told, pending_more, pending_told}
+use Rattle.pm_tx.specs.Actions.{Asked, AskedSo, HasTold, IsTold, JudgedSet}
 
 -- ---- lists with one more
 
@@ -51,6 +54,26 @@ listed_more (x ∷ told) t = ap (λ ys. listed_as x.operation x.reply ++ ys) (li
 one_more : {A : Type 0} (xs : List A) (x : A) → length (xs ++ x ∷ []) ≡ suc (length xs)
 one_more [] x = refl
 one_more (y ∷ xs) x = ap suc (one_more xs x)
+
+map_more : {A B : Type 0} (f : A → B) (xs : List A) (x : A) → map f (xs ++ x ∷ []) ≡ map f xs ++ f x ∷ []
+map_more f [] x = refl
+map_more f (y ∷ xs) x = ap (λ ys. f y ∷ ys) (map_more f xs x)
+
+length_map : {A B : Type 0} (f : A → B) (xs : List A) → length (map f xs) ≡ length xs
+length_map f [] = refl
+length_map f (x ∷ xs) = ap suc (length_map f xs)
+
+all_more : {A : Type 0} (P : A → Type 0) (xs : List A) (x : A) → AllByRecursion P xs → P x → AllByRecursion P (xs ++ x ∷ [])
+all_more P [] x all is = (is, tt)
+all_more P (y ∷ xs) x all is = (all.0, all_more P xs x all.1 is)
+
+-- the lane lists as many actions as the model has pending
+count_is : (v : View) → HasPending v → (lists_of v).pending ≡ pending_now v → length (listed v.actions) ≡ pending_count (lists_of v).pending
+count_is v h is =
+    let sets = length_map listed_set (pending_now v).sets in
+    let frees = ap length h.no_frees in
+    let reserved = ap length h.none_reserved in
+    ap length h.lists ∙ ((let e : length (map listed_set (pending_now v).sets) ≡ pending_count (pending_now v) = omega (arith, sets, frees, reserved) in e) ∙ ap pending_count (sym is))
 
 module _ (s : Standing) (id : Oid) (off value : ℕ) (at : At s) where
   abbrev v : View
@@ -74,30 +97,33 @@ module _ (s : Standing) (id : Oid) (off value : ℕ) (at : At s) where
   first : refusal_by unseen v None (SetValue id off value) ≡ first_of ((refusal.Unaligned, not (off % 8 == 0)) ∷ (refusal.ActionsFull, nat_le max_actions (pending_count (lists_of v).pending)) ∷ [])
   first = refl
 
-  pub unrefused : ListsActions s → JudgedSet off (length (listed v.actions)) (Ok tt) → IsUnrefused s (SetValue id off value)
+  many : length (listed v.actions) ≡ pending_count (lists_of v).pending
+  many = count_is v at.pending at.lists.pending
+
+  pub unrefused : JudgedSet off (length (listed v.actions)) (Ok tt) → IsUnrefused s (SetValue id off value)
   unfolding first_of
-  unrefused many is = record {
+  unrefused is = record {
     looks = looked;
     none = first ∙ (λ i. first_of ((refusal.Unaligned, not (eq-eqb (off % 8) 0 is.0 i)) ∷ (refusal.ActionsFull, few i) ∷ []));
   }
     where
       few : nat_le max_actions (pending_count (lists_of v).pending) ≡ false
-      few = false_from_ne_true (nat_le max_actions (pending_count (lists_of v).pending)) (λ e. let l = leb-true max_actions (pending_count (lists_of v).pending) e in let low = is.1 in omega (arith, l, low, many))
+      few = false_from_ne_true (nat_le max_actions (pending_count (lists_of v).pending)) (λ e. let l = leb-true max_actions (pending_count (lists_of v).pending) e in let low = is.1 in let same = many in omega (arith, l, low, same))
 
-  pub refused : (why : Refusal) → ListsActions s → JudgedSet off (length (listed v.actions)) (Err why) → IsRefused s (SetValue id off value) why
+  pub refused : (why : Refusal) → JudgedSet off (length (listed v.actions)) (Err why) → IsRefused s (SetValue id off value) why
   unfolding first_of
-  refused refusal.Unaligned many is = record {
+  refused refusal.Unaligned is = record {
     looks = looked;
     first = first ∙ (λ i. first_of ((refusal.Unaligned, not (ne_eqb (off % 8) 0 is i)) ∷ (refusal.ActionsFull, nat_le max_actions (pending_count (lists_of v).pending)) ∷ []));
   }
-  refused refusal.ActionsFull many is = record {
+  refused refusal.ActionsFull is = record {
     looks = looked;
     first = first ∙ (λ i. first_of ((refusal.Unaligned, not (eq-eqb (off % 8) 0 is.0 i)) ∷ (refusal.ActionsFull, full i) ∷ []));
   }
     where
       full : nat_le max_actions (pending_count (lists_of v).pending) ≡ true
-      full = le-leb max_actions (pending_count (lists_of v).pending) (let most = is.1 in omega (arith, most, many))
-  refused why many is = absurd is
+      full = le-leb max_actions (pending_count (lists_of v).pending) (let most = is.1 in let same = many in omega (arith, most, same))
+  refused why is = absurd is
 
   -- ---- it is done
 
@@ -107,7 +133,13 @@ module _ (s : Standing) (id : Oid) (off value : ℕ) (at : At s) where
   abbrev u : View
   u = record v { call = v.call ++ t ∷ []; actions = v.actions ++ t ∷ []; published = v.published }
 
-  lists_then : lists_of u ≡ record (lists_of v) { pending = with_set (record { id = id; off = off; value = value }) (lists_of v).pending }
+  abbrev word : SetWord
+  word = record { id = id; off = off; value = value }
+
+  now : pending_now u ≡ with_set word (pending_now v)
+  now = pending_more v.call t (pending_of v.entries)
+
+  lists_then : lists_of u ≡ record (lists_of v) { pending = with_set word (lists_of v).pending }
   lists_then = told_once_more v.call t (idle no_pool (pending_of v.entries))
 
   lists : AreLists (moved s u) s.level (lists_of u)
@@ -115,20 +147,25 @@ module _ (s : Standing) (id : Oid) (off value : ℕ) (at : At s) where
     level_is = at.lists.level_is;
     works = at.lists.works;
     locks = at.lists.locks;
+    count = at.lists.count;
     recorded = at.lists.recorded;
     records = at.lists.records;
     blocks = at.lists.blocks;
+    pending = ap (with_set word) at.lists.pending ∙ sym now;
     sets = at.lists.sets;
     may_set = all_map (MaySet s) (MaySet (moved s u)) (lists_of v).sets (λ a m. record { locked = m.locked; aligned = m.aligned; size = m.size; sized = m.sized; inside = m.inside; small = m.small }) at.lists.may_set;
     error_is = at.lists.error_is;
   })
 
-  lists_actions : ListsActions s → ListsActions (moved s u)
-  lists_actions many =
-      ap length (listed_more v.actions t) ∙ (one_more (listed v.actions) (Set id off value) ∙ (ap suc many ∙ (counted ∙ ap (λ tx. pending_count tx.pending) (sym lists_then))))
-    where
-      counted : suc (pending_count (lists_of v).pending) ≡ pending_count (with_set (record { id = id; off = off; value = value }) (lists_of v).pending)
-      counted = let e = one_more (lists_of v).pending.sets (record { id = id; off = off; value = value }) in omega (arith, e)
+  pending_then : JudgedSet off (length (listed v.actions)) (Ok tt) → value < 2 ^ 64 → HasPending u
+  pending_then is small = record {
+    lists = listed_more v.actions t ∙ (ap (λ xs. xs ++ Set id off value ∷ []) at.pending.lists ∙ (sym (map_more listed_set (pending_now v).sets word) ∙ ap (λ (p : Pending). map listed_set p.sets) (sym now)));
+    no_frees = ap (λ (p : Pending). p.frees) now ∙ at.pending.no_frees;
+    none_reserved = ap (λ (p : Pending). p.reserved) now ∙ at.pending.none_reserved;
+    on_time = ap (λ (p : Pending). p.late) now ∙ (ap (λ fs. list_any (λ (other : Oid). other.off == id.off) fs || (pending_now v).late) at.pending.no_frees ∙ at.pending.on_time);
+    few = subst (λ (p : Pending). length p.sets ≤ max_actions) (sym now) (let low = is.1 in let more = one_more (pending_now v).sets word in let sets = ap length at.pending.lists ∙ length_map listed_set (pending_now v).sets in omega (arith, more, sets, low));
+    words = subst (λ (p : Pending). AllByRecursion IsWord p.sets) (sym now) (all_more IsWord (pending_now v).sets word at.pending.words (is.0, small));
+  }
 
   sim : IsUnrefused s (SetValue id off value) → Sim u []
   sim un = sim_extends v u [] [] None (record { operation = SetValue id off value; seen = unseen; reply = None }) at.sim
@@ -145,12 +182,12 @@ module _ (s : Standing) (id : Oid) (off value : ℕ) (at : At s) where
         same = λ p b. inl refl;
       })
 
-  stands : IsUnrefused s (SetValue id off value) → At (moved s u)
-  stands un = told_at s s.level at [] v.changes v.calls v.log (keeps_same s s.level at) u.call u.actions u.published s.level at.some at.most (begun_more v.call t at.begun) lists (sim un)
+  stands : IsUnrefused s (SetValue id off value) → JudgedSet off (length (listed v.actions)) (Ok tt) → value < 2 ^ 64 → At (moved s u)
+  stands un is small = told_at s s.level at [] v.changes v.calls v.log (keeps_same s s.level at) u.call u.actions u.published s.level at.some at.most (begun_more v.call t at.begun) lists (pending_then is small) (sim un)
 
-  pub set_told : {M : Type 0} (of : M → View → Type 0) (lane : Lane M) → IsUnrefused s (SetValue id off value) → ListsActions s → Works of lane (next s (tells (SetValue id off value) None)) → IsTold of lane s (SetValue id off value) None
+  pub set_told : {M : Type 0} (of : M → View → Type 0) (lane : Lane M) → IsUnrefused s (SetValue id off value) → JudgedSet off (length (listed v.actions)) (Ok tt) → value < 2 ^ 64 → Works of lane (next s (tells (SetValue id off value) None)) → IsTold of lane s (SetValue id off value) None
   unfolding Ready one after_all
-  set_told of lane un many works = record { ready = (at.working.is_open, tt, tt); works = works; stands = stands un; lists = lists_actions many }
+  set_told of lane un is small works = record { ready = (at.working.is_open, tt, tt); works = works; stands = stands un is small }
 
   -- ---- it is refused
 
@@ -182,16 +219,14 @@ module _ (s : Standing) (id : Oid) (off value : ℕ) (at : At s) where
 
     refused_stands : At (moved s w)
     refused_stands = told_at s s.level at [] v.changes v.calls v.log (keeps_same s s.level at) w.call w.actions w.published s.level at.some at.most (begun_more v.call no at.begun)
-        (Rattle.pm_call.proofs.RangeReads.lists_told s s.level w.call w.actions w.published at lists_same) refused_sim
+        (lists_told s s.level w.call w.actions w.published at lists_same (now_told v (SetValue id off value) (Some (Refused why)) (λ p. refl)))
+        (pending_told v (SetValue id off value) (Some (Refused why)) (λ p. refl) refl at.pending) refused_sim
 
-    pub refused_told : {M : Type 0} (of : M → View → Type 0) (lane : Lane M) → ListsActions s → Works of lane (next s (tells (SetValue id off value) (Some (Refused why)))) → IsTold of lane s (SetValue id off value) (Some (Refused why))
+    pub refused_told : {M : Type 0} (of : M → View → Type 0) (lane : Lane M) → Works of lane (next s (tells (SetValue id off value) (Some (Refused why)))) → IsTold of lane s (SetValue id off value) (Some (Refused why))
     unfolding Ready one after_all
-    refused_told of lane many works = record { ready = (at.working.is_open, tt, tt); works = works; stands = refused_stands; lists = many ∙ ap (λ tx. pending_count tx.pending) (sym lists_same) }
+    refused_told of lane works = record { ready = (at.working.is_open, tt, tt); works = works; stands = refused_stands }
 
 -- ---- the lane
-
-pub is_at : {M : Type 0} (at : M → View → Type 0) (lane : Lane M) {Q : Standing → Type 0} → IsAtSo at lane Q → IsAt at lane
-is_at at lane is = record { standing = is.standing; works = is.works; stands = is.stands }
 
 module _ {M : Type 0} (at : M → View → Type 0) (old : Lane M) (id : Oid) (off value : ℕ) where
   -- a refusal is told
@@ -222,12 +257,13 @@ module _ {M : Type 0} (at : M → View → Type 0) (old : Lane M) (id : Oid) (of
   judged : (s : Standing) (result : Result (Unit {0}) Refusal) → Works at old s → JudgedSet off (length old.pending.items) result → JudgedSet off (length (listed s.view.actions)) result
   judged s result works is = subst (λ (f : Fields). JudgedSet off (length f.pending) result) works.fields is
 
-  pub asked_set : (new : Lane M) → None ≡ work_refusal old → JudgedSet off (length old.pending.items) (Ok tt) → HasTold at old new (SetValue id off value) None → Asked at old new (SetValue id off value) (Ok tt)
+  pub asked_set : (new : Lane M) → value < 2 ^ 64 → None ≡ work_refusal old → JudgedSet off (length old.pending.items) (Ok tt) → HasTold at old new (SetValue id off value) None → Asked at old new (SetValue id off value) (Ok tt)
   unfolding Asked HasTold
-  asked_set new none is told = subst (λ o. AskedSo o at old new (SetValue id off value) (Ok tt)) none (λ s works stands many.
-      let un = unrefused s id off value stands many (judged s (Ok tt) works is) in (un, set_told s id off value stands at new un many (told s works stands)))
+  asked_set new small none is told = subst (λ o. AskedSo o at old new (SetValue id off value) (Ok tt)) none (λ s works stands.
+      let room = judged s (Ok tt) works is in
+      let un = unrefused s id off value stands room in (un, set_told s id off value stands at new un room small (told s works stands)))
 
   pub asked_no : (new : Lane M) (why : Refusal) → None ≡ work_refusal old → JudgedSet off (length old.pending.items) (Err why) → HasTold at old new (SetValue id off value) (Some (Refused why)) → Asked at old new (SetValue id off value) (Err why)
   unfolding Asked HasTold
-  asked_no new why none is told = subst (λ o. AskedSo o at old new (SetValue id off value) (Err why)) none (λ s works stands many.
-      let no = refused s id off value stands why many (judged s (Err why) works is) in (no, refused_told s id off value stands why no at new many (told s works stands)))
+  asked_no new why none is told = subst (λ o. AskedSo o at old new (SetValue id off value) (Err why)) none (λ s works stands.
+      let no = refused s id off value stands why (judged s (Err why) works is) in (no, refused_told s id off value stands why no at new (told s works stands)))
