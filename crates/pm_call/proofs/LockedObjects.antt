@@ -57,7 +57,7 @@ use Rattle.pm_call.proofs.KnownObjects.{held_object, object_stands}
 use Rattle.pm_call.proofs.LockLists.{all_locked_is, any_at, chunk_high, listed_is, locks_are, locks_count, none_any, wants_off}
 use Rattle.pm_call.proofs.Noting.{all_map, data_told, held_told, sizes_told, sound_told, working_told}
 use Rattle.pm_call.proofs.RangeReads.{begun_more}
-use Rattle.pm_call.proofs.Staying.{has_pending, pending_told}
+use Rattle.pm_call.proofs.Staying.{has_pending, now_told, pending_told}
 use Rattle.pm_call.proofs.TakenLocks.{IsTakenView, can_lock, is_taken_view}
 
 -- no test applies
@@ -224,6 +224,7 @@ module _ (s : Standing) (op : Operation) (wants : List Want) (level : ℕ) (x : 
       recorded = at.lists.recorded;
       records = at.lists.records;
       blocks = at.lists.blocks;
+      pending = at.lists.pending ∙ sym (now_told next op None is.asks_none);
       sets = at.lists.sets;
       may_set = all_map (MaySet s) (MaySet then) tx.sets (λ a m. let o = held_object s.view s.locks at.held a.id.off true m.locked in record {
         locked = still_locked a.id.off m.locked;

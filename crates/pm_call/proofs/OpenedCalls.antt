@@ -25,7 +25,7 @@ use Rattle.pm_objects.specs.declared.calls.Want.{Want}
 use Rattle.pm_model.specs.Transaction.{Transaction, idle, is_working, with_locks}
 use Rattle.pm_view.specs.Claims.{holds}
 use Rattle.pm_world.specs.Sights.{is_recorded}
-use Rattle.pm_crash.specs.Calls.{pending_of}
+use Rattle.pm_crash.specs.Calls.{pending_after, pending_of}
 use Rattle.pm_crash.specs.OpenRuns.{after_told, no_pool}
 use Rattle.pm_crash.specs.SimFacts.{is_begun}
 use Rattle.pm_crash.proofs.Simulation.{sim_begins}
@@ -98,13 +98,14 @@ module _ (s : Standing) (op : IsOpened s) where
   none_recorded p e = both_ways (is_recorded s.view.log.records p) (ap (λ rs. is_recorded rs p) op.records) e
 
   agrees : AgreesOn s (lists_of s.view)
-  unfolding spans.words_in
+  unfolding spans.words_in pending_after
   agrees = subst (AgreesOn s) (sym none_told) (record {
     locks = λ off write. sym (ap (λ (ls : List HeldLock). is_in_locks ls off write) op.locks ∙ and_right (has_line off) false refl);
     count = sym (ap (λ (ls : List HeldLock). length ls) op.locks);
     recorded = sym (ap (λ rs. spans.words_in (map (kept_of s.view.fixed.shape) rs)) op.records);
     records = sym (ap length op.records);
     blocks = (refl, refl, refl);
+    pending = sym (ap (λ call. pending_after call (pending_of s.view.entries)) op.call);
     sets = op.entries;
     may_set = tt;
     error_is = refl;

@@ -60,7 +60,7 @@ can_lock s at = record {
   own = at.own;
   room = at.room;
   recorded = at.recorded;
-  lists = record { locks = at.lists.locks; count = at.lists.count; recorded = at.lists.recorded; records = at.lists.records; blocks = at.lists.blocks; sets = at.lists.sets; may_set = at.lists.may_set; error_is = at.lists.error_is };
+  lists = record { locks = at.lists.locks; count = at.lists.count; recorded = at.lists.recorded; records = at.lists.records; blocks = at.lists.blocks; pending = at.lists.pending; sets = at.lists.sets; may_set = at.lists.may_set; error_is = at.lists.error_is };
   pending = at.pending;
   sim = at.sim;
   facts = at.facts;

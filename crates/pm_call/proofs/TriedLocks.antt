@@ -259,6 +259,7 @@ module _ (s : Standing) (wants : List Want) (all : List HeldLock) (x : View) (at
       recorded = at.lists.recorded;
       records = at.lists.records;
       blocks = at.lists.blocks;
+      pending = at.lists.pending;
       sets = at.lists.sets;
       may_set = all_map (MaySet s) (MaySet (moved s next)) (lists_of s.view).sets (λ a m. let o = held_object s.view s.locks at.held a.id.off true m.locked in record {
         locked = m.locked;
