@@ -28,8 +28,8 @@ use Rattle.pm_world.specs.World.{Opening, Views}
 use Rattle.pm_world.proofs.CausesKept as kept
 use Rattle.pm_world.proofs.ClaimCounts.{grows, rising_got}
 use Rattle.pm_world.proofs.RunsKept.{runs_keep}
-use Rattle.pm_crash.specs.Answers.{AreCuts, GetsNone, LinesGetAll, LinesGetNone, LinesHaveCauses}
-use Rattle.pm_crash.specs.Answers.{OthersGetTheRest, got_by_lines}
+use Rattle.pm_crash.specs.Answers.{AreCuts, GetsNone, LinesGetNone, LinesHaveCauses}
+use Rattle.pm_crash.specs.Answers.{OthersAreLines, OthersGetTheRest, got_by_all_lines, got_by_lines}
 use Rattle.pm_crash.proofs.FullZones.{full_is_got}
 
 -- ---- A STEP THAT GETS NO CHUNK of the zone
@@ -238,9 +238,33 @@ pub none_got : LinesGetNone
 none_got o turns begun now run zone k none =
     let e = same zone o k turns begun now run none in omega arith
 
-pub all_lines : LinesGetAll
-all_lines o old new cuts c zone k =
-    let r = cut zone o k cuts old new c in let e = r.1 in omega arith
+pub sums : OthersAreLines
+sums o fixed generation old begun now cuts zone k idle mine others = to o.lanes
+  where
+    none : (j : ℕ) → got zone j old ≡ 0
+    none j = ap (λ (vs : Views). chunks_got zone (vs j).claims) idle
+
+    one : (j : ℕ) (m : Moment) → AreCuts o old (cuts j) m
+        → got zone j m ≡ got_by_lines zone j old (cuts j)
+    one j m c =
+        let r = cut zone o j (cuts j) old m c in let e = r.1 in let z = none j in omega arith
+
+    each : (j : ℕ) → chunks_got zone (put1 now.views k (begun.views k) j).claims
+        ≡ got_by_lines zone j old (cuts j)
+    each j = ⊎_elim
+        (λ (q : j ≡ k).
+        ap (λ b. chunks_got zone (cond b (begun.views k) (now.views j)).claims) (eq-eqb j k q)
+        ∙ subst (λ i. got zone k begun ≡ got_by_lines zone i old (cuts i)) (sym q)
+        (one k begun mine))
+        (λ (ne : j ≢ k).
+        ap (λ b. chunks_got zone (cond b (begun.views k) (now.views j)).claims) (ne_eqb j k ne)
+        ∙ one j now (others j ne))
+        (cases_eq j k)
+
+    to : (n : ℕ) → all_got zone (put1 now.views k (begun.views k)) n
+        ≡ got_by_all_lines zone old cuts n
+    to zero = refl
+    to (suc n) = let r = to n in let e = each n in omega arith
 
 pub the_rest : OthersGetTheRest
 the_rest o turns begun now run zone k ink =

@@ -2,7 +2,7 @@
 -- in place of blocks and bits.
 use Rattle.std.specs.Prelude.{◌≡◌, ◌≢◌, ◌⊎◌, ℕ, ◌+◌, ◌-◌, ◌*◌, ◌<◌, ◌≤◌, nat_lt, ◌&&◌}
 use Rattle.std.specs.Prelude.{Bool, true, false, All, Contains, IsSome, List, [], ◌∷◌, None, Some}
-use Rattle.std.specs.Prelude.{length}
+use Rattle.std.specs.Prelude.{length, zero, suc}
 use Rattle.pm_header.specs.declared.header.Header.{Header}
 use Rattle.pm_layout.specs.Chunks.{chunks_of}
 use Rattle.pm_layout.specs.Sizes.{block_place, blocks_of}
@@ -144,22 +144,32 @@ AreCuts o old [] new = new ≡ old
 AreCuts o old (next ∷ rest) new =
     (turns : List LaneStep) × IsRun o old turns next × AreCuts o next rest new
 
--- how many chunks lane k's lines got, each of which ends at a cut
+-- how many chunks of a zone lane k's lines got, each of which ends at a cut
 abbrev pub got_by_lines : ℕ → ℕ → Moment → List Moment → ℕ
 got_by_lines zone k old [] = 0
 got_by_lines zone k old (next ∷ rest) = got_by_line zone k old next + got_by_lines zone k next rest
 
--- however a run is cut, what a lane got in it is what its lines got
-abbrev pub LinesGetAll : Type 0
-LinesGetAll = (o : Opening) (old new : Moment) (cuts : List Moment) → AreCuts o old cuts new
-    → (zone k : ℕ) → got_by_lines zone k old cuts ≡ got_by_line zone k old new
+-- and the lines of the first n lanes, each lane's run with its own cuts
+abbrev pub got_by_all_lines : ℕ → Moment → (ℕ → List Moment) → ℕ → ℕ
+got_by_all_lines zone old cuts zero = 0
+got_by_all_lines zone old cuts (suc n) =
+    got_by_all_lines zone old cuts n + got_by_lines zone n old (cuts n)
 
 -- WHAT ALL OTHER LINES GOT so far, for a line of lane k: the other lanes all that they got, lane k
 -- what it had got as this line began
 abbrev pub got_by_others : Opening → ℕ → ℕ → Moment → Moment → ℕ
 got_by_others o zone k begun now = all_got zone (put1 now.views k (begun.views k)) o.lanes
 
--- with what this line got that is all
+-- it is the sum of what these lines got, however each lane's run from the opening is cut in lines:
+-- lane k's up to where this line began, the others' up to now
+abbrev pub OthersAreLines : Type 0
+OthersAreLines = (o : Opening) (fixed : ℕ → Constants) (generation : ℕ → ℕ)
+    (old begun now : Moment) (cuts : ℕ → List Moment) (zone k : ℕ)
+    → old.views ≡ idle_views fixed generation → AreCuts o old (cuts k) begun
+    → ((j : ℕ) → j ≢ k → AreCuts o old (cuts j) now)
+    → got_by_others o zone k begun now ≡ got_by_all_lines zone old cuts o.lanes
+
+-- with what this line got it is all that the lanes got
 abbrev pub OthersGetTheRest : Type 0
 OthersGetTheRest = (o : Opening) (turns : List LaneStep) (begun now : Moment)
     → IsRun o begun turns now → (zone k : ℕ) → k < o.lanes

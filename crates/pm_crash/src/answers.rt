@@ -1,6 +1,6 @@
 ghost use Rattle.pm_crash.specs.Answers.{KnownClassesHold, MissedIsGone, NoBlockNoObject, ImagesLackObject};
 ghost use Rattle.pm_crash.specs.Answers.{CausesBearReports, FullZoneIsGot, RunsHaveCauses};
-ghost use Rattle.pm_crash.specs.Answers.{LinesGetNone, LinesGetAll, OthersGetTheRest};
+ghost use Rattle.pm_crash.specs.Answers.{LinesGetNone, OthersAreLines, OthersGetTheRest};
 ghost use Rattle.pm_crash.specs.Answers.{LinesHaveCauses, FullRuns, ImagesHaveObject};
 
 /// A law: a look that misses a block has its cause in the pools of the history: after the entries up
@@ -19,15 +19,15 @@ pub fn reports_have_causes()
     ensures runs { RunsHaveCauses }
 {}
 
-/// A law: where a lane's line, which got no chunk of a zone, finds no room there for so many chunks
-/// in a row, the other lines got at least as many chunks of it as it had disjoint stretches of so
-/// many free ones at the opening: the lines of other lanes, and those of its own lane before. What
-/// a lane got is what its lines got, however its run is cut. Where a lane finds the bit of a run's
-/// block set, an object stands in the block, whichever undecided calls are kept, and so in every
-/// image; or some lane reserved it, frees it, or makes the run. No code runs.
+/// A law: where a lane's line that got no chunk of a zone finds no room there for so many chunks in
+/// a row, the other lines got at least as many chunks of it as it had disjoint stretches of so many
+/// free ones at the opening: the lines of other lanes, and those of its own lane before. What they
+/// got is the sum over them, however each lane's run is cut in lines. Where a lane finds the bit of
+/// a run's block set, an object stands in the block, whichever undecided calls are kept, and so in
+/// every image; or some lane reserved it, frees it, or makes the run. No code runs.
 pub fn lines_without_room_have_causes()
     ensures none { LinesGetNone }
-    ensures sums { LinesGetAll }
+    ensures sums { OthersAreLines }
     ensures rest { OthersGetTheRest }
     ensures causes { LinesHaveCauses }
     ensures full_runs { FullRuns }

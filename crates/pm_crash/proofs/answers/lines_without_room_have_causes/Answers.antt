@@ -6,7 +6,7 @@ pub returns-clause-none : goal.returns-clause-none
 returns-clause-none _ = lines.none_got
 
 pub returns-clause-sums : goal.returns-clause-sums
-returns-clause-sums _ = lines.all_lines
+returns-clause-sums _ = lines.sums
 
 pub returns-clause-rest : goal.returns-clause-rest
 returns-clause-rest _ = lines.the_rest
