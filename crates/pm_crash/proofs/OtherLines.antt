@@ -1,5 +1,5 @@
--- What the lines of a run got of a zone: one that wins no bits got none, those of a lane got what
--- the lane got, and where one saw no room the others got the chunks.
+-- What lines of scripts got of a zone: one that wins no bits got none, those of a lane got what the
+-- lane got, and where one saw no room the others got the chunks.
 use Rattle.std.proofs.Common.{◌≡◌, ◌≢◌, ⊎_elim, ℕ, zero, suc, ◌+◌, ◌-◌, ◌<◌, ◌≤◌, true, false}
 use Rattle.std.proofs.Common.{cond, List, [], ◌∷◌, refl, sym, ap, ◌∙◌, subst, arith, ne_eqb}
 use Rattle.std.proofs.Common.{eq-eqb}

@@ -121,7 +121,7 @@ FullZoneIsGot = (o : Opening) (views : Views) (zone x n : ℕ) (starts : List �
     → FilledByLanes o views zone x → HasNoRoom x n → Stretches o zone n 0 starts
     → length starts ≤ all_got zone views o.lanes
 
--- ---- NoSpace, BY LINES: a line is what one lane does from one moment of a run to another
+-- ---- NoSpace, BY LINES OF SCRIPTS: one is what a lane does from one moment of a run to another
 
 -- how many chunks of a zone a line of lane k got
 abbrev pub got_by_line : ℕ → ℕ → Moment → Moment → ℕ

@@ -19,9 +19,9 @@ pub fn reports_have_causes()
     ensures runs { RunsHaveCauses }
 {}
 
-/// A law: where a lane's line that got no chunk of a zone finds no room there for so many chunks in
-/// a row, the other lines got at least as many chunks of it as it had disjoint stretches of so many
-/// free ones at the opening: the lines of other lanes, and those of its own lane before. What they
+/// A law: where a script's line that got no chunk of a zone finds no room there for so many chunks
+/// in a row, the other lines got at least as many chunks of it as it had disjoint stretches of so
+/// many free ones at the opening: those of other lanes, and those of its own lane before. What they
 /// got is the sum over them, however each lane's run is cut in lines. Where a lane finds the bit of
 /// a run's block set, an object stands in the block, whichever undecided calls are kept, and so in
 /// every image; or some lane reserved it, frees it, or makes the run. No code runs.
