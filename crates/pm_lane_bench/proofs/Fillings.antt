@@ -28,7 +28,7 @@ use Rattle.pm_world.proofs.WordPlaces.{chunk_part}
 use Rattle.pm_world.specs.Lawful.{Allowed, MayFill, StoreFits}
 use Rattle.pm_lane_bench.specs.Lanes.{AreOfSecondLine, CanReserve, Fills, HasChunk, OwnsChunk, with_chunk}
 
--- ---- TABLES: where the rule says nothing, and where the step changes nothing
+-- ---- TABLES whose rule says nothing
 pub any_step : (slots id : ℕ) (me : Me ℕ (Unit {0})) (i : ℕ) (f : ℕ → ℕ) → Allows (λ _. Unit {0}) slots id me i f (λ _ _. Unit {0})
 any_step slots id me i f s holds homes here fits = (tt, keeps, tt, tt, tt)
 

@@ -5,6 +5,8 @@ pub enum Kind {
     RawStore,
     /// An OR of the kit's table.
     RawOr,
+    /// Nothing: the clock alone is read, as often as for ORs.
+    Clock,
     /// A step of a lane.
     Lane(LaneStep),
 }
@@ -34,6 +36,7 @@ impl Kind {
         match name {
             "raw-store" => Some(Kind::RawStore),
             "raw-or" => Some(Kind::RawOr),
+            "clock" => Some(Kind::Clock),
             "lane-store" => Some(Kind::Lane(LaneStep::Store)),
             "lane-or" => Some(Kind::Lane(LaneStep::Or)),
             "lane-lock" => Some(Kind::Lane(LaneStep::Lock)),

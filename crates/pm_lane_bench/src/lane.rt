@@ -20,9 +20,10 @@ use std::time::Duration;
 /// The line whose lock is taken.
 const LOCKED: u64 = 100;
 
-/// The second line of the pool's first chunk, and its first word.
+/// The second line of the pool's first chunk.
 const LINE: u64 = 385;
 
+/// The first word of that line.
 pub const WORD: u64 = 3080;
 
 /// Makes the rounds on the pool's first lane. Where the steps are timed apart from what a lane does

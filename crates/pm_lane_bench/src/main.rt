@@ -1,10 +1,12 @@
 //! The program that `make bench` times: one kind of step, so many rounds of 512 steps, on the kit's table
 //! of atomic words or through a lane of a pool without objects.
 //!
-//! Promises whoever times it that each step is made: the lane's contract is that of `pm_shared`. It prints
-//! how many rounds it made.
+//! Promises whoever times it that each step is made: the lane's contract is that of `pm_shared`, and its
+//! ORs apply the logs of calls, as those of `pm_redo` do. It prints how many rounds it made, and how long
+//! ORs took.
 #![tactic(auto)]
 
+mod clock;
 mod kind;
 mod lane;
 mod ors;
@@ -68,7 +70,7 @@ fn main(rt: HostRuntime) -> ExitCode {
 }
 
 /// Makes the rounds that the command line asks for, and prints how many they were; of ORs, too, how
-/// long they took.
+/// long they took with the readings of the clock.
 fn run(rt: &HostRuntime) -> Result<(), Failure> {
     let words: Vec<String> = env::args(rt)?.collect(rt.alloc())?;
     let Some(asked) = Asked::of_words(&words) else {
@@ -82,7 +84,8 @@ fn run(rt: &HostRuntime) -> Result<(), Failure> {
     Ok(())
 }
 
-/// Makes so many rounds of the steps of this kind, and tells how long ORs took.
+/// Makes so many rounds of the steps of this kind, and tells how long ORs took, with the
+/// readings of the clock.
 fn make(rt: &HostRuntime, kind: Kind, rounds: u64) -> Result<Option<Duration>, Failure> {
     match kind {
         Kind::RawStore => {
@@ -90,6 +93,7 @@ fn make(rt: &HostRuntime, kind: Kind, rounds: u64) -> Result<Option<Duration>, F
             Ok(None)
         }
         Kind::RawOr => Ok(Some(raw::ors(rt, rounds)?)),
+        Kind::Clock => Ok(Some(clock::readings(rt, rounds)?)),
         Kind::Lane(step) => lane::on_lane(rt, rounds, step),
     }
 }

@@ -15,7 +15,7 @@ use pm_redo::{log, put, retire, seal};
 use pm_world::{Lane, LawfulMem};
 use std::time::{Duration, Instant};
 
-/// The entry that ORs the word.
+/// The entry that sets bit 0 of the word.
 const OR: Redo = Redo {
     place: WORD_BYTES * WORD,
     op: Op::Or,
@@ -146,7 +146,8 @@ fn calls<M: LawfulMem>(
     Ok(took)
 }
 
-/// ORs the word in each step, and tells how long that took.
+/// Sets a bit of the word in each step, a block of steps in each call, and tells how long that took
+/// with the readings of the clock.
 pub fn ors<M: LawfulMem>(
     rt: &HostRuntime,
     lane: &mut Lane<M>,
