@@ -1,7 +1,7 @@
 #!/usr/bin/env bash
 # Times of the program on the least and the largest pool beside `cp` of the same file: the least of five runs, in milliseconds, and how many
 # times `cp` each takes; the times of ten million stores, and of ten thousand blocks reserved, by one lane alone; and those of 51,200,000 steps of
-# a lane on shared words, 512,000 where they are ORs, and how many times a raw step of the kit's table each takes. All are rows of bench/times.csv,
+# a lane on shared words, 153,600 where they are ORs, and how many times a raw step of the kit's table each takes. All are rows of bench/times.csv,
 # which a run makes anew.
 # `check` and `info` have limits: of the largest pool 20 times `cp`, and of the least one 1.5 times `/bin/true` and `cp` together. A lane's step is to
 # take at most three times the raw one. A run that passes a limit says so, and ends with status 1. Run it by `make bench`; it is no part of the gate.
@@ -121,13 +121,13 @@ steps() {
   echo $((many - one))
 }
 
-# ors KIND: the least time of forty runs that 512,000 ORs of the kind took with the readings of the clock, in nanoseconds: the runs are short, so
+# ors KIND: the least time of a hundred runs that 153,600 ORs of the kind took with the readings of the clock, in nanoseconds: the runs are short, so
 # that other work on the machine leaves some of them alone
 ors() {
   local best=999999999999 nanos
-  for _ in $(seq 40); do
-    crates/pm_lane_bench/out/pm_lane_bench "$1" 1000 > "$folder/out"
-    [ "$(head -n 1 "$folder/out")" = '1000 rounds' ]
+  for _ in $(seq 100); do
+    crates/pm_lane_bench/out/pm_lane_bench "$1" 300 > "$folder/out"
+    [ "$(head -n 1 "$folder/out")" = '300 rounds' ]
     nanos=$(awk 'NR == 2 { print $1 }' "$folder/out")
     if [ "$nanos" -lt "$best" ]; then best=$nanos; fi
   done
@@ -138,11 +138,11 @@ raw_store=$(steps raw-store)
 row '' '51200000 raw stores' "$raw_store" "$raw_store"
 clock=$(ors clock)
 raw_or=$((($(ors raw-or) - clock) / 1000))
-row '' '512000 raw ORs' "$raw_or" "$raw_or"
+row '' '153600 raw ORs' "$raw_or" "$raw_or"
 store=$(steps lane-store)
 row '' '51200000 stores of a lane, beside raw stores' "$store" "$raw_store" $((3 * raw_store))
 or=$((($(ors lane-or) - clock) / 1000))
-row '' '512000 ORs of a lane, beside raw ORs' "$or" "$raw_or" $((3 * raw_or))
+row '' '153600 ORs of a lane, beside raw ORs' "$or" "$raw_or" $((3 * raw_or))
 lock=$(steps lane-lock)
 row '' '51200000 locks and releases of a lane, beside raw stores' "$lock" "$raw_store" $((3 * raw_store))
 
