@@ -55,10 +55,17 @@ module _ (v : View) (h : HasChunk v) where
   chunk_noted w same n = record {
     two_lanes = ap (λ (f : Constants). f.shape.lanes) same ∙ h.two_lanes;
     lane_is = ap (λ (f : Constants). f.lane) same ∙ h.lane_is;
-    no_run = ap (λ t. class t 0) n.are ∙ (ap (λ (of : ℕ → ℕ). of 0) (class_same n.notes v.claims) ∙ h.no_run);
-    unmaking = λ c. ap (λ (f : Constants). making f.shape w.claims c) same ∙ (ap (λ t. making v.fixed.shape t c) n.are ∙ making_same v.fixed.shape n.notes v.claims n.each h.unmaking c);
-    own = ap (λ (f : Constants). mine f.shape w.claims (Big 0)) same ∙ (ap (λ t. mine v.fixed.shape t (Big 0)) n.are ∙ (mine_same v.fixed.shape n.notes v.claims n.each (Big 0) ∙ h.own));
-    from_itself = ap (λ (f : Constants). first f.shape w.claims 0) same ∙ (ap (λ t. first v.fixed.shape t 0) n.are ∙ (ap (λ (of : ℕ → ℕ). of 0) (first_same v.fixed.shape n.notes v.claims) ∙ h.from_itself));
+    no_run = ap (λ t. class t 0) n.are
+        ∙ (ap (λ (of : ℕ → ℕ). of 0) (class_same n.notes v.claims) ∙ h.no_run);
+    unmaking = λ c. ap (λ (f : Constants). making f.shape w.claims c) same
+        ∙ (ap (λ t. making v.fixed.shape t c) n.are
+        ∙ making_same v.fixed.shape n.notes v.claims n.each h.unmaking c);
+    own = ap (λ (f : Constants). mine f.shape w.claims (Big 0)) same
+        ∙ (ap (λ t. mine v.fixed.shape t (Big 0)) n.are
+        ∙ (mine_same v.fixed.shape n.notes v.claims n.each (Big 0) ∙ h.own));
+    from_itself = ap (λ (f : Constants). first f.shape w.claims 0) same
+        ∙ (ap (λ t. first v.fixed.shape t 0) n.are
+        ∙ (ap (λ (of : ℕ → ℕ). of 0) (first_same v.fixed.shape n.notes v.claims) ∙ h.from_itself));
   }
 
 module _ (v : View) (o : OwnsChunk v) where
@@ -169,30 +176,70 @@ emptied_all s new f made = let m = made f.view f.seen tt in record {
 -- ---- THE CHUNK IS RESERVED
 module _ (v : View) (can : CanReserve v) where
   pub may_try : (won : Bool) → Allowed v (ZoneTry 0 won)
-  may_try won = let from = v.fixed.shape.zones_from in record { inside = omega (arith, from); free = ap (list_any (λ other. other == 0)) can.unlocked; early = ap is_early can.idle }
+  may_try won = let from = v.fixed.shape.zones_from in record {
+    inside = omega (arith, from);
+    free = ap (list_any (λ other. other == 0)) can.unlocked;
+    early = ap is_early can.idle;
+  }
 
   pub may_occupy : (won : Bool) → Allowed (after v (ZoneTry 0 true)) (Occupy (Zone 0) 1 won)
-  may_occupy won = let from = v.fixed.shape.zones_from in record { there = omega (arith, from); one = (0, 1, omega arith, omega arith, refl); open_ = refl; early = ap is_early can.idle }
+  may_occupy won = let from = v.fixed.shape.zones_from in record {
+    there = omega (arith, from);
+    one = (0, 1, omega arith, omega arith, refl);
+    open_ = refl;
+    early = ap is_early can.idle;
+  }
 
   pub owns_reserved : OwnsChunk (with_chunk v)
   owns_reserved = record {
-    chunk = record { two_lanes = can.two_lanes; lane_is = can.lane_is; no_run = can.no_run; unmaking = can.unmaking; own = refl; from_itself = refl };
+    chunk = record {
+      two_lanes = can.two_lanes;
+      lane_is = can.lane_is;
+      no_run = can.no_run;
+      unmaking = can.unmaking;
+      own = refl;
+      from_itself = refl;
+    };
     idle = can.idle;
     unentered = can.unentered;
   }
 
   -- a word that is no place is known as it was
-  pub known_reserved : (w : ℕ) → place_at v.fixed.shape (class v.claims) w ≡ None → value_in (with_chunk v) w ≡ value_in v w
-  known_reserved w none = ap (λ p. cond (passes (λ B. is_block_of v.fixed.shape (Zone 0) 1 B && not (mine v.fixed.shape v.claims B)) (block_in v.fixed.shape (Reserved (Zone 0) 1 ∷ v.claims) p 64)) None (pictured v.fixed.shape v.claims w)) none
+  pub known_reserved : (w : ℕ) → place_at v.fixed.shape (class v.claims) w ≡ None
+      → value_in (with_chunk v) w ≡ value_in v w
+  known_reserved w none = ap (λ p. cond
+      (passes (λ B. is_block_of v.fixed.shape (Zone 0) 1 B && not (mine v.fixed.shape v.claims B))
+      (block_in v.fixed.shape (Reserved (Zone 0) 1 ∷ v.claims) p 64))
+      None (pictured v.fixed.shape v.claims w)) none
 
 pub unasked : (b : Beginning) → b.shape.lanes ≡ 2 → CanReserve (idle_view b 0)
-unasked b two = record { two_lanes = two; lane_is = refl; idle = refl; unentered = refl; drained = refl; unlocked = refl; no_run = refl; unmaking = λ c. refl }
+unasked b two = record {
+  two_lanes = two;
+  lane_is = refl;
+  idle = refl;
+  unentered = refl;
+  drained = refl;
+  unlocked = refl;
+  no_run = refl;
+  unmaking = λ c. refl;
+}
 
 pub fills_none : (s : Seated) (v : View) → CanReserve v → IsSeen s (with_chunk v) → Fills s 0
-fills_none s v can seen = record { view = with_chunk v; seen = seen; owns = owns_reserved v can; count = ap length can.drained; unflushed = subst AreOfSecondLine (sym can.drained) tt }
+fills_none s v can seen = record {
+  view = with_chunk v;
+  seen = seen;
+  owns = owns_reserved v can;
+  count = ap length can.drained;
+  unflushed = subst AreOfSecondLine (sym can.drained) tt;
+}
 
 -- the chunk is reserved where the zone's lock was got and its bit
-pub got_both : (may : View → Step → Type 0) (old mid new : View → Type 0) → ((v : View) (step : Step) → Allowed v step → may v step) → Made may old mid (ZoneTry 0 true) → (won : Bool) → Made may mid new (Occupy (Zone 0) 1 won)
+pub got_both : (may : View → Step → Type 0) (old mid new : View → Type 0)
+    → ((v : View) (step : Step) → Allowed v step → may v step) → Made may old mid (ZoneTry 0 true)
+    → (won : Bool) → Made may mid new (Occupy (Zone 0) 1 won)
     → OnTrue won ((v : View) → old v → CanReserve v → new (with_chunk v))
 got_both may old mid new grants tried false taken = tt
-got_both may old mid new grants tried true taken = λ v there can. (taken (after v (ZoneTry 0 true)) (tried v there (grants v (ZoneTry 0 true) (may_try v can true))).0 (grants (after v (ZoneTry 0 true)) (Occupy (Zone 0) 1 true) (may_occupy v can true))).0
+got_both may old mid new grants tried true taken = λ v there can.
+    let zoned : View = after v (ZoneTry 0 true) in
+    (taken zoned (tried v there (grants v (ZoneTry 0 true) (may_try v can true))).0
+    (grants zoned (Occupy (Zone 0) 1 true) (may_occupy v can true))).0

@@ -54,19 +54,20 @@ module _ (old : View → Type 0) (entries : List Redo) (are : AreOrs entries)
     store_ready = ready_then old mid (applies_each ors_listed made.0) last_store tt
         (both_ready made.0) made.1
 
-    module _ (next : View → Type 0) (stored : Runs {T = Unit {0}} mid next last_store (Ok tt)) where
-      all_made : RunsFor {T = Unit {0}} old next (applies_each entries) (Ok tt)
-      unfolding RunsFor
-      all_made = (
-        made.0,
-        subst (λ (s : Plan). Runs {T = Unit {0}} old next s (Ok tt)) (sym (each_so made.0))
-            (runs_then old mid next (applies_each ors_listed made.0) last_store tt (Ok tt) made.1
-            stored),
-      )
+    module _ (next : View → Type 0) (stored : Runs {T = Unit {0}} mid next last_store (Ok tt))
+      where
+        all_made : RunsFor {T = Unit {0}} old next (applies_each entries) (Ok tt)
+        unfolding RunsFor
+        all_made = (
+          made.0,
+          subst (λ (s : Plan). Runs {T = Unit {0}} old next s (Ok tt)) (sym (each_so made.0))
+              (runs_then old mid next (applies_each ors_listed made.0) last_store tt (Ok tt) made.1
+              stored),
+        )
 
-      pub persist_ready : IsReady next persists_all
-      persist_ready = told_next old entries next ready all_made
+        pub persist_ready : IsReady next persists_all
+        persist_ready = told_next old entries next ready all_made
 
-      pub applied : (new : View → Type 0) → Runs {T = Unit {0}} next new persists_all (Ok tt)
-          → RunsFor {T = Unit {0}} old new (applies_all entries) (Ok tt)
-      applied new persisted = told_then old entries next new (Ok tt) all_made persisted
+        pub applied : (new : View → Type 0) → Runs {T = Unit {0}} next new persists_all (Ok tt)
+            → RunsFor {T = Unit {0}} old new (applies_all entries) (Ok tt)
+        applied new persisted = told_then old entries next new (Ok tt) all_made persisted

@@ -107,7 +107,8 @@ fn stores<N: TableName>(lane: &mut SharedLane<'_, N>, rounds: u64) -> Result<(),
 /// Reserves the pool's first chunk, and tells whether it did.
 pub fn reserve<M: LawfulMem>(mem: &mut M) -> bool
     requires { (v : View) × M.at mem.old v × CanReserve v }
-    ensures { OnTrue result ((v : View) → M.at mem.old v → CanReserve v → M.at mem.new (with_chunk v)) }
+    ensures { OnTrue result
+        ((v : View) → M.at mem.old v → CanReserve v → M.at mem.new (with_chunk v)) }
 {
     if mem.zone_try(0) {
         mem.occupy(Occ::Zone(0), 1)

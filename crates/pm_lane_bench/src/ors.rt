@@ -42,7 +42,8 @@ fn apply_entries<M: LawfulMem>(
 ) -> Result<Duration, Failure>
     requires are { AreOrs entries.now }
     requires ready { IsReadyFor (M.at mem.old) (applies_all entries.now) }
-    ensures { OnOk result (RunsFor {T = Unit {0}} (M.at mem.old) (M.at mem.new) (applies_all entries.now) (Ok tt)) }
+    ensures { OnOk result (RunsFor {T = Unit {0}} (M.at mem.old) (M.at mem.new)
+        (applies_all entries.now) (Ok tt)) }
 {
     let last = entries[BLOCK as usize];
     let start = Instant::now(rt)?;

@@ -9,7 +9,9 @@ pub perform-requires-clause-are : goal.perform-requires-clause-are
 perform-requires-clause-are g c = are_ors g.M.LaneMem.at c.args.lane.now c.requires
 
 pub overflow_add-lane : goal.overflow_add-lane
-overflow_add-lane g c = let low = generation_low g.M.LaneMem.at c.args.lane.now c.requires c.perform.new.lane c.in_ok-took.ensures in omega (arith, low)
+overflow_add-lane g c = let low = generation_low g.M.LaneMem.at c.args.lane.now c.requires
+    c.perform.new.lane c.in_ok-took.ensures in omega (arith, low)
 
 pub returns : goal.returns
-returns g c = ended g.M.LaneMem.at c.args.lane.now c.requires c.perform.new.lane c.in_ok-took.ensures
+returns g c = ended g.M.LaneMem.at c.args.lane.now c.requires c.perform.new.lane
+    c.in_ok-took.ensures

@@ -7,4 +7,5 @@ use Rattle.pm_lane_bench.proofs.ors.make_ors.Given as goal
 
 -- so many ORs are made, for what they found
 abbrev pub invariant-loop : goal.invariant-loop
-invariant-loop g l = (found : ℕ → ℕ) × IsMade (g.M.LaneMem.at l.fn.mem) (g.M.LaneMem.at l.mem) (repeated (λ i. applies_entry (entry_at ors_listed i) (found i)) l.counter)
+invariant-loop g l = (found : ℕ → ℕ) × IsMade (g.M.LaneMem.at l.fn.mem) (g.M.LaneMem.at l.mem)
+    (repeated (λ i. applies_entry (entry_at ors_listed i) (found i)) l.counter)

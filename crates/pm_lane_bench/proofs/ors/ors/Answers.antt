@@ -10,4 +10,6 @@ reserve-requires g c = (c.requires.view, c.requires.keeps.memory, c.requires.so.
 
 pub loop-init : goal.loop-init
 loop-init g c = reserved g.M.LaneMem.at c.args.lane.now c.reserve.new.mem c.requires
-    (subst (λ won. OnTrue won ((v : View) → g.M.LaneMem.at c.args.lane.now.memory v → CanReserve v → g.M.LaneMem.at c.reserve.new.mem (with_chunk v))) c.if-not-reserve.false c.reserve.ensures)
+    (subst (λ won. OnTrue won ((v : View) → g.M.LaneMem.at c.args.lane.now.memory v → CanReserve
+    v → g.M.LaneMem.at c.reserve.new.mem (with_chunk v))) c.if-not-reserve.false
+    c.reserve.ensures)
