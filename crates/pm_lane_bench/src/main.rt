@@ -1,9 +1,9 @@
 //! The program that `make bench` times: one kind of step, so many rounds of 512 steps, on the kit's table
 //! of atomic words or through a lane of a pool without objects.
 //!
-//! Promises whoever times it that each step is made: the lane's contract is that of `pm_shared`, and its
-//! ORs apply the logs of calls, as those of `pm_redo` do. It prints how many rounds it made, and how long
-//! ORs took.
+//! Promises whoever times it that each step is made: the lane's contract is that of `pm_shared`, and
+//! its ORs apply the logs of calls, as those of `pm_redo` do. It prints how many rounds it made, and
+//! how long ORs took.
 #![tactic(auto)]
 
 mod clock;
@@ -84,8 +84,8 @@ fn run(rt: &HostRuntime) -> Result<(), Failure> {
     Ok(())
 }
 
-/// Makes so many rounds of the steps of this kind, and tells how long ORs took, with the
-/// readings of the clock.
+/// Makes so many rounds of the steps of this kind, and tells how long ORs took with the readings of
+/// the clock.
 fn make(rt: &HostRuntime, kind: Kind, rounds: u64) -> Result<Option<Duration>, Failure> {
     match kind {
         Kind::RawStore => {

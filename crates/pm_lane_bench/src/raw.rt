@@ -40,8 +40,8 @@ fn store_round(table: &Words, seat: &mut Seat<u8, ()>)
     }
 }
 
-/// Sets bits of the table's word in each step, and tells how long that took with the readings of the
-/// clock.
+/// Sets bits of the table's word in each step, and tells how long that took with the readings of
+/// the clock.
 pub fn ors(rt: &HostRuntime, rounds: u64) -> Result<Duration, Failure> {
     let (table, mut seat) = Words::of_words(rt.alloc(), &[0], &())?;
     let mut took = Duration::ZERO;
