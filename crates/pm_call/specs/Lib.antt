@@ -16,4 +16,5 @@ pub mod LockRefusals
 pub mod LocksGot
 pub mod WantedTried
 pub mod WantedTaken
+pub mod LockOps
 pub mod Commits
