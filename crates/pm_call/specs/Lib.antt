@@ -14,6 +14,8 @@ pub mod Adding
 pub mod Locking
 pub mod LockRefusals
 pub mod LocksGot
+pub mod Beginning
+pub mod Opening
 pub mod WantedTried
 pub mod WantedTaken
 pub mod Commits
