@@ -13,11 +13,11 @@ use Rattle.pm_objects.specs.declared.history.TxErr.TheVariants as error
 use Rattle.pm_objects.specs.declared.history.Value.TheVariants.{Refused}
 use Rattle.pm_objects.specs.declared.refusal.Refusal.{Refusal}
 use Rattle.pm_objects.specs.declared.refusal.Refusal.TheVariants as refusal
-use Rattle.pm_view.specs.Log.{Log, Open, Phase, is_early, new_log}
+use Rattle.pm_view.specs.Log.{Log, is_early}
 use Rattle.pm_view.specs.Steps.{Step}
 use Rattle.pm_view.specs.Steps.Step.{Draw, NumberSeen, Tell}
 use Rattle.pm_view.specs.View.{View}
-use Rattle.pm_view.specs.Views.{after, after_all, begun, with_seen}
+use Rattle.pm_view.specs.Views.{after, after_all}
 use Rattle.pm_world.specs.LaneFields.{Fields, Rests, Standing, at_rest, fields_of, kept_of, moved}
 use Rattle.pm_world.specs.Lawful.{Allowed}
 use Rattle.pm_world.specs.declared.lane.HeldLock.{HeldLock}
@@ -38,13 +38,14 @@ use Rattle.pm_call.specs.Did.{next, given_up, unseen}
 use Rattle.pm_call.specs.GivenUp.{LeavesOver, MayEnd, with_locks}
 use Rattle.pm_call.specs.LockRefusals.{TriedLocks, locking_tests}
 use Rattle.pm_call.specs.Locking.{CanLock, IsOpened, LeadsLocks, TakesLocks, locks_with, to_take, to_write}
-use Rattle.pm_call.specs.Opening.{CallOpened, WasBegun, BeginWasRefused, WaitWasStopped, IsLaneBetween, OpenedAs, OutermostBegun, OutermostBegunAs, WasOpened, saw_number}
+use Rattle.pm_call.specs.Between.{IsLaneBetween, MayOpen, saw_number, saw_numbers}
+use Rattle.pm_call.specs.Opening.{CallOpened, WasBegun, BeginWasRefused, WaitWasStopped, OpenedAs, OutermostBegun, OutermostBegunAs, WasOpened}
 use Rattle.pm_call.specs.Plans.{ends_call, gives_up}
 use Rattle.pm_call.specs.Stages.{IsBetween, at_level}
 use Rattle.pm_call.specs.WantedTaken.{IsMissed}
 use Rattle.pm_call.proofs.FirstLocks as first_locks
 use Rattle.pm_call.proofs.LocksGot.{got_locks_are_taken, missed_locks_are_tried, none_looked}
-use Rattle.pm_call.proofs.OpenedCalls.{calls_may_open, opened_lanes_may_lock, transactions_may_begin}
+use Rattle.pm_call.proofs.OpenedCalls.{looked_calls_may_open, looks_keep, opened_lanes_may_lock, saw_open, transactions_may_begin}
 use Rattle.pm_call.proofs.OverCalls.{over_as}
 use Rattle.pm_call.proofs.RefusedBegins.{ended_so, only_ends, opened_none_back, refused_begins_end}
 use Rattle.pm_call.proofs.RefusedWants as wants_
@@ -53,18 +54,26 @@ use Rattle.pm_call.proofs.TriedLocks.{some}
 use Rattle.pm_call.proofs.WantedTaken.{missed_before}
 
 -- ---- A CALL OPENS
-module _ (s : Standing) (between : IsBetween s) where
-  abbrev seen_view : ℕ → View
-  seen_view n = record s.view { log = new_log Open s.view.log.generation; seen = NumberSeen n ∷ []; call = []; number = None; published = [] }
 
-  sees_so : (n : ℕ) → after s.view (NumberSeen n) ≡ seen_view n
-  sees_so n = ap (λ (ph : Phase). with_seen (NumberSeen n) (begun ph s.view)) (ap (λ (l : Log). l.phase) between.over.log)
+-- a look at the number leaves the lane's fields
+module _ (s : Standing) (is : IsBetween s) where
+  rests_numbers : (ns : List ℕ) → at_rest (saw_numbers s ns) ≡ at_rest s
+  rests_numbers [] = refl
+  rests_numbers (n ∷ ns) = ap (λ (t : Standing). at_rest (moved t (after (saw_numbers s ns).view (NumberSeen n)))) (looks_keep s is ns).1
+      ∙ (ap (λ (v : View). at_rest (moved s v)) (saw_open s is n ns)
+      ∙ sym (ap (λ (l : Log). record (at_rest s) { records = map (kept_of s.view.fixed.shape) l.records }) is.over.log))
 
+  early_numbers : (ns : List ℕ) → is_early (saw_numbers s ns).view.log.phase ≡ true
+  early_numbers [] = ap (λ (l : Log). is_early l.phase) is.over.log
+  early_numbers (n ∷ ns) = ap (λ (v : View). is_early v.log.phase) (saw_open s is n ns)
+
+module _ (s : Standing) (open_ : MayOpen s) where
   rests_so : (n : ℕ) → at_rest (saw_number s n) ≡ at_rest s
-  rests_so n = ap (λ (y : View). at_rest (moved s y)) (sees_so n) ∙ sym (ap (λ (l : Log). record (at_rest s) { records = map (kept_of s.view.fixed.shape) l.records }) between.over.log)
+  rests_so n = ap (λ (t : Standing). at_rest (saw_number t n)) open_.since
+      ∙ (rests_numbers open_.before open_.between (n ∷ open_.saw) ∙ (sym (rests_numbers open_.before open_.between open_.saw) ∙ ap at_rest (sym open_.since)))
 
   early : is_early s.view.log.phase ≡ true
-  early = ap (λ (l : Log). is_early l.phase) between.over.log
+  early = ap (λ (t : Standing). is_early t.view.log.phase) open_.since ∙ early_numbers open_.before open_.between open_.saw
 
 module _ {M : Type 0} (at : M → View → Type 0) (old : Lane M) where
   pub may_see : IsLaneBetween at old → (n : ℕ) → (v : View) × at old.memory v × Allowed v (NumberSeen n)
@@ -78,7 +87,7 @@ module _ {M : Type 0} (at : M → View → Type 0) (old : Lane M) where
   none_generation many s rests between = inl (let g = generation_so s rests in omega (arith, many, g), rests)
 
   module _ (may : View → Step → Type 0) (grants : (v : View) (s : Step) → Allowed v s → may v s) (new : M) (n : ℕ) (made : Made may (at old.memory) (at new) (NumberSeen n)) where
-    rests_then : (s : Standing) → Rests at old s → IsBetween s → Rests at (record old { memory = new }) (saw_number s n)
+    rests_then : (s : Standing) → Rests at old s → MayOpen s → Rests at (record old { memory = new }) (saw_number s n)
     rests_then s rests between = record {
       memory = (made s.view rests.memory (grants s.view (NumberSeen n) (early s between))).0;
       fields = rests.fields ∙ sym (rests_so s between n);
@@ -93,7 +102,7 @@ module _ {M : Type 0} (at : M → View → Type 0) (old : Lane M) where
     call_opens few below s rests between = record {
       number = n;
       rests = rests_then s rests between;
-      opened = calls_may_open s n between (let g = generation_so s rests in omega (arith, few, g)) below;
+      opened = looked_calls_may_open s n between (let g = generation_so s rests in omega (arith, few, g)) below;
     }
 
 -- ---- ITS LOCKS ARE WAITED FOR
@@ -309,7 +318,7 @@ module _ {M : Type 0} (at : M → View → Type 0) (mid : Lane M) (wants : List 
 
 -- ---- THE BEGIN, once the call was opened
 module _ {M : Type 0} (at : M → View → Type 0) (old : Lane M) (wants : List Want) (mid : Lane M) (opens : CallOpened at old mid (Ok tt)) where
-  opened_at : (s : Standing) → Rests at old s → IsBetween s → WasOpened at mid s
+  opened_at : (s : Standing) → Rests at old s → MayOpen s → WasOpened at mid s
   unfolding CallOpened
   opened_at s rests between = opens s rests between
 

@@ -12,32 +12,22 @@ use Rattle.pm_objects.specs.declared.refusal.Refusal.{Refusal}
 use Rattle.pm_objects.specs.declared.refusal.Refusal.TheVariants as refusal
 use Rattle.pm_view.specs.Founds.{Found}
 use Rattle.pm_view.specs.Steps.{Step}
-use Rattle.pm_view.specs.Steps.Step.{NumberSeen}
 use Rattle.pm_view.specs.View.{View}
-use Rattle.pm_view.specs.Views.{after, after_all}
+use Rattle.pm_view.specs.Views.{after_all}
 use Rattle.pm_world.specs.LaneFields.{Rests, Standing, Works, at_rest, fields_of, moved}
 use Rattle.pm_world.specs.declared.lane.HeldLock.{HeldLock}
 use Rattle.pm_world.specs.declared.lane.Lane.{Lane}
 use Rattle.pm_lock.specs.Locking.{lock_at}
 use Rattle.pm_lock.specs.Steps.{AreWaits, refusals, stops, takes}
 use Rattle.pm_lock.specs.Wants.{has_unplaced}
+use Rattle.pm_call.specs.Between.{MayOpen, saw_number}
 use Rattle.pm_call.specs.GivenUp.{WasGivenUp, with_locks}
 use Rattle.pm_call.specs.LockRefusals.{TriedLocks, locking_tests}
 use Rattle.pm_call.specs.Locking.{IsOpened, LeadsLocks, TakesLocks, locked_with, to_take}
-use Rattle.pm_call.specs.Stages.{IsBetween, at_level}
+use Rattle.pm_call.specs.Stages.{at_level}
 use Rattle.pm_call.specs.WantedTaken.{IsMissed}
 
--- the lane is between two calls
-pub record IsLaneBetween {M : Type 0} (at : M → View → Type 0) (lane : Lane M) : Type 0 where
-  pub standing : Standing
-  pub rests : Rests at lane standing
-  pub between : IsBetween standing
-
 -- ---- A CALL OPENS
-
--- the lane's data as it saw that so many numbers were drawn
-abbrev pub saw_number : Standing → ℕ → Standing
-saw_number s n = moved s (after s.view (NumberSeen n))
 
 -- NONE IS LEFT: the lane's generation is the greatest, and nothing was done; or as many numbers
 -- were drawn as there are, and the lane looked at that alone
@@ -61,7 +51,7 @@ OpenedAs at lane (Err r) s = ⊥
 
 unfoldable pub CallOpened : {M : Type 0} → (M → View → Type 0) → Lane M → Lane M
     → Result (Unit {0}) Refusal → Type 0
-CallOpened at old new result = (s : Standing) → Rests at old s → IsBetween s
+CallOpened at old new result = (s : Standing) → Rests at old s → MayOpen s
     → OpenedAs at new result s
 
 -- ---- WHAT A CALL THAT IS OPEN CAME TO
@@ -131,5 +121,5 @@ OutermostBegunAs at lane wants result s = AfterOpening s (BegunAs at lane wants 
 
 unfoldable pub OutermostBegun : {M : Type 0} → (M → View → Type 0) → Lane M → Lane M → List Want
     → Result (Unit {0}) Refusal → Type 0
-OutermostBegun at old new wants result = (s : Standing) → Rests at old s → IsBetween s
+OutermostBegun at old new wants result = (s : Standing) → Rests at old s → MayOpen s
     → OutermostBegunAs at new wants result s

@@ -7,7 +7,8 @@ ghost use Rattle.pm_plan.specs.Plans.{IsMade};
 ghost use Rattle.pm_world.specs.LaneFields.{fields_of};
 ghost use Rattle.pm_call.specs.Beginning.{BeginRefusals, RefusedBeginsArePast, RefusedBeginsEnd};
 ghost use Rattle.pm_call.specs.GivenUp.{MayEnd};
-ghost use Rattle.pm_call.specs.Opening.{CallOpened, IsLaneBetween, OutermostBegun};
+ghost use Rattle.pm_call.specs.Between.{IsLaneBetween};
+ghost use Rattle.pm_call.specs.Opening.{CallOpened, OutermostBegun};
 ghost use Rattle.pm_call.specs.Plans.{ends_call};
 
 use crate::rollback::{end_call, stop};
