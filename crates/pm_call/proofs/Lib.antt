@@ -47,6 +47,7 @@ pub mod LockRefusals
 pub mod RefusedWants
 pub mod TriedLocks
 pub mod WantedTaken
+pub mod LockOps
 pub mod InnerLevels
 pub mod Persisted
 pub mod Outermost

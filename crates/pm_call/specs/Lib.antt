@@ -19,4 +19,5 @@ pub mod Beginning
 pub mod Opening
 pub mod WantedTried
 pub mod WantedTaken
+pub mod LockOps
 pub mod Commits

@@ -19,6 +19,7 @@ mod committing;
 mod finishing;
 mod holding;
 mod laws;
+mod lock_ops;
 mod locking;
 mod opening;
 mod ranges;
@@ -37,6 +38,7 @@ pub use laws::{
     calls_given_up_are_past_work, committed_calls_are_past_work, inner_levels_may_be_committed,
     outermost_levels_may_be_committed, transactions_may_be_given_up,
 };
+pub use lock_ops::{begin_inner, lock_wanted};
 pub use locking::{
     calls_may_open, deep_begins_give_up, lanes_at_work_may_lock, locks_are_got,
     locks_may_be_wanted, objects_may_be_locked, refusals_of_locks_are_the_models,
