@@ -17,15 +17,17 @@ use Rattle.pm_world.specs.LaneFields.{Fields, Rests, Standing, Works, at_work, f
 use Rattle.pm_world.specs.declared.lane.Lane.{Lane}
 use Rattle.pm_plan.specs.Plans.{Plan}
 use Rattle.pm_call.specs.At.{At}
+use Rattle.pm_call.specs.Between.{IsLaneBetween, MayOpen}
 use Rattle.pm_call.specs.Commits.{WasCommitted}
 use Rattle.pm_call.specs.Did.{Cut, Did, DidSo, Ends, GaveUp, IsAt, IsOver, next, stage_refusal, work_refusal}
 use Rattle.pm_call.specs.GivenUp.{WasGivenUp}
 use Rattle.pm_call.specs.Plans.{commits, commits_inner, gives_up, tells}
-use Rattle.pm_call.specs.Stages.{Ended, EndedAs, EndedBy, EndedSo, IsBetween, IsLanePast, IsPastAt, Leaves, at_level, closed, end_refusal, fields_past, next_stage, stage_end_refusal, unlisted}
+use Rattle.pm_call.specs.Stages.{Ended, EndedAs, EndedBy, EndedSo, IsLanePast, IsPastAt, Leaves, at_level, closed, end_refusal, fields_past, next_stage, stage_end_refusal, unlisted}
+use Rattle.pm_call.proofs.OpenedCalls.{between_may_open}
 use Rattle.pm_tx.specs.Actions.{Asked, AskedAs, AskedSo}
 use Rattle.pm_tx.specs.Commits.{InnerEnds, LevelCommitted, LevelCommittedSo, LevelEnds, OutermostEnds, PassedSo, Processed, ProcessedFrom}
 use Rattle.pm_tx.specs.Outcome.{Aborted, AbortedAs, AbortedSo}
-use Rattle.pm_tx.specs.Standing.{IsLaneBetween, Stands}
+use Rattle.pm_tx.specs.Standing.{Stands}
 
 -- ---- WHAT IS REFUSED, by the lane's fields
 
@@ -78,13 +80,13 @@ module _ {M : Type 0} (at : M → View → Type 0) (lane : Lane M) where
         let some = is.past.some in omega (arith, l, low, some));
   }
 
-  pub idle_stands : (s : Standing) → s.level ≡ 0 → Rests at lane s → IsBetween s → Stands at lane
-  idle_stands s outside rests is = record {
+  pub idle_stands : (s : Standing) → s.level ≡ 0 → Rests at lane s → MayOpen s → Stands at lane
+  idle_stands s outside rests may = record {
     work = λ e. absurd (either_way (s.level == 0) _ _ (sym (ap work_by rests.fields) ∙ e));
     past = λ e. absurd (let n : stage_end_refusal stage.None 0 ≡ None =
         subst (λ k. stage_end_refusal stage.None k ≡ None) outside
         (sym (ap end_by rests.fields) ∙ e) in cc);
-    between = λ e low. record { standing = s; rests = rests; between = is };
+    between = λ e low. record { standing = s; rests = rests; between = may };
   }
 
   -- it came to its stop, and says so
@@ -302,7 +304,8 @@ module _ {M : Type 0} (at : M → View → Type 0) (old new : Lane M) where
 
   end_stands : (s : Standing) (x : TxErr) (n : ℕ) → EndedAs at new x n s → Stands at new
   end_stands s x zero ends = absurd ends
-  end_stands s x (suc zero) ends = idle_stands at new (closed s) refl ends.0 ends.1
+  end_stands s x (suc zero) ends =
+      idle_stands at new (closed s) refl ends.0 (between_may_open (closed s) ends.1)
   end_stands s error.None (suc (suc n)) ends =
       working_stands at new (at_level (suc n) s) ends.0 ends.1
   end_stands s x (suc (suc n)) ends = past_stands at new (at_level (suc n) s) stage.OnAbort x ends

@@ -7,22 +7,16 @@ use Rattle.pm_objects.specs.declared.history.TxErr.{TxErr}
 use Rattle.pm_objects.specs.declared.ids.Oid.{Oid}
 use Rattle.pm_objects.specs.declared.refusal.Refusal.{Refusal}
 use Rattle.pm_view.specs.View.{View}
-use Rattle.pm_world.specs.LaneFields.{Rests, Standing}
 use Rattle.pm_world.specs.declared.lane.Lane.{Lane}
 use Rattle.pm_call.specs.Adding.{HasCounted}
+use Rattle.pm_call.specs.Between.{IsLaneBetween}
 use Rattle.pm_call.specs.Did.{Did, IsAt, work_refusal}
 use Rattle.pm_call.specs.Plans.{adds, gets, puts}
 use Rattle.pm_call.specs.Reading.{HasRead}
-use Rattle.pm_call.specs.Stages.{Ended, IsBetween, IsLanePast, end_refusal}
+use Rattle.pm_call.specs.Stages.{Ended, IsLanePast, end_refusal}
 use Rattle.pm_tx.specs.Actions.{Asked}
 use Rattle.pm_tx.specs.Commits.{LevelCommitted, Processed}
 use Rattle.pm_tx.specs.Outcome.{Aborted}
-
--- the lane is between two calls
-pub record IsLaneBetween {M : Type 0} (at : M → View → Type 0) (lane : Lane M) : Type 0 where
-  pub standing : Standing
-  pub rests : Rests at lane standing
-  pub between : IsBetween standing
 
 -- A LANE STANDS: unless it stopped it is between two calls, at work, or past the work of a level,
 -- as its fields say
