@@ -56,3 +56,5 @@ pub mod SetChanges
 pub mod LoggedCalls
 pub mod LoggedCommits
 pub mod OpenedCalls
+pub mod AskedWords
+pub mod LoneActions

@@ -18,6 +18,7 @@ mod finishing;
 mod holding;
 mod laws;
 mod locking;
+mod outside;
 mod ranges;
 mod reading;
 mod rollback;
@@ -39,6 +40,7 @@ pub use locking::{
     locks_may_be_wanted, objects_may_be_locked, refusals_of_locks_are_the_models,
     refused_locks_give_up, transactions_may_begin, tried_locks_leave_work,
 };
+pub use outside::actions_may_be_told;
 pub use ranges::{ranges_are_looked_at, refusals_of_ranges_are_the_models};
 pub use reading::{do_read, ranges_may_be_read};
 pub use rollback::{give_up, refuse, stop, take_back};
