@@ -39,6 +39,7 @@ pub mod LockLists
 pub mod WorldFacts
 pub mod HeldLines
 pub mod TakenLocks
+pub mod FirstLocks
 pub mod LockedObjects
 pub mod LocksGot
 pub mod WantedTried
@@ -56,5 +57,7 @@ pub mod SetChanges
 pub mod LoggedCalls
 pub mod LoggedCommits
 pub mod OpenedCalls
+pub mod RefusedBegins
+pub mod Begins
 pub mod AskedWords
 pub mod LoneActions

@@ -12,8 +12,11 @@ pub mod RangeLaws
 pub mod Writing
 pub mod Adding
 pub mod Locking
+pub mod Between
 pub mod LockRefusals
 pub mod LocksGot
+pub mod Beginning
+pub mod Opening
 pub mod WantedTried
 pub mod WantedTaken
 pub mod Commits
