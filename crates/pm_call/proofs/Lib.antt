@@ -56,3 +56,4 @@ pub mod SetChanges
 pub mod LoggedCalls
 pub mod LoggedCommits
 pub mod OpenedCalls
+pub mod PublishedWords

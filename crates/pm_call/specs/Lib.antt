@@ -17,3 +17,4 @@ pub mod LocksGot
 pub mod WantedTried
 pub mod WantedTaken
 pub mod Commits
+pub mod Publishing

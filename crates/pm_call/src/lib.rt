@@ -18,6 +18,7 @@ mod finishing;
 mod holding;
 mod laws;
 mod locking;
+mod publishing;
 mod ranges;
 mod reading;
 mod rollback;
@@ -38,6 +39,10 @@ pub use locking::{
     calls_may_open, deep_begins_give_up, lanes_at_work_may_lock, locks_are_got,
     locks_may_be_wanted, objects_may_be_locked, refusals_of_locks_are_the_models,
     refused_locks_give_up, transactions_may_begin, tried_locks_leave_work,
+};
+pub use publishing::{
+    pending_words_are_looked_at, pending_words_may_be_cancelled, pending_words_may_be_published,
+    refusals_of_publish_are_the_models,
 };
 pub use ranges::{ranges_are_looked_at, refusals_of_ranges_are_the_models};
 pub use reading::{do_read, ranges_may_be_read};
