@@ -1,5 +1,5 @@
 -- A CALL OPENS as its lane, between two calls, sees a number; and a lane whose call is open takes the locks that are wanted and begins the outermost level.
-use Rattle.std.proofs.Common.{◌≡◌, ℕ, ◌<◌, List, [], ◌∷◌, refl, sym, ap, subst, arith, None, inl, ◌+◌, ◌-◌, ◌≤◌, nat_le, true, false, not, ◌==◌, ◌++◌, ◌∙◌}
+use Rattle.std.proofs.Common.{◌≡◌, ℕ, ◌<◌, List, [], ◌∷◌, refl, sym, ap, subst, arith, None, inl, ◌+◌, ◌≤◌, nat_le, true, false, not, ◌==◌, ◌++◌, ◌∙◌}
 use Rattle.std.specs.List.{AllByRecursion}
 use Rattle.std.proofs.lemmas.List.Elements.{Contains-push}
 use Rattle.pm_layout.specs.Areas.{greatest_generation}
@@ -23,7 +23,6 @@ use Rattle.std.proofs.lemmas.Bool.{and_left, and_right, both_ways}
 use Rattle.pm_objects.specs.declared.calls.Operation.TheVariants.{Begin}
 use Rattle.pm_objects.specs.declared.calls.Want.{Want}
 use Rattle.pm_model.specs.Transaction.{Transaction, idle, is_working, with_locks}
-use Rattle.pm_view.specs.Claims.{holds}
 use Rattle.pm_world.specs.Sights.{is_recorded}
 use Rattle.pm_crash.specs.Calls.{pending_after, pending_of}
 use Rattle.pm_crash.specs.OpenRuns.{after_told, no_pool}

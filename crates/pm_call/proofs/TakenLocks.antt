@@ -7,7 +7,7 @@ use Rattle.std.specs.List.{AllByRecursion}
 use Rattle.std.proofs.lemmas.Bool.{both_ways, or_left}
 use Rattle.std.proofs.lemmas.List.Elements.{Contains-append_right}
 use Rattle.pm_objects.specs.declared.calls.Want.{Want}
-use Rattle.pm_view.specs.Claims.{Claim, Raised, holds, locked, pictured, reads}
+use Rattle.pm_view.specs.Claims.{Claim, Raised, holds, pictured}
 use Rattle.pm_view.specs.Log.{is_early}
 use Rattle.pm_view.specs.Places.{Small, Big, Root, word_of}
 use Rattle.pm_view.specs.Steps.{Step}
