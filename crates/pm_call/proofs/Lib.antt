@@ -61,3 +61,4 @@ pub mod RefusedBegins
 pub mod Begins
 pub mod AskedWords
 pub mod LoneActions
+pub mod PublishedWords

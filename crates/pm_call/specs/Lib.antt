@@ -21,3 +21,4 @@ pub mod WantedTried
 pub mod WantedTaken
 pub mod Commits
 pub mod Outside
+pub mod Publishing

@@ -1,0 +1,3 @@
+pub mod CheckedWords
+pub mod EnteredWords
+pub mod PublishedLanes
