@@ -144,15 +144,15 @@ pub fn publish<M: LawfulMem>(lane: &mut Lane<M>) -> Result<(), Refusal>
     }
 }
 
-/// Cancels all that is pending: pmemobj_cancel(3). The transaction stays at work, with the words that
-/// it published before. No counted memory call is made.
+/// Cancels all that is pending, in the transaction that is at work. It stays so, with the words that it
+/// published before. No counted memory call is made.
 ///
 /// # Errors
 ///
 /// - `Stopped`: the lane had stopped; nothing is done.
 /// - `NoTx`: no transaction is open; nothing is done.
 /// - `NotWork`: the transaction is past its work; nothing is done.
-pub fn cancel<M: LawfulMem>(lane: &mut Lane<M>) -> Result<(), Refusal>
+pub(crate) fn cancel_inside<M: LawfulMem>(lane: &mut Lane<M>) -> Result<(), Refusal>
     requires { did.work_refusal lane.old ≡ None → IsAt M.at lane.old }
     ensures { Cancelled M.at lane.old lane.new result }
 {

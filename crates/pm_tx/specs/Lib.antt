@@ -1,5 +1,4 @@
 pub mod Buffers
 pub mod Outcome
 pub mod Ending
-pub mod Actions
 pub mod Commits

@@ -8,14 +8,12 @@
 //! docs/BEHAVIOUR.md.
 #![tactic(auto)]
 
-mod actions;
 mod commits;
 mod ending;
 mod outcome;
 mod ranges;
 mod stages;
 
-pub use actions::set_value;
 pub use commits::{commit, process};
 pub use ending::end;
 pub use outcome::abort;

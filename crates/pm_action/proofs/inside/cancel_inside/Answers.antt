@@ -4,7 +4,7 @@ use Rattle.pm_view.specs.Steps.Step.{Tell}
 use Rattle.pm_world.specs.LaneFields.{fields_of}
 use Rattle.pm_call.specs.Did.{work_refusal}
 use Rattle.pm_action.proofs.PublishedLanes.{cancelled_nothing, was_cancelled}
-use Rattle.pm_action.proofs.inside.cancel.Goals as goal
+use Rattle.pm_action.proofs.inside.cancel_inside.Goals as goal
 
 pub returns-in-Some : goal.returns-in-Some
 returns-in-Some g c = cancelled_nothing g.M.LaneMem.at c.args.lane.now c.in-Some.why c.in-Some.ensures
