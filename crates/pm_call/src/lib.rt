@@ -22,6 +22,8 @@ mod laws;
 mod lock_ops;
 mod locking;
 mod opening;
+mod outside;
+mod publishing;
 mod ranges;
 mod reading;
 mod rollback;
@@ -46,6 +48,11 @@ pub use locking::{
 };
 pub use opening::{
     begin_outermost, open_call, refusals_of_begins_are_the_models, refused_begins_end,
+};
+pub use outside::{actions_may_be_told, end_outside};
+pub use publishing::{
+    pending_words_are_looked_at, pending_words_may_be_cancelled, pending_words_may_be_published,
+    refusals_of_publish_are_the_models,
 };
 pub use ranges::{ranges_are_looked_at, refusals_of_ranges_are_the_models};
 pub use reading::{do_read, ranges_may_be_read};

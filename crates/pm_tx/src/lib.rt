@@ -8,7 +8,6 @@
 //! docs/BEHAVIOUR.md.
 #![tactic(auto)]
 
-mod actions;
 mod commits;
 mod ending;
 mod locks;
@@ -17,7 +16,6 @@ mod outcome;
 mod ranges;
 mod stages;
 
-pub use actions::set_value;
 pub use commits::{commit, process};
 pub use ending::end;
 pub use locks::lock;

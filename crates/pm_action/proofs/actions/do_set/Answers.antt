@@ -1,7 +1,7 @@
 use Rattle.std.proofs.Common.{ap}
 use Rattle.pm_world.specs.LaneFields.{fields_of}
-use Rattle.pm_tx.proofs.Asking.{told_set}
-use Rattle.pm_tx.proofs.actions.do_set.Goals as goal
+use Rattle.pm_action.proofs.Asking.{told_set}
+use Rattle.pm_action.proofs.actions.do_set.Goals as goal
 
 pub returns : goal.returns
 returns g c =

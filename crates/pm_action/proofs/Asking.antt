@@ -1,9 +1,8 @@
 -- A WORD IS ASKED FOR: it is told, done or refused, and the lane is at work then.
-use Rattle.std.proofs.Common.{◌≡◌, ℕ, suc, ◌%◌, ◌^◌, ◌<◌, ◌≤◌, ◌==◌, ◌||◌, nat_le, inl, inr, true, false, Contains, List, [], ◌∷◌, ◌++◌, length, map, not, refl, sym, ap, ◌∙◌, subst, arith, rules, eq-eqb, ne_eqb, None, Some, Result, Ok, Err}
-use Rattle.std.specs.List.{AllByRecursion, list_any}
+use Rattle.std.proofs.Common.{◌≡◌, ℕ, ◌%◌, ◌^◌, ◌<◌, ◌==◌, nat_le, inl, inr, true, false, Contains, [], ◌∷◌, ◌++◌, length, not, refl, sym, ap, ◌∙◌, subst, arith, rules, eq-eqb, ne_eqb, None, Some, Result, Ok, Err}
 use Rattle.std.proofs.lemmas.Bool.{false_from_ne_true, le-leb, leb-true}
 use Rattle.pm_memory.specs.Runs.{Made}
-use Rattle.pm_model.specs.Pending.{Pending, SetWord, max_actions, pending_count, with_set}
+use Rattle.pm_model.specs.Pending.{SetWord, max_actions, pending_count, with_set}
 use Rattle.pm_model.specs.Refusals.{first_of}
 use Rattle.pm_model.specs.Transaction.{idle}
 use Rattle.pm_objects.specs.declared.calls.Operation.TheVariants.{SetValue}
@@ -18,7 +17,6 @@ use Rattle.pm_view.specs.Views.{after_all}
 use Rattle.pm_world.specs.LaneFields.{Fields, Standing, Works, fields_of, listed, listed_as, moved}
 use Rattle.pm_world.specs.Lawful.{Allowed}
 use Rattle.pm_world.specs.declared.lane.Lane.{Lane}
-use Rattle.pm_world.specs.declared.lane.PendingAction.{PendingAction}
 use Rattle.pm_world.specs.declared.lane.PendingAction.TheVariants.{Set}
 use Rattle.pm_crash.specs.Calls.{pending_of}
 use Rattle.pm_crash.specs.OpenRuns.{no_pool}
@@ -33,47 +31,12 @@ use Rattle.pm_plan.specs.Plans.{Ready, one}
 use Rattle.pm_call.specs.At.{At, AreLists, MaySet}
 use Rattle.pm_call.specs.Did.{IsRefused, IsUnrefused, next, unseen, work_refusal}
 use Rattle.pm_call.specs.Plans.{tells}
-use Rattle.pm_call.specs.Waiting.{HasPending, IsWord, listed_set, pending_now}
+use Rattle.pm_call.specs.Waiting.{HasPending}
+use Rattle.pm_call.proofs.AskedWords.{asked_now, asked_pending, count_is, listed_more}
 use Rattle.pm_call.proofs.Noting.{all_map, data_told, told_at}
 use Rattle.pm_call.proofs.RangeReads.{begun_more, keeps_same, lists_told}
-use Rattle.pm_call.proofs.Staying.{now_told, pending_more, pending_told}
-use Rattle.pm_tx.specs.Actions.{Asked, AskedSo, HasTold, IsTold, JudgedSet}
-
--- ---- lists with one more
-
-listed_more : (told : List Told) (t : Told) → listed (told ++ t ∷ []) ≡ listed told ++ listed_as t.operation t.reply
-listed_more [] t = more_none (listed_as t.operation t.reply) where
-  more_none : (xs : List PendingAction) → xs ++ [] ≡ xs
-  more_none [] = refl
-  more_none (x ∷ xs) = ap (λ ys. x ∷ ys) (more_none xs)
-listed_more (x ∷ told) t = ap (λ ys. listed_as x.operation x.reply ++ ys) (listed_more told t) ∙ joined (listed_as x.operation x.reply) where
-  joined : (xs : List PendingAction) → xs ++ (listed told ++ listed_as t.operation t.reply) ≡ (xs ++ listed told) ++ listed_as t.operation t.reply
-  joined [] = refl
-  joined (y ∷ xs) = ap (λ ys. y ∷ ys) (joined xs)
-
-one_more : {A : Type 0} (xs : List A) (x : A) → length (xs ++ x ∷ []) ≡ suc (length xs)
-one_more [] x = refl
-one_more (y ∷ xs) x = ap suc (one_more xs x)
-
-map_more : {A B : Type 0} (f : A → B) (xs : List A) (x : A) → map f (xs ++ x ∷ []) ≡ map f xs ++ f x ∷ []
-map_more f [] x = refl
-map_more f (y ∷ xs) x = ap (λ ys. f y ∷ ys) (map_more f xs x)
-
-length_map : {A B : Type 0} (f : A → B) (xs : List A) → length (map f xs) ≡ length xs
-length_map f [] = refl
-length_map f (x ∷ xs) = ap suc (length_map f xs)
-
-all_more : {A : Type 0} (P : A → Type 0) (xs : List A) (x : A) → AllByRecursion P xs → P x → AllByRecursion P (xs ++ x ∷ [])
-all_more P [] x all is = (is, tt)
-all_more P (y ∷ xs) x all is = (all.0, all_more P xs x all.1 is)
-
--- the lane lists as many actions as the model has pending
-count_is : (v : View) → HasPending v → (lists_of v).pending ≡ pending_now v → length (listed v.actions) ≡ pending_count (lists_of v).pending
-count_is v h is =
-    let sets = length_map listed_set (pending_now v).sets in
-    let frees = ap length h.no_frees in
-    let reserved = ap length h.none_reserved in
-    ap length h.lists ∙ ((let e : length (map listed_set (pending_now v).sets) ≡ pending_count (pending_now v) = omega (arith, sets, frees, reserved) in e) ∙ ap pending_count (sym is))
+use Rattle.pm_call.proofs.Staying.{now_told, pending_told}
+use Rattle.pm_action.specs.Actions.{Asked, AskedSo, HasTold, IsTold, JudgedSet}
 
 module _ (s : Standing) (id : Oid) (off value : ℕ) (at : At s) where
   abbrev v : View
@@ -98,7 +61,7 @@ module _ (s : Standing) (id : Oid) (off value : ℕ) (at : At s) where
   first = refl
 
   many : length (listed v.actions) ≡ pending_count (lists_of v).pending
-  many = count_is v at.pending at.lists.pending
+  many = count_is v at.pending ∙ ap pending_count (sym at.lists.pending)
 
   pub unrefused : JudgedSet off (length (listed v.actions)) (Ok tt) → IsUnrefused s (SetValue id off value)
   unfolding first_of
@@ -136,9 +99,6 @@ module _ (s : Standing) (id : Oid) (off value : ℕ) (at : At s) where
   abbrev word : SetWord
   word = record { id = id; off = off; value = value }
 
-  now : pending_now u ≡ with_set word (pending_now v)
-  now = pending_more v.call t (pending_of v.entries)
-
   lists_then : lists_of u ≡ record (lists_of v) { pending = with_set word (lists_of v).pending }
   lists_then = told_once_more v.call t (idle no_pool (pending_of v.entries))
 
@@ -151,21 +111,14 @@ module _ (s : Standing) (id : Oid) (off value : ℕ) (at : At s) where
     recorded = at.lists.recorded;
     records = at.lists.records;
     blocks = at.lists.blocks;
-    pending = ap (with_set word) at.lists.pending ∙ sym now;
+    pending = ap (with_set word) at.lists.pending ∙ sym (asked_now v id off value);
     sets = at.lists.sets;
     may_set = all_map (MaySet s) (MaySet (moved s u)) (lists_of v).sets (λ a m. record { locked = m.locked; aligned = m.aligned; size = m.size; sized = m.sized; inside = m.inside; small = m.small }) at.lists.may_set;
     error_is = at.lists.error_is;
   })
 
   pending_then : JudgedSet off (length (listed v.actions)) (Ok tt) → value < 2 ^ 64 → HasPending u
-  pending_then is small = record {
-    lists = listed_more v.actions t ∙ (ap (λ xs. xs ++ Set id off value ∷ []) at.pending.lists ∙ (sym (map_more listed_set (pending_now v).sets word) ∙ ap (λ (p : Pending). map listed_set p.sets) (sym now)));
-    no_frees = ap (λ (p : Pending). p.frees) now ∙ at.pending.no_frees;
-    none_reserved = ap (λ (p : Pending). p.reserved) now ∙ at.pending.none_reserved;
-    on_time = ap (λ (p : Pending). p.late) now ∙ (ap (λ fs. list_any (λ (other : Oid). other.off == id.off) fs || (pending_now v).late) at.pending.no_frees ∙ at.pending.on_time);
-    few = subst (λ (p : Pending). length p.sets ≤ max_actions) (sym now) (let low = is.1 in let more = one_more (pending_now v).sets word in let sets = ap length at.pending.lists ∙ length_map listed_set (pending_now v).sets in omega (arith, more, sets, low));
-    words = subst (λ (p : Pending). AllByRecursion IsWord p.sets) (sym now) (all_more IsWord (pending_now v).sets word at.pending.words (is.0, small));
-  }
+  pending_then is small = asked_pending v id off value is.0 is.1 small at.pending
 
   sim : IsUnrefused s (SetValue id off value) → Sim u []
   sim un = sim_extends v u [] [] None (record { operation = SetValue id off value; seen = unseen; reply = None }) at.sim

@@ -3,7 +3,7 @@ ghost use Rattle.pm_objects.specs.declared.calls.Operation.TheVariants.{SetValue
 ghost use Rattle.pm_objects.specs.declared.history.Value.TheVariants.{Refused};
 ghost use Rattle.pm_call.specs.Did as did;
 ghost use Rattle.pm_call.specs.Did.{IsAt};
-ghost use Rattle.pm_tx.specs.Actions.{Asked, HasTold, JudgedSet};
+ghost use Rattle.pm_action.specs.Actions.{Asked, HasTold, JudgedSet};
 
 use pm_call::work_refusal;
 use pm_layout::WORD_BYTES;
@@ -50,9 +50,8 @@ fn refuse_set<M: LawfulMem>(lane: &mut Lane<M>, id: Oid, off: u64, value: u64, w
     );
 }
 
-/// Asks that eight bytes of an object, from its byte `off` on, become this number, at a later publish:
-/// pmemobj_set_value(3). The object is looked at by the publish alone. A refusal leaves the transaction
-/// at work, with the actions that were pending; it is told. No counted memory call is made.
+/// Asks for a word of an object to be set, in the transaction that is at work. A refusal leaves it at
+/// work, with the actions that were pending; it is told.
 ///
 /// # Errors
 ///
@@ -61,7 +60,7 @@ fn refuse_set<M: LawfulMem>(lane: &mut Lane<M>, id: Oid, off: u64, value: u64, w
 /// - `NotWork`: the transaction is past its work; nothing is done.
 /// - `Unaligned`: the bytes don't begin at a multiple of eight.
 /// - `ActionsFull`: 63 actions are pending.
-pub fn set_value<M: LawfulMem>(
+pub(crate) fn set_inside<M: LawfulMem>(
     lane: &mut Lane<M>,
     id: Oid,
     off: u64,

@@ -1,8 +1,8 @@
 use Rattle.std.proofs.Common.{◌≡◌, None, Ok, Err, arith, rules, subst}
 use Rattle.pm_call.specs.Did.{work_refusal}
-use Rattle.pm_tx.specs.Actions.{JudgedSet}
-use Rattle.pm_tx.proofs.Asking.{asked_no, asked_nothing, asked_set}
-use Rattle.pm_tx.proofs.actions.set_value.Goals as goal
+use Rattle.pm_action.specs.Actions.{JudgedSet}
+use Rattle.pm_action.proofs.Asking.{asked_no, asked_nothing, asked_set}
+use Rattle.pm_action.proofs.actions.set_inside.Goals as goal
 
 pub returns-in-Some : goal.returns-in-Some
 returns-in-Some g c = asked_nothing g.M.LaneMem.at c.args.lane.now c.args.id c.args.off c.args.value c.in-Some.why c.in-Some.ensures
