@@ -2,6 +2,7 @@ use Rattle.std.proofs.Common.{◌+◌, length, slice_index_or, arith, ap, subst,
 use Rattle.pm_world.specs.LaneFields.{moved}
 use Rattle.pm_world.specs.declared.lane.PendingAction.TheVariants as action
 use Rattle.pm_call.specs.Did.{After}
+use Rattle.pm_action.specs.Inside.{earlier}
 use Rattle.pm_action.proofs.CheckedWords.{CheckedFirst, all_checked, check_more, many_still, none_checked}
 use Rattle.pm_action.proofs.inside.check_actions.Goals as goal
 
@@ -33,7 +34,7 @@ loop-i-preserved g c s works is =
     let low = c.loop-i-test.true in
     let end = c.len-i-end.ensures.value in
     subst (λ r. After s (CheckedFirst g.M.LaneMem.at c.check_action.new.lane (c.loop-i.i + 1) r))
-    (sym c.earlier-checked.ensures)
+    {x = earlier c.loop-i.checked c.check_action.result} (sym c.earlier-checked.ensures)
     (check_more g.M.LaneMem.at c.loop-i.lane c.check_action.new.lane c.loop-i.i c.loop-i.checked
     c.check_action.result (slice_index_or c.deref.result.now c.loop-i.i action.None) action.None
     (omega (arith, many, low, end)) (ap (λ xs. slice_index_or xs c.loop-i.i action.None) c.deref.ensures.0)
