@@ -296,14 +296,14 @@ module _ {M : Type 0} (at : M → View → Type 0) (old new : Lane M) (id : Oid)
   by_word result came b e =
       subst (λ (c : SetWord). WordsChecked at old new (λ s. c ∷ []) result) (word_is id off value b e)
       (λ s works is. let c = checked s works is in
-          let t : Standing = moved s c.view in
-          let w = works_of t (looks_stay c.looks s s.level c.view is c.looked) a at new ranged c.holds in
-          record {
-            looks = c.looks;
-            view = c.view;
-            looked = c.looked;
-            holds = came t w.1 (sym (is_held t w.0)) c.holds;
-          })
+      let t : Standing = moved s c.view in
+      let w = works_of t (looks_stay c.looks s s.level c.view is c.looked) a at new ranged c.holds in
+      record {
+        looks = c.looks;
+        view = c.view;
+        looked = c.looked;
+        holds = came t w.1 (sym (is_held t w.0)) c.holds;
+      })
 
   pub action_held : held ≡ true → ActionChecked at old new (Set id off value) ranged
   action_held e = by_word ranged (λ t stands h f. came_held t stands a at new (h ∙ e) ranged f)

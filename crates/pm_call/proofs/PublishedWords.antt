@@ -1,6 +1,6 @@
 -- PENDING WORDS ARE PUBLISHED, OR CANCELLED: the operation is told, and the lane is at work with the
 -- longer list of entries, or with the same.
-use Rattle.std.proofs.Common.{◌≡◌, zero, suc, ◌+◌, ◌-◌, ◌<◌, ◌≤◌, inl, inr, nat_lt, Bool, true, false, ◌||◌, not, Contains, List, [], ◌∷◌, ◌++◌, length, length-append, map, refl, sym, ap, ◌∙◌, subst, arith, None}
+use Rattle.std.proofs.Common.{◌≡◌, zero, suc, ◌+◌, ◌-◌, ◌<◌, ◌≤◌, inl, inr, nat_lt, Bool, true, false, ◌||◌, Contains, List, [], ◌∷◌, ◌++◌, length, length-append, map, refl, sym, ap, ◌∙◌, subst, arith, None}
 use Rattle.std.specs.List.{AllByRecursion, list_any}
 use Rattle.std.proofs.lemmas.Bool.{both_ways, false_from_ne_true, ltb-true}
 use Rattle.std.proofs.lemmas.List.{length-map, map-append}
@@ -15,7 +15,7 @@ use Rattle.pm_objects.specs.declared.ids.Oid.{Oid}
 use Rattle.pm_objects.specs.declared.refusal.Refusal.TheVariants as refusal
 use Rattle.pm_record.specs.declared.redo.Redo.{Redo}
 use Rattle.pm_view.specs.View.{Told, View}
-use Rattle.pm_world.specs.LaneFields.{Standing, listed}
+use Rattle.pm_world.specs.LaneFields.{Standing}
 use Rattle.pm_crash.specs.Calls.{pending_of}
 use Rattle.pm_crash.specs.Looked.{Enters, items_seen, pool_seen, refusal_by}
 use Rattle.pm_crash.specs.OpenRuns.{no_pool}
@@ -32,7 +32,6 @@ use Rattle.pm_call.specs.At.{At, AreLists, MaySet, entries_so_far, set_entry}
 use Rattle.pm_call.specs.Did.{IsUnrefused, unseen}
 use Rattle.pm_call.specs.Publishing.{CancelsMayBeTold, CanPublish, HasWord, IsWordSized, LeadsCancel, LeadsPublish, PendingWordsAreLookedAt, PublishRefusals, WordsMayBePublished, is_past_end, is_unheld, publishing_tests}
 use Rattle.pm_call.specs.RangeLaws.{IsSizedIfHeld}
-use Rattle.pm_call.specs.Ranges.{HasRange, is_held_so, size_or_none}
 use Rattle.pm_call.specs.Waiting.{HasPending, IsWord, listed_set, pending_now}
 use Rattle.pm_call.proofs.Noting.{all_map, data_told, held_told, sizes_told, sound_told, working_told}
 use Rattle.pm_call.proofs.RangeReads.{begun_more, range_passes}

@@ -14,7 +14,7 @@ bounds-deref-i g c =
     let r = c.requires in
     let a = c.loop-i.invariant r.standing r.works r.stands in
     let many = many_still g.M.LaneMem.at c.args.lane.now c.loop-i.lane c.loop-i.i c.loop-i.checked
-        r.standing r.works r.stands a in
+    r.standing r.works r.stands a in
     let low = c.loop-i-test.true in
     let end = c.len-i-end.ensures.value in
     let e = ap length c.deref.ensures.0 in
@@ -30,7 +30,7 @@ pub loop-i-preserved : goal.loop-i-preserved
 loop-i-preserved g c s works is =
     let a = c.loop-i.invariant s works is in
     let many = many_still g.M.LaneMem.at c.args.lane.now c.loop-i.lane c.loop-i.i c.loop-i.checked
-        s works is a in
+    s works is a in
     let low = c.loop-i-test.true in
     let end = c.len-i-end.ensures.value in
     subst (λ r. After s (CheckedFirst g.M.LaneMem.at c.check_action.new.lane (c.loop-i.i + 1) r))
