@@ -1,6 +1,6 @@
 -- WHAT PUBLISH AND CANCEL DID to a lane whose transaction is at work, by cases of what they answer.
 use Rattle.std.specs.Prelude.{◌≡◌, ℕ, ◌+◌, ◌^◌, ◌<◌, true, false, Contains, List, [], ◌∷◌, Option, None, Some, Result, Ok, Err}
-use Rattle.std.specs.List.{AllByRecursion, flat_map}
+use Rattle.std.specs.List.{AllByRecursion, flat_map, list_any}
 use Rattle.pm_model.specs.Pending.{SetWord}
 use Rattle.pm_objects.specs.declared.calls.Operation.TheVariants.{Cancel, Publish}
 use Rattle.pm_objects.specs.declared.history.Value.TheVariants.{Refused}
@@ -17,35 +17,30 @@ use Rattle.pm_plan.specs.Plans.{Ready}
 use Rattle.pm_call.specs.At.{At, set_entry}
 use Rattle.pm_call.specs.Did.{After, Cut, Done, GaveUp, IsRefused, IsUnrefused, work_refusal}
 use Rattle.pm_call.specs.Plans.{gives_up, tells}
-use Rattle.pm_call.specs.Publishing.{CanPublish, words_entered}
-use Rattle.pm_call.specs.RangeLaws.{IsSizedIfHeld}
-use Rattle.pm_call.specs.Ranges.{HasRange, is_held_so}
+use Rattle.pm_call.specs.Publishing.{CanPublish, HasWord, IsWordSized, is_unheld, words_entered}
 use Rattle.pm_call.specs.Waiting.{listed_set}
 
 -- ---- THE CHECK of the pending words
 
--- a word passes the end of its object
+-- a word passes its object's end
 pub record PassesEnd (s : Standing) (a : SetWord) : Type 0 where
   pub size : ℕ
   pub sized : size_seen s.view a.id.off ≡ Some size
   pub small : size < 2 ^ 64
   pub past : size < a.off + 8
 
--- what some words come to: each is the lane's to set; or the object of one is not held for writing; or
--- all are, and one word passes the end of its object
+-- what some words come to: the lane has each for writing; or one is of an object that is not held so;
+-- or none is, and one passes its object's end
 abbrev pub JudgedWords : Standing → List SetWord → Result (Unit {0}) Refusal → Type 0
-JudgedWords s words (Ok done) = AllByRecursion (λ (a : SetWord). HasRange s a.id a.off 8 true) words
-JudgedWords s words (Err refusal.NotLocked) =
-    (a : SetWord) × Contains words a × (is_held_so s a.id true ≡ false)
-JudgedWords s words (Err refusal.OutOfRange) =
-    AllByRecursion (λ (a : SetWord). is_held_so s a.id true ≡ true) words
+JudgedWords s words (Ok done) = AllByRecursion (HasWord s) words
+JudgedWords s words (Err refusal.NotLocked) = list_any (is_unheld s) words ≡ true
+JudgedWords s words (Err refusal.OutOfRange) = (list_any (is_unheld s) words ≡ false)
     × ((a : SetWord) × Contains words a × PassesEnd s a)
 JudgedWords s words (Err r) = ⊥
 
 -- and the lane looked at the size of each object that it holds
 abbrev pub AreChecked : Standing → List SetWord → Result (Unit {0}) Refusal → Type 0
-AreChecked s words result = AllByRecursion (λ (a : SetWord). IsSizedIfHeld s a.id) words
-    × JudgedWords s words result
+AreChecked s words result = AllByRecursion (IsWordSized s) words × JudgedWords s words result
 
 -- a check of these words, which looks at sizes
 unfoldable pub WordsChecked : {M : Type 0} → (M → View → Type 0) → Lane M → Lane M

@@ -43,14 +43,23 @@ fn lane_at(alloc: Global, level: u64, stage: Stage) -> Result<Lane<SoloLane>, Fa
     })
 }
 
-/// Where no transaction is open, and past its work, a publish and a cancel are refused.
+/// Where no transaction is open, and past its work, a publish is refused.
 #[test]
-fn stages_refuse(rt: HostRuntime) -> Result<(), Fail> {
+fn publishes_are_refused(rt: HostRuntime) -> Result<(), Fail> {
     let mut idle = lane_at(rt.alloc(), 0, Stage::None)?;
     assert_eq!(rt; publish(&mut idle), Err(Refusal::NoTx));
-    assert_eq!(rt; cancel_inside(&mut idle), Err(Refusal::NoTx));
     let mut late = lane_at(rt.alloc(), 1, Stage::OnAbort)?;
     assert_eq!(rt; publish(&mut late), Err(Refusal::NotWork));
+    assert_eq!(rt; late.error, TxErr::None);
+    Ok(())
+}
+
+/// Where no transaction is open, and past its work, a cancel is refused.
+#[test]
+fn cancels_are_refused(rt: HostRuntime) -> Result<(), Fail> {
+    let mut idle = lane_at(rt.alloc(), 0, Stage::None)?;
+    assert_eq!(rt; cancel(&mut idle), Err(Refusal::NoTx));
+    let mut late = lane_at(rt.alloc(), 1, Stage::OnAbort)?;
     assert_eq!(rt; cancel(&mut late), Err(Refusal::NotWork));
     assert_eq!(rt; late.error, TxErr::None);
     Ok(())

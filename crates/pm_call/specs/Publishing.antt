@@ -1,7 +1,7 @@
 -- WORDS ARE PUBLISHED, OR DROPPED, in a transaction at work, as laws: those that are pending become
 -- entries of the call, which the commit of the outermost level sets; or none is pending any more. And
 -- why a publish is refused. pmemobj_tx_publish(3), pmemobj_cancel(3).
-use Rattle.std.specs.Prelude.{◌≡◌, ◌+◌, ◌<◌, nat_lt, true, not, List, [], ◌∷◌, ◌++◌, length, map, None}
+use Rattle.std.specs.Prelude.{◌≡◌, ◌+◌, ◌<◌, nat_lt, Bool, true, not, List, [], ◌∷◌, ◌++◌, length, map, None}
 use Rattle.std.specs.List.{AllByRecursion, list_any}
 use Rattle.pm_layout.specs.Areas.{redo_entries}
 use Rattle.pm_model.specs.Pending.{SetWord}
@@ -24,19 +24,32 @@ use Rattle.pm_call.specs.Waiting.{pending_now}
 abbrev pub words_pending : Standing → List SetWord
 words_pending s = (pending_now s.view).sets
 
+-- ---- ONE OF THEM
+
+-- the lane does not hold its object for writing
+abbrev pub is_unheld : Standing → SetWord → Bool
+is_unheld s a = not (is_held_so s a.id true)
+
+-- it passes its object's end, by the size that the lane knows
+abbrev pub is_past_end : Standing → SetWord → Bool
+is_past_end s a = nat_lt (size_or_none s.view a.id.off) (a.off + 8)
+
+-- the lane has its range for writing
+abbrev pub HasWord : Standing → SetWord → Type 0
+HasWord s a = HasRange s a.id a.off 8 true
+
+-- the lane knows the size of its object, or does not hold the object
+abbrev pub IsWordSized : Standing → SetWord → Type 0
+IsWordSized s a = IsSizedIfHeld s a.id
+
 -- ---- WHY A PUBLISH IS REFUSED
 
--- in their order: the object of some word is not held for writing; some word passes its object's end,
--- by the size that the lane knows; the log has not room for all entries and the one of the generation
+-- in their order: a word is of an object that is not held for writing; one passes its object's end;
+-- the log has not room for all entries and the one of the generation
 abbrev pub publishing_tests : Standing → List Test
-publishing_tests s = (
-  refusal.NotLocked,
-  list_any (λ (a : SetWord). not (is_held_so s a.id true)) (words_pending s),
-)
-    ∷ (
-      refusal.OutOfRange,
-      list_any (λ (a : SetWord). nat_lt (size_or_none s.view a.id.off) (a.off + 8)) (words_pending s),
-    )
+publishing_tests s =
+    (refusal.NotLocked, list_any (is_unheld s) (words_pending s))
+    ∷ (refusal.OutOfRange, list_any (is_past_end s) (words_pending s))
     ∷ (
       refusal.ActionsFull,
       nat_lt max_entries (length s.entries + length (words_pending s) + 1),
@@ -48,18 +61,17 @@ abbrev pub PublishRefusals : Type 0
 PublishRefusals = (s : Standing) → At s
     → refusal_by unseen s.view None Publish ≡ first_of (publishing_tests s)
 
--- the lane looked at all that a publish asks for, where it knows the size of each such object that it
--- holds
+-- THE LANE LOOKED AT ALL that a publish asks for, where it knows these sizes
 abbrev pub PendingWordsAreLookedAt : Type 0
 PendingWordsAreLookedAt = (s : Standing) → At s
-    → AllByRecursion (λ (a : SetWord). IsSizedIfHeld s a.id) (words_pending s)
+    → AllByRecursion (IsWordSized s) (words_pending s)
     → LookedAt s.view (entries_so_far s) None Publish
 
 -- ---- PUBLISH
 
--- each word is of an object that the lane holds for writing, and within it; and their entries have room
+-- the lane has each word for writing, and their entries have room
 pub record CanPublish (s : Standing) : Type 0 where
-  pub each : AllByRecursion (λ (a : SetWord). HasRange s a.id a.off 8 true) (words_pending s)
+  pub each : AllByRecursion (HasWord s) (words_pending s)
   pub room : length s.entries + length (words_pending s) < redo_entries s.view.fixed.shape
 
 -- the words are entries of the call then

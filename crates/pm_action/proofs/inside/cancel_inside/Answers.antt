@@ -7,13 +7,18 @@ use Rattle.pm_action.proofs.PublishedLanes.{cancelled_nothing, was_cancelled}
 use Rattle.pm_action.proofs.inside.cancel_inside.Goals as goal
 
 pub returns-in-Some : goal.returns-in-Some
-returns-in-Some g c = cancelled_nothing g.M.LaneMem.at c.args.lane.now c.in-Some.why c.in-Some.ensures
+returns-in-Some g c =
+    cancelled_nothing g.M.LaneMem.at c.args.lane.now c.in-Some.why c.in-Some.ensures
 
 pub tell-requires : goal.tell-requires
 tell-requires g c =
     let r = c.requires (let e : work_refusal c.args.lane.now ≡ None = search rules in e) in
-    g.met.M.LawfulMem.meets c.args.lane.now.memory r.standing.view (Tell Cancel None) r.works.memory r.stands.working.is_open
+    g.met.M.LawfulMem.meets c.args.lane.now.memory r.standing.view (Tell Cancel None) r.works.memory
+    r.stands.working.is_open
 
 pub returns : goal.returns
-returns g c = was_cancelled g.M.LaneMem.at c.args.lane.now g.M.LaneMem.may g.met.M.LawfulMem.grants (record c.args.lane.now { memory = c.tell.new.self; pending = c.clear.new.self })
-    (let e : None ≡ work_refusal c.args.lane.now = search rules in e) c.tell.ensures (ap (λ xs. record (fields_of c.args.lane.now) { pending = xs }) c.clear.ensures)
+returns g c =
+    let none : None ≡ work_refusal c.args.lane.now = search rules in
+    was_cancelled g.M.LaneMem.at c.args.lane.now g.M.LaneMem.may g.met.M.LawfulMem.grants
+    (record c.args.lane.now { memory = c.tell.new.self; pending = c.clear.new.self }) none
+    c.tell.ensures (ap (λ xs. record (fields_of c.args.lane.now) { pending = xs }) c.clear.ensures)

@@ -6,4 +6,5 @@ use Rattle.pm_action.proofs.inside.check_actions.Given as goal
 
 -- the first so many came to this
 abbrev pub invariant-loop-i : goal.invariant-loop-i
-invariant-loop-i g l = (s : Standing) → Works g.M.LaneMem.at l.fn.lane s → At s → After s (CheckedFirst g.M.LaneMem.at l.lane l.i l.checked)
+invariant-loop-i g l = (s : Standing) → Works g.M.LaneMem.at l.fn.lane s → At s
+    → After s (CheckedFirst g.M.LaneMem.at l.lane l.i l.checked)
