@@ -4,7 +4,8 @@
 //! Promises, over any lawful memory and whatever other lanes do, that a transaction that is given up
 //! makes exactly the memory calls of its plan, or the first of them up to the lane's stop; and laws
 //! of data: from which views it may be given up or committed, and that the call is over then; and that
-//! a lane at work may lock objects, whose locks it tries and under which it looks for them. Of a range
+//! a lane at work may lock objects, whose locks it tries and under which it looks for them, for a lock
+//! or for a begin of an inner level, which is done or gives the transaction up. Of a range
 //! of an object: that its checks find the plain model's first reason or what the operation asks, and
 //! that it is recorded, written and read by the calls of its plan. It stands on `pm_undo` for putting words back, on `pm_redo` for logs of published words, on
 //! `pm_lock` for objects under their locks, on `pm_crash` for what the call owes the plain model;
