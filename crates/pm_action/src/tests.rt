@@ -58,9 +58,9 @@ fn publishes_are_refused(rt: HostRuntime) -> Result<(), Fail> {
 #[test]
 fn cancels_are_refused(rt: HostRuntime) -> Result<(), Fail> {
     let mut idle = lane_at(rt.alloc(), 0, Stage::None)?;
-    assert_eq!(rt; cancel(&mut idle), Err(Refusal::NoTx));
+    assert_eq!(rt; cancel_inside(&mut idle), Err(Refusal::NoTx));
     let mut late = lane_at(rt.alloc(), 1, Stage::OnAbort)?;
-    assert_eq!(rt; cancel(&mut late), Err(Refusal::NotWork));
+    assert_eq!(rt; cancel_inside(&mut late), Err(Refusal::NotWork));
     assert_eq!(rt; late.error, TxErr::None);
     Ok(())
 }
