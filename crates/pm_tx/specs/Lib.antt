@@ -5,3 +5,4 @@ pub mod Actions
 pub mod Commits
 pub mod Locks
 pub mod Begins
+pub mod Standing
