@@ -54,33 +54,41 @@ use Rattle.pm_call.proofs.RefusedWants.{tests_at}
 use Rattle.pm_call.proofs.TriedLocks.{fixed_on, leaves_open, view_on}
 
 -- ---- WHY IT IS REFUSED
-module _ (s : Standing) (all : List HeldLock) (is : CanLockWith s all) (call : s.view.call ≡ []) where
-  no_level : (lists_of s.view).level ≡ 0
-  unfolding after_told
-  no_level = ap (λ (told : List Told). (after_told told (idle no_pool (pending_of s.view.entries))).level) call
+module _ (s : Standing) (all : List HeldLock) (is : CanLockWith s all) (call : s.view.call ≡ [])
+  where
+    no_level : (lists_of s.view).level ≡ 0
+    unfolding after_told
+    no_level = ap (λ (told : List Told). (after_told told
+        (idle no_pool (pending_of s.view.entries))).level) call
 
-  pub refusals_with : (wants : List Want) (seen : Seen) → seen.spent ≡ false → seen.busy ≡ false → refusal_by seen s.view None (Begin wants) ≡ first_of (locking_tests seen s wants)
-  refusals_with wants seen spent busy =
-      first_skip _ _ (and_left (nat_le 1 (lists_of s.view).level) (not (is_working (lists_of s.view).stage)) (ap (nat_le 1) no_level))
-      ∙ (first_skip _ _ (and_right ((lists_of s.view).level == 0) seen.spent spent)
-      ∙ (first_skip _ _ (ap (nat_le 64) no_level)
-      ∙ tests_same s wants seen is.lists (λ b. and_right (nat_le 1 (lists_of s.view).level && b) seen.busy busy ∙ sym (and_right b seen.busy busy))))
+    pub refusals_with : (wants : List Want) (seen : Seen) → seen.spent ≡ false → seen.busy ≡ false
+        → refusal_by seen s.view None (Begin wants) ≡ first_of (locking_tests seen s wants)
+    refusals_with wants seen spent busy =
+        first_skip _ _ (and_left (nat_le 1 (lists_of s.view).level)
+        (not (is_working (lists_of s.view).stage)) (ap (nat_le 1) no_level))
+        ∙ (first_skip _ _ (and_right ((lists_of s.view).level == 0) seen.spent spent)
+        ∙ (first_skip _ _ (ap (nat_le 64) no_level)
+        ∙ tests_same s wants seen is.lists (λ b. and_right (nat_le 1 (lists_of s.view).level && b)
+        seen.busy busy ∙ sym (and_right b seen.busy busy))))
 
 -- ---- THE CALL ENDS, with nothing to roll back
 none_undrained : (v : View) → v.changes ≡ [] → persists_all v ≡ []
 unfolding persists_all in_turn flushes drains after_all unflushed_lines lines_up_to
 none_undrained v e =
-    ap (λ (cs : List Undrained). Rattle.std.specs.Prelude.map Flush (unflushed_lines cs) ++ drains (after_all v (Rattle.std.specs.Prelude.map Flush (unflushed_lines cs)))) e
+    ap (λ (cs : List Undrained). Rattle.std.specs.Prelude.map Flush (unflushed_lines cs) ++ drains
+    (after_all v (Rattle.std.specs.Prelude.map Flush (unflushed_lines cs)))) e
     ∙ ap (λ (cs : List Undrained). cond (length cs == 0) [] (Drain ∷ [])) e
 
 pub none_back : (v : View) → v.log.records ≡ [] → v.changes ≡ [] → takes_back v ≡ []
-none_back v records drained = ap (λ (rs : List Recorded). cond (length rs == 0) (persists_all v) (in_turn restores retires v)) records ∙ none_undrained v drained
+none_back v records drained = ap (λ (rs : List Recorded). cond (length rs == 0) (persists_all v)
+    (in_turn restores retires v)) records ∙ none_undrained v drained
 
 -- so what is left of giving it up is that it is told, and takes its number
 module _ (v : View) (op : Operation) (reply : Option Value) (n : ℕ) where
   pub only_ends : takes_back v ≡ [] → gives_up op reply n v ≡ ends_call op reply n v
   unfolding in_turn after_all
-  only_ends none = ap (λ (steps : List Step). steps ++ ends_call op reply n (after_all v steps)) none
+  only_ends none = ap (λ (steps : List Step). steps ++ ends_call op reply n (after_all v steps))
+      none
 
   pub ends_so : ends_call op reply n v ≡ Tell op reply ∷ Draw n ∷ []
   unfolding in_turn one after_all
@@ -90,8 +98,11 @@ module _ (v : View) (op : Operation) (reply : Option Value) (n : ℕ) where
   unfolding in_turn one after_all
   ended_so = refl
 
-module _ (s : Standing) (all : List HeldLock) (is : CanLockWith s all) (call : s.view.call ≡ []) (records : s.view.log.records ≡ []) (drained : s.view.changes ≡ [])
-    (wants : List Want) (seen : Seen) (r : Refusal) (first : refusal_by seen s.view None (Begin wants) ≡ Some r) (traced : is_untraced r ≡ false) where
+module _ (s : Standing) (all : List HeldLock) (is : CanLockWith s all) (call : s.view.call ≡ [])
+    (records : s.view.log.records ≡ []) (drained : s.view.changes ≡ [])
+    (wants : List Want) (seen : Seen) (r : Refusal)
+    (first : refusal_by seen s.view None (Begin wants) ≡ Some r)
+    (traced : is_untraced r ≡ false) where
   abbrev v : View
   v = s.view
 
@@ -114,7 +125,8 @@ module _ (s : Standing) (all : List HeldLock) (is : CanLockWith s all) (call : s
   no_id id among = search rules
 
   none_recorded : (p : Place) → is_recorded v.log.records p ≡ true → ⊥
-  none_recorded p e = both_ways (is_recorded v.log.records p) (ap (λ rs. is_recorded rs p) records) e
+  none_recorded p e = both_ways (is_recorded v.log.records p)
+      (ap (λ rs. is_recorded rs p) records) e
 
   looks : LookedAt v [] None op
   looks = record {
@@ -124,18 +136,25 @@ module _ (s : Standing) (all : List HeldLock) (is : CanLockWith s all) (call : s
   }
 
   sim : Sim told []
-  sim = sim_refuses v told [] [] None ran is.sim (record { keeps = record { fixed = refl; entries = refl }; call = refl }) is.tells (tells_grow v op reply) (record {
-    inside = refl;
-    looks = looks;
-    refusal = r;
-    first = first;
-    traced = traced;
-    replied = refl;
-    left = (records, refl);
-  })
+  sim = sim_refuses v told [] [] None ran is.sim (record
+      { keeps = record { fixed = refl; entries = refl }; call = refl }) is.tells
+      (tells_grow v op reply) (record {
+        inside = refl;
+        looks = looks;
+        refusal = r;
+        first = first;
+        traced = traced;
+        replied = refl;
+        left = (records, refl);
+      })
 
   over : sims.IsOver told
-  over = calls_without_log told v.call ran (record { begun = ap (λ (calls : List Told). is_begun (calls ++ told_by ran ∷ [])) call; call = refl; ends = inl refl }) is.working.unentered records
+  over = calls_without_log told v.call ran (record {
+    begun = ap (λ (calls : List Told). is_begun (calls ++ told_by ran ∷ [])) call;
+    call =
+        refl;
+    ends = inl refl;
+  }) is.working.unentered records
 
   fact : Fact told
   fact = without_entries_have_facts told is.working.unentered sim over
@@ -150,7 +169,9 @@ module _ (s : Standing) (all : List HeldLock) (is : CanLockWith s all) (call : s
     found = is.number.seen;
     seen = is.number.told;
     below = is.number.below;
-    new_blocks = λ B e. absurd (let z : Some true ≡ None = sym e ∙ (ap (λ (es : List Entry). turn (latest (redos es)) B) is.working.unentered ∙ no_turn B) in cc);
+    new_blocks = λ B e. absurd (let z : Some true ≡ None = sym e
+        ∙ (ap (λ (es : List Entry). turn (latest (redos es)) B) is.working.unentered
+        ∙ no_turn B) in cc);
     root = subst (All (KeepsRoot told)) (sym is.working.unentered) (All-nil _);
     entries = inl is.working.unentered;
   }
@@ -185,7 +206,9 @@ module _ (s : Standing) (all : List HeldLock) (is : CanLockWith s all) (call : s
   }
 
   is_over : (n : ℕ) → IsOver (moved (with_locks all s) (done n))
-  is_over n = over_by (moved (with_locks all s) (done n)) (log_done n) drained is.working.known is.sealed (facts n) (ended_pending v op reply n (λ p. refl) refl is.pending) (claims_ended v op reply n all claims)
+  is_over n = over_by (moved (with_locks all s) (done n)) (log_done n) drained is.working.known
+      is.sealed (facts n) (ended_pending v op reply n (λ p. refl) refl is.pending)
+      (claims_ended v op reply n all claims)
 
   -- ---- the steps
   plan_is : (n : ℕ) → gives_up op reply n v ≡ Tell op reply ∷ Draw n ∷ []
@@ -196,29 +219,36 @@ module _ (s : Standing) (all : List HeldLock) (is : CanLockWith s all) (call : s
   steps_ready n = (is.working.is_open, tt, (may_draw, tt, tt))
 
   ends_at : (n : ℕ) → after_all v (gives_up op reply n v) ≡ done n
-  ends_at n = ap (after_all v) (only_ends v op reply n (none_back v records drained)) ∙ ended_so v op reply n
+  ends_at n = ap (after_all v) (only_ends v op reply n (none_back v records drained))
+      ∙ ended_so v op reply n
 
   pub refused_ends : (n : ℕ) → LeavesOver (with_locks all s) op reply n
   refused_ends n = record {
     ready = subst (Ready v) (sym (plan_is n)) (steps_ready n);
     over = subst (λ (w : View). IsOver (moved (with_locks all s) w)) (sym (ends_at n)) (is_over n);
-    generation = ap (λ (w : View). w.log.generation) (ends_at n) ∙ ap (λ (rs : List Recorded). generation_after rs v.log.generation) (sym records);
+    generation = ap (λ (w : View). w.log.generation) (ends_at n)
+        ∙ ap (λ (rs : List Recorded). generation_after rs v.log.generation) (sym records);
     number = ap (λ (w : View). last_number w.entries) (ends_at n);
   }
 
 -- ---- THE LAWS
 pub begin_refusals : BeginRefusals
-begin_refusals s wants seen is spent busy = refusals_with s s.locks (opened_lanes_may_lock s is) is.call wants seen spent busy
+begin_refusals s wants seen is spent busy = refusals_with s s.locks (opened_lanes_may_lock s is)
+    is.call wants seen spent busy
 
 -- a refusal for locks leaves a trace
-locks_traced : (seen : Seen) (s : Standing) (wants : List Want) (r : Refusal) → first_of (locking_tests seen s wants) ≡ Some r → is_untraced r ≡ false
-locks_traced seen s wants r = first_traced (locking_tests seen s wants) r (λ e. refl, (λ e. refl, (λ e. refl, (λ e. refl, tt))))
+locks_traced : (seen : Seen) (s : Standing) (wants : List Want) (r : Refusal)
+    → first_of (locking_tests seen s wants) ≡ Some r → is_untraced r ≡ false
+locks_traced seen s wants r = first_traced (locking_tests seen s wants) r
+    (λ e. refl, (λ e. refl, (λ e. refl, (λ e. refl, tt))))
 
 -- nothing was done that is to be rolled back
-pub opened_none_back : (s : Standing) (wants : List Want) (all : List HeldLock) (x : View) → IsOpened s → TriedLocks s wants all x → takes_back x ≡ []
+pub opened_none_back : (s : Standing) (wants : List Want) (all : List HeldLock) (x : View)
+    → IsOpened s → TriedLocks s wants all x → takes_back x ≡ []
 opened_none_back s wants all x is tried =
     let same = view_on s wants all x tried in
-    none_back x (ap (λ (y : View). y.log.records) same ∙ is.records) (ap (λ (y : View). y.changes) same ∙ is.drained)
+    none_back x (ap (λ (y : View). y.log.records) same
+    ∙ is.records) (ap (λ (y : View). y.changes) same ∙ is.drained)
 
 pub refused_begins_end : RefusedBeginsEnd
 refused_begins_end s wants all x seen r n is tried spent busy first =
@@ -226,8 +256,10 @@ refused_begins_end s wants all x seen r n is tried spent busy first =
     let same = view_on s wants all x tried in
     let may : CanLockWith (moved s x) all = leaves_open s wants all x can tried in
     let call : x.call ≡ [] = ap (λ (y : View). y.call) same ∙ is.call in
-    refused_ends (moved s x) all may call (ap (λ (y : View). y.log.records) same ∙ is.records) (ap (λ (y : View). y.changes) same ∙ is.drained) wants seen r
-    (refusals_with (moved s x) all may call wants seen spent busy ∙ (ap first_of (tests_at s wants seen x (fixed_on s wants all x tried)) ∙ first))
+    refused_ends (moved s x) all may call (ap (λ (y : View). y.log.records) same
+    ∙ is.records) (ap (λ (y : View). y.changes) same ∙ is.drained) wants seen r
+    (refusals_with (moved s x) all may call wants seen spent busy
+    ∙ (ap first_of (tests_at s wants seen x (fixed_on s wants all x tried)) ∙ first))
     (locks_traced seen s wants r first) n
 
 pub refused_begins_are_past : {M : Type 0} (at : M → View → Type 0) → RefusedBeginsArePast at
@@ -235,8 +267,14 @@ refused_begins_are_past at lane s wants r one up = record {
   sees = record { memory = up.sees.memory; fields = up.sees.fields };
   past = record {
     past = refl;
-    some = subst (λ n. Rattle.std.specs.Prelude.◌≤◌ 1 n) (sym one) (omega Rattle.std.proofs.Common.arith);
-    most = subst (λ n. Rattle.std.specs.Prelude.◌≤◌ n 64) (sym one) (omega Rattle.std.proofs.Common.arith);
-    leaves = (over_as (next s (gives_up (Begin wants) (Some (Refused r)) up.number)) [] s.level up.over, refl);
+    some = subst (λ n. Rattle.std.specs.Prelude.◌≤◌ 1 n) (sym one)
+        (omega Rattle.std.proofs.Common.arith);
+    most = subst (λ n. Rattle.std.specs.Prelude.◌≤◌ n 64) (sym one)
+        (omega Rattle.std.proofs.Common.arith);
+    leaves = (
+      over_as (next s (gives_up (Begin wants) (Some (Refused r)) up.number)) [] s.level
+          up.over,
+      refl,
+    );
   };
 }
