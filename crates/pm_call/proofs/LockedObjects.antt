@@ -18,7 +18,6 @@ use Rattle.pm_model.specs.Refusals.{Test, first_of, is_first_lock, is_tried, pas
 use Rattle.pm_model.specs.Transaction.{Transaction, idle, all_locked, is_gone, is_locked, is_new, is_working, wants_of_old, with_locks}
 use Rattle.pm_model.specs.declared.stage.Stage.{Stage}
 use Rattle.pm_model.specs.declared.stage.Stage.TheVariants as stage
-use Rattle.pm_view.specs.Claims.{holds, locked}
 use Rattle.pm_view.specs.Places.{Place}
 use Rattle.pm_view.specs.Steps.{Step}
 use Rattle.pm_view.specs.Steps.Step.{Tell}

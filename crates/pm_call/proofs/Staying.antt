@@ -6,7 +6,7 @@ use Rattle.pm_model.specs.Pending.{Pending, max_actions}
 use Rattle.pm_objects.specs.declared.calls.Operation.{Operation}
 use Rattle.pm_objects.specs.declared.history.Value.{Value}
 use Rattle.pm_view.specs.Changes.{Undrained}
-use Rattle.pm_view.specs.Claims.{Claim, class, holds}
+use Rattle.pm_view.specs.Claims.{Claim, holds}
 use Rattle.pm_view.specs.Log.{Log}
 use Rattle.pm_view.specs.Places.{Small}
 use Rattle.pm_view.specs.Steps.Step.{Tell}

@@ -2,17 +2,15 @@
 -- under each, raises those that are to be written, and tells the operation; and it is at work
 -- then, with the longer list of locks. pmemobj_tx_lock(3), and pmemobj_tx_begin(3) of an inner
 -- level.
-use Rattle.std.specs.Prelude.{◌≡◌, ◌≢◌, ◌⊎◌, ℕ, ◌+◌, ◌<◌, ◌≤◌, Bool, true, false, Contains, List, [], ◌∷◌, ◌++◌, length, map, None, Some}
+use Rattle.std.specs.Prelude.{◌≡◌, ◌⊎◌, ℕ, ◌+◌, ◌<◌, ◌≤◌, Bool, true, false, Contains, List, [], ◌∷◌, ◌++◌, length, map, None, Some}
 use Rattle.std.specs.List.{AllByRecursion}
-use Rattle.pm_layout.specs.Areas.{greatest_generation, redo_entries, word_of_generation, word_of_seal}
+use Rattle.pm_layout.specs.Areas.{greatest_generation, redo_entries, word_of_seal}
 use Rattle.pm_model.specs.Transaction.{Transaction, is_locked}
 use Rattle.pm_objects.specs.declared.history.TxErr.TheVariants as error
 use Rattle.pm_objects.specs.declared.calls.Operation.{Operation}
 use Rattle.pm_objects.specs.declared.calls.Operation.TheVariants.{Begin, Lock}
 use Rattle.pm_objects.specs.declared.calls.Want.{Want}
-use Rattle.pm_view.specs.Claims.{class, holds, making}
-use Rattle.pm_view.specs.Log.{Idle, new_log}
-use Rattle.pm_view.specs.Places.{Place, Small}
+use Rattle.pm_view.specs.Places.{Place}
 use Rattle.pm_view.specs.Steps.{Step}
 use Rattle.pm_view.specs.Steps.Step.{NumberSeen, Tell}
 use Rattle.pm_view.specs.View.{View}
@@ -23,17 +21,15 @@ use Rattle.pm_crash.specs.Facts.{HaveFacts}
 use Rattle.pm_world.specs.LaneFields.{Standing, moved}
 use Rattle.pm_world.specs.Lawful.{Allowed}
 use Rattle.pm_world.specs.declared.lane.HeldLock.{HeldLock}
-use Rattle.pm_crash.specs.Footprints.{has_own}
 use Rattle.pm_crash.specs.Sim.{MayTell, Sim, lists_of}
 use Rattle.pm_undo.specs.Records.{kept_by}
 use Rattle.pm_undo.specs.Spans as spans
 use Rattle.pm_undo.specs.Working.{IsWorking}
 use Rattle.pm_lock.specs.Acquiring.{AreFinds, MayWant}
-use Rattle.pm_lock.specs.Held.{HoldsEach}
 use Rattle.pm_lock.specs.Holding.{IsTaken}
 use Rattle.pm_lock.specs.Objects.{HasLooked, IsOfWorld, StandsAt}
 use Rattle.pm_lock.specs.Raising.{raised, raises}
-use Rattle.pm_lock.specs.Wants.{has_unplaced, is_listed, wanted, wants_to_write}
+use Rattle.pm_lock.specs.Wants.{has_unplaced, wanted, wants_to_write}
 use Rattle.pm_call.specs.At.{At, IsDataOf, MaySet, MayTakeNumber, entries_so_far, set_entry}
 use Rattle.pm_call.specs.Held.{AreHeld, HoldsAll, KnowsOwn, is_in_locks}
 use Rattle.pm_call.specs.Waiting.{HasPending, pending_now}
@@ -83,7 +79,8 @@ pub record AgreesOn (s : Standing) (tx : Transaction) : Type 0 where
   pub may_set : AllByRecursion (MaySet s) tx.sets
   pub error_is : tx.error ≡ error.None
 
-pub record CanLock (s : Standing) : Type 0 where
+-- these are all locks that it holds
+pub record CanLockWith (s : Standing) (all : List HeldLock) : Type 0 where
   pub working : IsWorking s.view
   pub unbumped : s.view.log.bumped ≡ false
   pub sound : IsSound s.view
@@ -91,7 +88,7 @@ pub record CanLock (s : Standing) : Type 0 where
   pub sealed : value_in s.view (word_of_seal s.view.fixed.shape s.view.fixed.lane) ≡ Some 0
   pub number : MayTakeNumber s.view
   pub held : AreHeld s.view s.locks
-  pub holds : HoldsAll s.view s.locks
+  pub holds : HoldsAll s.view all
   pub own : KnowsOwn s.view
   pub room : length s.entries < redo_entries s.view.fixed.shape
   pub recorded : (p : Place) → is_recorded s.view.log.records p ≡ true → IsDataOf s.view p
@@ -100,6 +97,10 @@ pub record CanLock (s : Standing) : Type 0 where
   pub sim : Sim s.view (entries_so_far s)
   pub facts : HaveFacts s.view
   pub tells : MayTell s.view
+
+-- those of its list alone
+abbrev pub CanLock : Standing → Type 0
+CanLock s = CanLockWith s s.locks
 
 -- the operation that wants them, and the level then
 abbrev pub IsLocking : Operation → List Want → ℕ → ℕ → Type 0
@@ -154,6 +155,7 @@ pub record IsOpened (s : Standing) : Type 0 where
   pub number : MayTakeNumber s.view
   pub call : s.view.call ≡ []
   pub records : s.view.log.records ≡ []
+  pub drained : s.view.changes ≡ []
   pub locks : s.locks ≡ []
   pub holds : HoldsAll s.view []
   pub own : KnowsOwn s.view

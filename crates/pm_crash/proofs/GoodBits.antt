@@ -33,7 +33,7 @@ use Rattle.pm_crash.proofs.OpeningBits.{zero_behind}
 use Rattle.pm_crash.proofs.Spelling.{some_block, with_block}
 
 -- a run has at most 63 blocks
-few_blocks : (lines : ℕ) → blocks_of lines ≤ 64
+pub few_blocks : (lines : ℕ) → blocks_of lines ≤ 64
 few_blocks lines = ⊎_elim (λ (q : blocks_of lines < 65). omega arith)
     (λ (q : 65 ≤ blocks_of lines). absurd (let p : 64 < blocks_of lines = omega arith in let some = run_has_lines lines 64 p in let z = run_fits lines 64 p in omega arith))
     (cases_lt (blocks_of lines) 65)

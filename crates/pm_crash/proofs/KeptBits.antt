@@ -49,7 +49,7 @@ turn_in_flight keep Clearing e l m h a f = absurd (both_ways false refl e)
 turn_in_flight keep (Retiring n) e l m h a f = subst (TurnFlight l m h) (sym f) tt
 turn_in_flight keep Voiding e l m h a f = absurd (both_ways false refl e)
 
-option_cases : (a : Option Bool) → (a ≡ None) ⊎ ((a ≡ Some true) ⊎ (a ≡ Some false))
+pub option_cases : (a : Option Bool) → (a ≡ None) ⊎ ((a ≡ Some true) ⊎ (a ≡ Some false))
 option_cases None = inl refl
 option_cases (Some true) = inr (inl refl)
 option_cases (Some false) = inr (inr refl)

@@ -37,6 +37,8 @@ pub mod OwnBlocks
 pub mod SceneSteps
 pub mod Missing
 pub mod FullZones
+pub mod OtherLines
+pub mod FullRuns
 pub mod OpenRuns
 pub mod Looks
 pub mod Simulation

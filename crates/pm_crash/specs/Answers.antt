@@ -1,6 +1,8 @@
 -- WHAT THE CAUSES OF ANSWERS MEAN FOR A REPORT: by offsets and pools and by the calls of the history,
 -- in place of blocks and bits.
-use Rattle.std.specs.Prelude.{◌≡◌, ◌≢◌, ℕ, ◌+◌, ◌*◌, ◌<◌, ◌≤◌, nat_lt, ◌&&◌, Bool, true, false, List, [], ◌∷◌, None, length}
+use Rattle.std.specs.Prelude.{◌≡◌, ◌≢◌, ◌⊎◌, ℕ, ◌+◌, ◌-◌, ◌*◌, ◌<◌, ◌≤◌, nat_lt, ◌&&◌}
+use Rattle.std.specs.Prelude.{Bool, true, false, All, Contains, IsSome, List, [], ◌∷◌, None, Some}
+use Rattle.std.specs.Prelude.{length, zero, suc}
 use Rattle.pm_header.specs.declared.header.Header.{Header}
 use Rattle.pm_layout.specs.Chunks.{chunks_of}
 use Rattle.pm_layout.specs.Sizes.{block_place, blocks_of}
@@ -8,15 +10,23 @@ use Rattle.pm_layout.specs.declared.shape.Shape.{Shape}
 use Rattle.pm_objects.specs.Pool.{object_at}
 use Rattle.pm_objects.specs.declared.pool.PoolView.{PoolView}
 use Rattle.pm_image.specs.Blocks.{chunk_word}
-use Rattle.pm_view.specs.Claims.{class}
+use Rattle.pm_view.specs.declared.occ.Occ.TheVariants.{Run, Zone}
+use Rattle.pm_view.specs.Claims.{class, making, run_chunk}
+use Rattle.pm_view.specs.Entries.{latest, redos, turn}
 use Rattle.pm_view.specs.Places.{Block, Small, Big, Root}
+use Rattle.pm_view.specs.Steps.Step.{Occupied, Occupy}
 use Rattle.pm_view.specs.View.{Constants, View}
 use Rattle.pm_world.specs.Causes.{BusyHasCause, Causes, CountsNew, IsCall, NoObjectCause}
-use Rattle.pm_world.specs.Causes.{FilledByLanes, NoSpaceHasCause, all_got, drawn_by, times_missed}
+use Rattle.pm_world.specs.Causes.{FilledByLanes, NoSpaceHasCause, all_got, chunks_got, drawn_by}
+use Rattle.pm_world.specs.Causes.{times_missed}
 use Rattle.pm_world.specs.Crash.{is_kept}
+use Rattle.pm_world.specs.Lanes.{in_flight}
+use Rattle.pm_world.specs.Lawful.{IsLawful, is_mine}
 use Rattle.pm_world.specs.Memory.{Memory, bit}
+use Rattle.pm_world.specs.Moves.{Moves}
 use Rattle.pm_world.specs.Opens.{IsTaken, idle_views, takes}
 use Rattle.pm_world.specs.Runs.{IsRun, IsWorld, LaneStep, Moment}
+use Rattle.pm_world.specs.States.{put1}
 use Rattle.pm_world.specs.World.{Opening, Views, Past, World}
 use Rattle.pm_crash.specs.Footprints.{Footprints, KeepsDecided}
 use Rattle.pm_crash.specs.Images.{OpensPool}
@@ -110,6 +120,122 @@ abbrev pub FullZoneIsGot : Type 0
 FullZoneIsGot = (o : Opening) (views : Views) (zone x n : ℕ) (starts : List ℕ)
     → FilledByLanes o views zone x → HasNoRoom x n → Stretches o zone n 0 starts
     → length starts ≤ all_got zone views o.lanes
+
+-- ---- NoSpace, BY LINES OF SCRIPTS: one is what a lane does from one moment of a run to another
+
+-- how many chunks of a zone a line of lane k got
+abbrev pub got_by_line : ℕ → ℕ → Moment → Moment → ℕ
+got_by_line zone k begun now =
+    chunks_got zone (now.views k).claims - chunks_got zone (begun.views k).claims
+
+-- A LINE THAT GETS NONE: of these steps of all lanes none is lane k's that gets chunks of the zone
+abbrev pub GetsNone : ℕ → ℕ → List LaneStep → Type 0
+GetsNone zone k turns =
+    All (λ (t : LaneStep). t.lane ≡ k → (bits : ℕ) → t.step ≢ Occupy (Zone zone) bits true) turns
+
+abbrev pub LinesGetNone : Type 0
+LinesGetNone = (o : Opening) (turns : List LaneStep) (begun now : Moment)
+    → IsRun o begun turns now
+    → (zone k : ℕ) → GetsNone zone k turns → got_by_line zone k begun now ≡ 0
+
+-- the moments at which a run is cut: lawful steps lead to each from the one before
+unfoldable pub AreCuts : Opening → Moment → List Moment → Moment → Type 0
+AreCuts o old [] new = new ≡ old
+AreCuts o old (next ∷ rest) new =
+    (turns : List LaneStep) × IsRun o old turns next × AreCuts o next rest new
+
+-- how many chunks of a zone lane k's lines got, each of which ends at a cut
+abbrev pub got_by_lines : ℕ → ℕ → Moment → List Moment → ℕ
+got_by_lines zone k old [] = 0
+got_by_lines zone k old (next ∷ rest) = got_by_line zone k old next + got_by_lines zone k next rest
+
+-- and the lines of the first n lanes, each lane's run with its own cuts
+abbrev pub got_by_all_lines : ℕ → Moment → (ℕ → List Moment) → ℕ → ℕ
+got_by_all_lines zone old cuts zero = 0
+got_by_all_lines zone old cuts (suc n) =
+    got_by_all_lines zone old cuts n + got_by_lines zone n old (cuts n)
+
+-- WHAT ALL OTHER LINES GOT so far, for a line of lane k: the other lanes all that they got, lane k
+-- what it had got as this line began
+abbrev pub got_by_others : Opening → ℕ → ℕ → Moment → Moment → ℕ
+got_by_others o zone k begun now = all_got zone (put1 now.views k (begun.views k)) o.lanes
+
+-- it is the sum of what these lines got, however each lane's run from the opening is cut in lines:
+-- lane k's up to where this line began, the others' up to now
+abbrev pub OthersAreLines : Type 0
+OthersAreLines = (o : Opening) (fixed : ℕ → Constants) (generation : ℕ → ℕ)
+    (old begun now : Moment) (cuts : ℕ → List Moment) (zone k : ℕ)
+    → old.views ≡ idle_views fixed generation → AreCuts o old (cuts k) begun
+    → ((j : ℕ) → j ≢ k → AreCuts o old (cuts j) now)
+    → got_by_others o zone k begun now ≡ got_by_all_lines zone old cuts o.lanes
+
+-- with what this line got it is all that the lanes got
+abbrev pub OthersGetTheRest : Type 0
+OthersGetTheRest = (o : Opening) (turns : List LaneStep) (begun now : Moment)
+    → IsRun o begun turns now → (zone k : ℕ) → k < o.lanes
+    → got_by_others o zone k begun now + got_by_line zone k begun now
+    ≡ all_got zone now.views o.lanes
+
+-- A LINE WITHOUT ROOM for n chunks in a row, in a run from an opening: it got no chunk of the zone
+-- so far, and of a word of the zone that its lane saw or made no n bits in a row are clear. The
+-- other lines got at least as many chunks of the zone as it had disjoint stretches of n free ones
+abbrev pub LinesHaveCauses : Type 0
+LinesHaveCauses = (o : Opening) (fixed : ℕ → Constants) (generation : ℕ → ℕ)
+    (turns line : List LaneStep) (old begun now : Moment)
+    → IsWorld o old → IsTaken o old.mem → old.past.length ≡ 0
+    → old.views ≡ idle_views fixed generation
+    → IsRun o old turns begun → IsRun o begun line now
+    → (zone k x n : ℕ) (starts : List ℕ) → zone < o.shape.zones → k < o.lanes
+    → GetsNone zone k line
+    → Contains (now.views k).occupancy (record { at = Zone zone; bits = x })
+    → HasNoRoom x n → Stretches o zone n 0 starts
+    → length starts ≤ got_by_others o zone k begun now
+
+-- ---- A FULL RUN, block by block
+
+-- AN OBJECT STANDS AT AN OFFSET after all entries so far, whichever undecided calls are kept
+abbrev pub ObjectStands : Opening → Past → ℕ → Type 0
+ObjectStands o g off = (keep : ℕ → Bool) → KeepsDecided g keep
+    → (header : Header) (pool : PoolView) (r : HoldsReplay o g keep g.length header pool)
+    → IsSome (object_at r.last.objects off)
+
+-- the lane's call in flight frees the block
+abbrev pub IsFreeing : View → Block → Type 0
+IsFreeing v B =
+    (in_flight v.log.phase ≡ true) × (turn (latest (redos v.log.entries)) B ≡ Some false)
+
+-- BLOCK i OF A RUN IS SOME LANE'S: its own, which it reserved or freed by a decided call; or its
+-- call in flight frees it; or it makes the run
+pub record IsSomeLanes (o : Opening) (views : Views) (c i : ℕ) : Type 0 where
+  pub lane : ℕ
+  pub runs : lane < o.lanes
+  pub is : (is_mine (views lane) (Small c i) ≡ true)
+      ⊎ (IsFreeing (views lane) (Small c i)
+      ⊎ (making (views lane).fixed.shape (views lane).claims c ≡ true))
+
+-- A BIT THAT A LANE FINDS SET in a run's word, of a block of the class that it knows of the run:
+-- an object stands in the block, or the block is some lane's
+abbrev pub FullRuns : Type 0
+FullRuns = (o : Opening) (old new : Memory) (views : Views) (g : Past) (k place found i : ℕ)
+    → World o old views g → k < o.lanes → IsLawful (views k) (Occupied (Run place) found)
+    → Moves k (Occupied (Run place) found) old new
+    → (c : ℕ) → c ≡ run_chunk o.shape place → i < blocks_of (class (views k).claims c)
+    → bit found i ≡ true
+    → ObjectStands o g (offset_by o.shape (class (views k).claims) (Small c i))
+    ⊎ IsSomeLanes o views c i
+
+-- the calls of the first n that are kept lead to a pool with an object at the offset
+pub record LeadsWith (g : Past) (keep : ℕ → Bool) (pool : PoolView) (n off : ℕ) : Type 0 where
+  pub last : PoolView
+  pub replay : Replay pool (kept_calls keep g.drew n) last (kept_pending keep g.drew n)
+  pub some : IsSome (object_at last.objects off)
+
+-- OF EVERY IMAGE: the calls that it does not lose lead to a pool with the object
+abbrev pub ImagesHaveObject : Type 0
+ImagesHaveObject = (o : Opening) (views : Views) (g : Past) (header : Header) (pool : PoolView)
+    (image : List ℕ)
+    → Footprints o header.id views g → HasFacts g → OpensPool o header pool
+    → (off : ℕ) → ObjectStands o g off → LeadsWith g (is_kept o views g image) pool g.length off
 
 -- ---- EACH ANSWER HAS ITS CAUSE in a report
 

@@ -23,7 +23,7 @@ mod scenes;
 mod torn;
 mod writes;
 
-pub use answers::reports_have_causes;
+pub use answers::{lines_without_room_have_causes, reports_have_causes};
 pub use described::descriptors_have_classes;
 pub use footprints::footprints_stand;
 pub use freshness::histories_are_fresh;

@@ -1,21 +1,18 @@
 -- ACTIONS ARE ASKED FOR in a transaction at work: pmemobj_set_value(3) and its kin. A refusal leaves it at work, and is told.
-use Rattle.std.specs.Prelude.{◌≡◌, ◌≢◌, ℕ, ◌%◌, ◌<◌, ◌≤◌, List, length, Option, Some, None, Result, Ok, Err}
-use Rattle.pm_model.specs.Pending.{max_actions, pending_count}
+use Rattle.std.specs.Prelude.{◌≡◌, ◌≢◌, ℕ, ◌%◌, ◌<◌, ◌≤◌, Option, Some, None, Result, Ok, Err}
+use Rattle.pm_model.specs.Pending.{max_actions}
 use Rattle.pm_objects.specs.declared.calls.Operation.{Operation}
 use Rattle.pm_objects.specs.declared.history.Value.{Value}
 use Rattle.pm_objects.specs.declared.history.Value.TheVariants.{Refused}
-use Rattle.pm_objects.specs.declared.ids.Oid.{Oid}
 use Rattle.pm_objects.specs.declared.refusal.Refusal.{Refusal}
 use Rattle.pm_objects.specs.declared.refusal.Refusal.TheVariants as refusal
 use Rattle.pm_view.specs.View.{View}
-use Rattle.pm_world.specs.LaneFields.{Standing, Works, listed, moved}
+use Rattle.pm_world.specs.LaneFields.{Standing, Works}
 use Rattle.pm_world.specs.declared.lane.Lane.{Lane}
-use Rattle.pm_crash.specs.Sim.{lists_of}
-use Rattle.pm_plan.specs.Plans.{Plan, Ready}
+use Rattle.pm_plan.specs.Plans.{Ready}
 use Rattle.pm_call.specs.At.{At}
 use Rattle.pm_call.specs.Did.{IsRefused, IsUnrefused, next, work_refusal}
-use Rattle.pm_call.specs.Held.{Looks}
-use Rattle.pm_call.specs.Plans.{adds, commits_inner, gets, puts, tells}
+use Rattle.pm_call.specs.Plans.{tells}
 
 -- what a word to be set comes to, with so many actions pending
 abbrev pub JudgedSet : ℕ → ℕ → Result (Unit {0}) Refusal → Type 0
