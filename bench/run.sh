@@ -1,7 +1,8 @@
 #!/usr/bin/env bash
 # Times of the program on the least and the largest pool beside `cp` of the same file: the least of five runs, in milliseconds, and how many
 # times `cp` each takes; the times of ten million stores, and of ten thousand blocks reserved, by one lane alone; and those of 51,200,000 steps of
-# a lane on shared words, and how many times a raw step of the kit's table each takes. All are rows of bench/times.csv, which a run makes anew.
+# a lane on shared words, 153,600 where they are ORs, and how many times a raw step of the kit's table each takes. All are rows of bench/times.csv,
+# which a run makes anew.
 # `check` and `info` have limits: of the largest pool 20 times `cp`, and of the least one 1.5 times `/bin/true` and `cp` together. A lane's step is to
 # take at most three times the raw one. A run that passes a limit says so, and ends with status 1. Run it by `make bench`; it is no part of the gate.
 set -euo pipefail
@@ -95,8 +96,9 @@ reserve=$(least "$root/crates/reserve/out/reserve")
 row '' '10000 blocks for objects of 64 bytes in a pool of 32 zones' "$reserve"
 
 # Steps on shared words. The program's start, and that of its pool, are taken off: it is run for one round of 512 steps, and for 100,000 more. A
-# lane's stores have one flush and one drain a round. No OR of a lane is lawful but in a publish, so that of the memory below the lane is timed:
-# the lane adds to it what it adds to the swap of a store. A lock with its release is two changes of its word.
+# lane's stores have one flush and one drain a round. A lock with its release is two changes of its word. A lane may OR only as it applies the log of
+# a call, and the rest of the call is not to count. So the program itself takes the time of each block of 32 ORs by the clock, of a lane's and of raw
+# ones alike, and prints the sum. What the readings of the clock take, 0.8 nanoseconds an OR, is taken off from both.
 (cd crates/pm_lane_bench && rt run -- raw-store 1) >> build/bench.log 2>&1
 
 # least_user COMMAND..: the least processor time of five runs, in microseconds: beside other work on the machine it says more than the clock
@@ -119,14 +121,28 @@ steps() {
   echo $((many - one))
 }
 
+# ors KIND: the least time of a hundred runs that 153,600 ORs of the kind took with the readings of the clock, in nanoseconds: the runs are short, so
+# that other work on the machine leaves some of them alone
+ors() {
+  local best=999999999999 nanos
+  for _ in $(seq 100); do
+    crates/pm_lane_bench/out/pm_lane_bench "$1" 300 > "$folder/out"
+    [ "$(head -n 1 "$folder/out")" = '300 rounds' ]
+    nanos=$(awk 'NR == 2 { print $1 }' "$folder/out")
+    if [ "$nanos" -lt "$best" ]; then best=$nanos; fi
+  done
+  echo "$best"
+}
+
 raw_store=$(steps raw-store)
-raw_or=$(steps raw-or)
 row '' '51200000 raw stores' "$raw_store" "$raw_store"
-row '' '51200000 raw ORs' "$raw_or" "$raw_or"
+clock=$(ors clock)
+raw_or=$((($(ors raw-or) - clock) / 1000))
+row '' '153600 raw ORs' "$raw_or" "$raw_or"
 store=$(steps lane-store)
 row '' '51200000 stores of a lane, beside raw stores' "$store" "$raw_store" $((3 * raw_store))
-or=$(steps shared-or)
-row '' '51200000 ORs of shared words, beside raw ORs' "$or" "$raw_or" $((3 * raw_or))
+or=$((($(ors lane-or) - clock) / 1000))
+row '' '153600 ORs of a lane, beside raw ORs' "$or" "$raw_or" $((3 * raw_or))
 lock=$(steps lane-lock)
 row '' '51200000 locks and releases of a lane, beside raw stores' "$lock" "$raw_store" $((3 * raw_store))
 

@@ -31,7 +31,7 @@ pub after_so : (s : Standing) (P Q : Standing → Type 0) → ((t : Standing) �
 after_so s P Q so a = record { looks = a.looks; view = a.view; looked = a.looked; holds = so (moved s a.view) a.holds }
 
 -- no operation of a lane at work is refused for a stop
-no_stop : (s : Standing) (op : Operation) → At s → IsRefused s op refusal.Stopped → ⊥
+pub no_stop : (s : Standing) (op : Operation) → At s → IsRefused s op refusal.Stopped → ⊥
 no_stop s op is r = both_ways true
     (refusal_traced (tx_with s.view (pool_seen s.view None) (items_seen s.view)) is.lists.works (let e = is.lists.level_is in let l = is.some in omega (arith, e, l)) unseen op refusal.Stopped r.first) refl
 

@@ -60,3 +60,6 @@ pub mod LoggedCommits
 pub mod OpenedCalls
 pub mod RefusedBegins
 pub mod Begins
+pub mod AskedWords
+pub mod LoneActions
+pub mod PublishedWords

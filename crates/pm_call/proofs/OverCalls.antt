@@ -134,7 +134,7 @@ module _ (v : View) (op : Operation) (reply : Option Value) (n : ℕ) where
     own = h.own;
   }
 
-  drawn_now : pending_now (uncalled ended) ≡ pending_now told
+  pub drawn_now : pending_now (uncalled ended) ≡ pending_now told
   unfolding pending_after pending_of
   drawn_now = refl
 

@@ -43,22 +43,22 @@ module _ (s : Standing) (at : At s) where
 
   -- ---- test by test
 
-  works : (nat_le 1 (lists_of s.view).level && not (is_working (lists_of s.view).stage)) ≡ false
+  pub works : (nat_le 1 (lists_of s.view).level && not (is_working (lists_of s.view).stage)) ≡ false
   works = and_right (nat_le 1 (lists_of s.view).level) (not (is_working (lists_of s.view).stage)) (ap not at.lists.works)
 
-  is_open : ((lists_of s.view).level == 0) ≡ false
+  pub is_open : ((lists_of s.view).level == 0) ≡ false
   is_open = let l = at.lists.level_is in let some = at.some in ne_eqb (lists_of s.view).level 0 (λ q. omega (arith, l, some, q))
 
   pub none_new : (off : ℕ) → is_new (lists_of s.view) off ≡ false
   none_new off = ap (list_any (λ (b : Block). b.off == off)) at.lists.blocks.0
 
-  none_gone : (off : ℕ) → is_gone (lists_of s.view) off ≡ false
+  pub none_gone : (off : ℕ) → is_gone (lists_of s.view) off ≡ false
   none_gone off = λ i. is_among (at.lists.blocks.2 i) off || is_among (at.lists.blocks.1 i) off
 
   pub not_held : (id : Oid) (write : Bool) → is_not_held (tx_with s.view (pool_seen s.view None) (items_seen s.view)) write id ≡ not (is_held_so s id write)
   not_held id write = λ i. not (id.pool == s.view.fixed.pool && (none_new id.off i || at.lists.locks id.off write i))
 
-  passes : (id : Oid) (end : ℕ) → nat_lt (size_of (items_seen s.view) id.off) end ≡ nat_lt (size_or_none s.view id.off) end
+  pub passes : (id : Oid) (end : ℕ) → nat_lt (size_of (items_seen s.view) id.off) end ≡ nat_lt (size_or_none s.view id.off) end
   passes id end = ap (λ n. nat_lt n end) (size_is (size_seen s.view id.off))
 
   -- ---- all of them
@@ -119,10 +119,10 @@ module _ (s : Standing) (at : At s) where
   of_one id other (zero, low, e) = e
   of_one id other (suc i, low, e) = absurd (omega (arith, low))
 
-  abbrev AskedSize : Oid → Type 0
+  abbrev pub AskedSize : Oid → Type 0
   AskedSize id = (write : Bool) → is_not_held (tx_with s.view (pool_seen s.view None) (items_seen s.view)) write id ≡ false → KnowsSize s.view [] id.off
 
-  asked : (id : Oid) → IsSizedIfHeld s id → AskedSize id
+  pub asked : (id : Oid) → IsSizedIfHeld s id → AskedSize id
   asked id sized write h = one_size id write sized (not_false (is_held_so s id write) (sym (not_held id write) ∙ h))
 
   looked : (op : Operation) (id : Oid) (off len : ℕ) (write : Bool) → IsRangeOf op id off len write → IsSizedIfHeld s id → LookedAt s.view (entries_so_far s) None op

@@ -21,3 +21,5 @@ pub mod WantedTried
 pub mod WantedTaken
 pub mod LockOps
 pub mod Commits
+pub mod Outside
+pub mod Publishing

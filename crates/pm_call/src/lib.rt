@@ -3,13 +3,14 @@
 //!
 //! Promises, over any lawful memory and whatever other lanes do, that a transaction that is given up
 //! makes exactly the memory calls of its plan, or the first of them up to the lane's stop; and laws
-//! of data: from which views it may be given up or committed, and that the call is over then; and that
-//! a lane at work may lock objects, whose locks it tries and under which it looks for them. Of the
-//! begin of an outermost level: that the call opens, and its locks are waited for; and that one that
-//! is refused for them is told, and ends its call. Of a range of an object: that its checks find the
-//! plain model's first reason or what the operation asks, and that it is recorded, written and read
-//! by the calls of its plan. It stands on `pm_undo` for putting words back, on `pm_redo` for logs of
-//! published words, on `pm_lock` for objects under their locks, on `pm_crash` for what the call owes
+//! of data: from which views it may be given up or committed, and that the call is over then; that a
+//! lane at work may lock objects, whose locks it tries and under which it looks for them; and that it
+//! may publish or cancel the words that it has pending. Of the begin of an outermost level: that the
+//! call opens, and its locks are waited for; and that one that is refused for them is told, and ends
+//! its call. Of a range of an object: that its checks find the plain model's first reason or what the
+//! operation asks, and that it is recorded, written and read by the calls of its plan. It stands on
+//! `pm_undo` for putting words back, on `pm_redo` for logs of published words, on `pm_lock` for
+//! objects under their locks, on `pm_crash` for what the call owes
 //! the plain model; docs/FORMAT.md, "Sequences".
 #![tactic(auto)]
 
@@ -22,6 +23,8 @@ mod laws;
 mod lock_ops;
 mod locking;
 mod opening;
+mod outside;
+mod publishing;
 mod ranges;
 mod reading;
 mod rollback;
@@ -46,6 +49,11 @@ pub use locking::{
 };
 pub use opening::{
     begin_outermost, open_call, refusals_of_begins_are_the_models, refused_begins_end,
+};
+pub use outside::{actions_may_be_told, end_outside};
+pub use publishing::{
+    pending_words_are_looked_at, pending_words_may_be_cancelled, pending_words_may_be_published,
+    refusals_of_publish_are_the_models,
 };
 pub use ranges::{ranges_are_looked_at, refusals_of_ranges_are_the_models};
 pub use reading::{do_read, ranges_may_be_read};

@@ -1,47 +1,36 @@
--- What a lane that stores words of the pool's first chunk may do, and what it is then; and steps that leave the table as it was.
-use Rattle.std.proofs.Common.{◌≡◌, ℕ, ◌+◌, ◌^◌, ◌<◌, ◌≤◌, Bool, true, false, not, cond, ◌&&◌, List, [], ◌∷◌, length, slice_index, slice_set, bit_or, Some, refl, sym, ap, ◌∙◌, subst, arith}
+-- What a lane that changes words of the pool's first chunk may do, and what it is then; and steps of a table whose rule says nothing.
+use Rattle.std.proofs.Common.{◌≡◌, ℕ, ◌+◌, ◌^◌, ◌<◌, ◌≤◌, ◌==◌, Bool, true, false, not, cond, ◌&&◌, List, [], ◌∷◌, length, None, Some, refl, sym, ap, ◌∙◌, subst, arith}
 use Rattle.std.specs.Bool.{OnTrue}
-use Rattle.std.specs.Int.Bits.{or_zero_r}
-use Rattle.atomic_table.proofs.Lists.{set_again}
+use Rattle.std.specs.List.{list_any}
 use Rattle.atomic_table.specs.Table.{Me, keeps, Allows}
 use Rattle.pm_layout.specs.Chunks.{word_of_chunk}
 use Rattle.pm_layout.specs.declared.shape.Shape.{Shape}
 use Rattle.pm_memory.specs.Runs.{AnyStep, Made}
+use Rattle.pm_plan.specs.Notes.{DrainedTo, HasNoted, Valued}
+use Rattle.pm_plan.proofs.Notes.{class_same, first_same, making_same, mine_same}
 use Rattle.pm_shared.specs.declared.rule.Beginning.{Beginning}
-use Rattle.pm_shared.specs.Openings.{TableAllows, opening_of, idle_view}
-use Rattle.pm_shared.specs.Rule.{Knowledge, Ruled}
+use Rattle.pm_shared.specs.Openings.{idle_view}
 use Rattle.pm_shared.specs.Seats.{Seated, IsSeen, IsAllowed}
-use Rattle.pm_shared.proofs.Looks.{set_same}
 use Rattle.pm_view.specs.Bits.{all_bits}
 use Rattle.pm_view.specs.Changes.{Undrained, is_in_line, mark, flushed, drained}
-use Rattle.pm_view.specs.Claims.{class, making, mine, first, last_first, span, within_span, geometry}
+use Rattle.pm_view.specs.Claims.{Drained, Reserved, block_in, class, first, is_block_of, making, mine, passes, pictured}
 use Rattle.pm_view.specs.Counts.{FlushesSome, DropsSome, MayCount}
 use Rattle.pm_view.specs.Founds.{Found}
-use Rattle.pm_view.specs.Log.{Phase, Idle, log_stored, place_at}
+use Rattle.pm_view.specs.Log.{Phase, Idle, is_early, log_drained, log_stored, place_at}
 use Rattle.pm_view.specs.Parts.{Part, ChunkPart, part_of, pool_part, place_in, chunk_place}
 use Rattle.pm_view.specs.Places.{InHuge, Big}
 use Rattle.pm_view.specs.Steps.{Step}
 use Rattle.pm_view.specs.Steps.Step.{Store, Flush, Drain, ZoneTry, Occupy}
-use Rattle.pm_view.specs.View.{View}
-use Rattle.pm_view.specs.Views.{after, part_in, was_in, marked_by, changed_from, drained_to}
+use Rattle.pm_view.specs.View.{View, Constants}
+use Rattle.pm_view.specs.Views.{after, part_in, value_in, was_in, marked_by, changed_from, decided_by, drained_to}
 use Rattle.pm_view.specs.declared.occ.Occ.TheVariants.{Zone}
 use Rattle.pm_world.proofs.WordPlaces.{chunk_part}
-use Rattle.pm_world.specs.Lawful.{MayFill, StoreFits}
-use Rattle.pm_lane_bench.specs.Lanes.{IsUnasked, OwnsChunk, AreOfSecondLine, Fills}
+use Rattle.pm_world.specs.Lawful.{Allowed, MayFill, StoreFits}
+use Rattle.pm_lane_bench.specs.Lanes.{AreOfSecondLine, CanReserve, Fills, HasChunk, OwnsChunk, with_chunk}
 
--- ---- TABLES: where the rule says nothing, and where the step changes nothing
+-- ---- TABLES whose rule says nothing
 pub any_step : (slots id : ℕ) (me : Me ℕ (Unit {0})) (i : ℕ) (f : ℕ → ℕ) → Allows (λ _. Unit {0}) slots id me i f (λ _ _. Unit {0})
 any_step slots id me i f s holds homes here fits = (tt, keeps, tt, tt, tt)
-
-pub no_change : (b : Beginning) (id : ℕ) (me : Me ℕ Knowledge) (i : ℕ) → TableAllows b id me i (λ n. bit_or n 0) (λ _ _. Unit {0})
-no_change b id me i s holds homes here fits = (
-  me.0,
-  keeps,
-  tt,
-  subst (λ (words : List ℕ). Ruled (opening_of b) record { words = words; homes = s.homes; views = slice_set s.views id me.0 }) (sym (ap (slice_set s.words i) (or_zero_r (slice_index s.words i)) ∙ set_same s.words i))
-      (subst (λ (views : List Knowledge). Ruled (opening_of b) record { words = s.words; homes = s.homes; views = views }) (sym (set_again s.views id me.0 here)) holds),
-  tt,
-)
 
 -- ---- THE WORD
 pool_word : (sh : Shape) → sh.lanes ≡ 2 → pool_part sh 3080 ≡ ChunkPart 0 8
@@ -51,63 +40,72 @@ pool_word sh two = let from = sh.zones_from in let e : 3080 ≡ word_of_chunk sh
 data_part : (sh : Shape) → sh.lanes ≡ 2 → part_of sh 0 3080 ≡ ChunkPart 0 8
 data_part sh two = pool_word sh two
 
-module _ (v : View) (o : OwnsChunk v) where
+module _ (v : View) (h : HasChunk v) where
   part_is : part_in v 3080 ≡ ChunkPart 0 8
-  part_is = ap (λ k. part_of v.fixed.shape k 3080) o.lane_is ∙ data_part v.fixed.shape o.two_lanes
+  part_is = ap (λ k. part_of v.fixed.shape k 3080) h.lane_is ∙ data_part v.fixed.shape h.two_lanes
 
-  one_way : (b : Bool) (n : ℕ) → cond b n n ≡ n
-  one_way true n = refl
-  one_way false n = refl
+  pub place_is : place_at v.fixed.shape (class v.claims) 3080 ≡ Some (InHuge 0 8)
+  place_is = ap (place_in (class v.claims)) (pool_word v.fixed.shape h.two_lanes) ∙ ap (λ cl. Some (chunk_place cl 0 8)) h.no_run
 
-  first_is : first v.fixed.shape v.claims 0 ≡ 0
-  first_is = ap (λ f. within_span v.fixed.shape v.claims f 0) o.from_itself ∙ one_way _ 0
+  pub own_block : mine v.fixed.shape v.claims (Big (first v.fixed.shape v.claims 0)) ≡ true
+  own_block = ap (λ f. mine v.fixed.shape v.claims (Big f)) h.from_itself ∙ h.own
 
+  -- claims that tell nothing new of blocks leave the chunk
+  pub chunk_noted : (w : View) → w.fixed ≡ v.fixed → HasNoted v w → HasChunk w
+  chunk_noted w same n = record {
+    two_lanes = ap (λ (f : Constants). f.shape.lanes) same ∙ h.two_lanes;
+    lane_is = ap (λ (f : Constants). f.lane) same ∙ h.lane_is;
+    no_run = ap (λ t. class t 0) n.are
+        ∙ (ap (λ (of : ℕ → ℕ). of 0) (class_same n.notes v.claims) ∙ h.no_run);
+    unmaking = λ c. ap (λ (f : Constants). making f.shape w.claims c) same
+        ∙ (ap (λ t. making v.fixed.shape t c) n.are
+        ∙ making_same v.fixed.shape n.notes v.claims n.each h.unmaking c);
+    own = ap (λ (f : Constants). mine f.shape w.claims (Big 0)) same
+        ∙ (ap (λ t. mine v.fixed.shape t (Big 0)) n.are
+        ∙ (mine_same v.fixed.shape n.notes v.claims n.each (Big 0) ∙ h.own));
+    from_itself = ap (λ (f : Constants). first f.shape w.claims 0) same
+        ∙ (ap (λ t. first v.fixed.shape t 0) n.are
+        ∙ (ap (λ (of : ℕ → ℕ). of 0) (first_same v.fixed.shape n.notes v.claims) ∙ h.from_itself));
+  }
+
+module _ (v : View) (o : OwnsChunk v) where
   may_fill : MayFill v 3080
   may_fill = record {
     place = InHuge 0 8;
-    at = ap (place_in (class v.claims)) (pool_word v.fixed.shape o.two_lanes) ∙ ap (λ cl. Some (chunk_place cl 0 8)) o.no_run;
+    at = place_is v o.chunk;
     plain = refl;
-    own = ap (λ f. mine v.fixed.shape v.claims (Big f)) first_is ∙ o.own;
+    own = own_block v o.chunk;
     unentered = o.unentered;
   }
 
   store_fits : (x : ℕ) → StoreFits v 3080 x v.log.phase (part_in v 3080)
-  store_fits x = subst (λ (ph : Phase). StoreFits v 3080 x ph (part_in v 3080)) (sym o.idle) (subst (λ (p : Part). StoreFits v 3080 x Idle p) (sym part_is) may_fill)
+  store_fits x = subst (λ (ph : Phase). StoreFits v 3080 x ph (part_in v 3080)) (sym o.idle) (subst (λ (p : Part). StoreFits v 3080 x Idle p) (sym (part_is v o.chunk)) may_fill)
 
   -- the view after a store
   abbrev filled : ℕ → View
   filled x = changed_from v 3080 all_bits (was_in v 3080) x v.claims v.log
 
   filled_is : (x : ℕ) → after v (Store 3080 x) ≡ filled x
-  filled_is x = ap (λ (ph : Phase). go ph (part_in v 3080)) o.idle ∙ ap (go Idle) part_is
+  filled_is x = ap (λ (ph : Phase). go ph (part_in v 3080)) o.idle ∙ ap (go Idle) (part_is v o.chunk)
     where
       go : Phase → Part → View
       go ph p = changed_from v 3080 all_bits (was_in v 3080) x (marked_by ph p x v.claims) (log_stored v.fixed.shape (class v.claims) ph p x v.log)
 
   pub owns_filled : (x : ℕ) → OwnsChunk (filled x)
-  owns_filled x = record { two_lanes = o.two_lanes; lane_is = o.lane_is; idle = o.idle; unentered = o.unentered; no_run = o.no_run; not_in_making = o.not_in_making; own = o.own; from_itself = o.from_itself }
+  owns_filled x = record { chunk = chunk_noted v o.chunk (filled x) refl (record { notes = Valued 3080 x ∷ []; are = refl; each = (tt, tt) }); idle = o.idle; unentered = o.unentered }
 
   -- the view after a drain that leaves nothing
   abbrev emptied : View
-  emptied = record v { claims = Rattle.pm_view.specs.Claims.Drained [] ∷ v.claims; changes = []; calls = v.calls + 1 }
+  emptied = record v { claims = Drained [] ∷ v.claims; changes = []; calls = v.calls + 1 }
 
   emptied_is : drained v.changes ≡ [] → after v Drain ≡ emptied
   emptied_is none = ap (drained_to v) none ∙ ap go o.idle
     where
       go : Phase → View
-      go ph = record v { claims = Rattle.pm_view.specs.Views.decided_by ph v.log.entries (Rattle.pm_view.specs.Claims.Drained [] ∷ v.claims); changes = []; calls = v.calls + 1; log = Rattle.pm_view.specs.Log.log_drained ph v.log }
+      go ph = record v { claims = decided_by ph v.log.entries (Drained [] ∷ v.claims); changes = []; calls = v.calls + 1; log = log_drained ph v.log }
 
   owns_emptied : OwnsChunk emptied
-  owns_emptied = record {
-    two_lanes = o.two_lanes;
-    lane_is = o.lane_is;
-    idle = o.idle;
-    unentered = o.unentered;
-    no_run = o.no_run;
-    not_in_making = refl;
-    own = ap (λ t. not (t && true) && mine v.fixed.shape v.claims (Big 0)) o.not_in_making ∙ o.own;
-    from_itself = o.from_itself;
-  }
+  owns_emptied = record { chunk = chunk_noted v o.chunk emptied refl (record { notes = DrainedTo [] ∷ []; are = refl; each = (o.chunk.unmaking, tt) }); idle = o.idle; unentered = o.unentered }
 
 -- ---- STORES
 -- a counted step was made
@@ -115,7 +113,7 @@ abbrev pub Done : Seated → Seated → Step → Type 0
 Done s new step = (v : View) → IsSeen s v → AnyStep v step → IsSeen new (after v step) × Found v step × MayCount v
 
 pub may_store : (s : Seated) (n x : ℕ) → n < 512 → x < 2 ^ 64 → Fills s n → IsAllowed s (Store 3080 x)
-may_store s n x few small f = let two = f.owns.two_lanes in let count = f.count in
+may_store s n x few small f = let two = f.owns.chunk.two_lanes in let count = f.count in
     record { view = f.view; seen = f.seen; allowed = record { inside = omega (arith, two); room = omega (arith, count, few); small = small; fits = store_fits f.view f.owns x } }
 
 pub stored : (s new : Seated) (n x : ℕ) → Fills s n → Done s new (Store 3080 x) → Fills new (n + 1)
@@ -158,7 +156,7 @@ pub marked : (s new : Seated) (n : ℕ) → 1 ≤ n → Fills s n → Done s new
 marked s new n some f made = let m = made f.view f.seen tt in let count = f.count in let o = f.owns in record {
   view = after f.view (Flush 385);
   seen = m.0;
-  owns = record { two_lanes = o.two_lanes; lane_is = o.lane_is; idle = o.idle; unentered = o.unentered; no_run = o.no_run; not_in_making = o.not_in_making; own = o.own; from_itself = o.from_itself };
+  owns = record { chunk = chunk_noted f.view o.chunk (after f.view (Flush 385)) refl (record { notes = []; are = refl; each = tt }); idle = o.idle; unentered = o.unentered };
   some = drops_some f.view.changes (omega (arith, count, some)) f.unflushed;
   none = none_left f.view.changes f.unflushed;
 }
@@ -176,18 +174,72 @@ emptied_all s new f made = let m = made f.view f.seen tt in record {
 }
 
 -- ---- THE CHUNK IS RESERVED
-pub zoned : (s new : Seated) (f : IsUnasked s) → Made AnyStep (IsSeen s) (IsSeen new) (ZoneTry 0 true) → IsSeen new (after (idle_view f.opening 0) (ZoneTry 0 true))
-zoned s new f made = (made (idle_view f.opening 0) f.seen tt).0
+module _ (v : View) (can : CanReserve v) where
+  pub may_try : (won : Bool) → Allowed v (ZoneTry 0 won)
+  may_try won = let from = v.fixed.shape.zones_from in record {
+    inside = omega (arith, from);
+    free = ap (list_any (λ other. other == 0)) can.unlocked;
+    early = ap is_early can.idle;
+  }
 
-pub may_occupy : (s : Seated) (b : Beginning) → IsSeen s (after (idle_view b 0) (ZoneTry 0 true)) → (won : Bool) → IsAllowed s (Occupy (Zone 0) 1 won)
-may_occupy s b seen won = let from = b.shape.zones_from in record { view = after (idle_view b 0) (ZoneTry 0 true); seen = seen; allowed = record { there = omega (arith, from); one = (0, 1, omega arith, omega arith, refl); open_ = refl; early = refl } }
+  pub may_occupy : (won : Bool) → Allowed (after v (ZoneTry 0 true)) (Occupy (Zone 0) 1 won)
+  may_occupy won = let from = v.fixed.shape.zones_from in record {
+    there = omega (arith, from);
+    one = (0, 1, omega arith, omega arith, refl);
+    open_ = refl;
+    early = ap is_early can.idle;
+  }
 
-pub reserved : (s new : Seated) (b : Beginning) → b.shape.lanes ≡ 2 → IsSeen s (after (idle_view b 0) (ZoneTry 0 true)) → (won : Bool) → Made AnyStep (IsSeen s) (IsSeen new) (Occupy (Zone 0) 1 won) → OnTrue won (Fills new 0)
-reserved s new b two seen true made = let m = made (after (idle_view b 0) (ZoneTry 0 true)) seen tt in record {
-  view = after (after (idle_view b 0) (ZoneTry 0 true)) (Occupy (Zone 0) 1 true);
-  seen = m.0;
-  owns = record { two_lanes = two; lane_is = refl; idle = refl; unentered = refl; no_run = refl; not_in_making = refl; own = refl; from_itself = refl };
-  count = refl;
-  unflushed = tt;
+  pub owns_reserved : OwnsChunk (with_chunk v)
+  owns_reserved = record {
+    chunk = record {
+      two_lanes = can.two_lanes;
+      lane_is = can.lane_is;
+      no_run = can.no_run;
+      unmaking = can.unmaking;
+      own = refl;
+      from_itself = refl;
+    };
+    idle = can.idle;
+    unentered = can.unentered;
+  }
+
+  -- a word that is no place is known as it was
+  pub known_reserved : (w : ℕ) → place_at v.fixed.shape (class v.claims) w ≡ None
+      → value_in (with_chunk v) w ≡ value_in v w
+  known_reserved w none = ap (λ p. cond
+      (passes (λ B. is_block_of v.fixed.shape (Zone 0) 1 B && not (mine v.fixed.shape v.claims B))
+      (block_in v.fixed.shape (Reserved (Zone 0) 1 ∷ v.claims) p 64))
+      None (pictured v.fixed.shape v.claims w)) none
+
+pub unasked : (b : Beginning) → b.shape.lanes ≡ 2 → CanReserve (idle_view b 0)
+unasked b two = record {
+  two_lanes = two;
+  lane_is = refl;
+  idle = refl;
+  unentered = refl;
+  drained = refl;
+  unlocked = refl;
+  no_run = refl;
+  unmaking = λ c. refl;
 }
-reserved s new b two seen false made = tt
+
+pub fills_none : (s : Seated) (v : View) → CanReserve v → IsSeen s (with_chunk v) → Fills s 0
+fills_none s v can seen = record {
+  view = with_chunk v;
+  seen = seen;
+  owns = owns_reserved v can;
+  count = ap length can.drained;
+  unflushed = subst AreOfSecondLine (sym can.drained) tt;
+}
+
+-- the chunk is reserved where the zone's lock was got and its bit
+pub got_both : (may : View → Step → Type 0) (old mid new : View → Type 0)
+    → ((v : View) (step : Step) → Allowed v step → may v step) → Made may old mid (ZoneTry 0 true)
+    → (won : Bool) → Made may mid new (Occupy (Zone 0) 1 won)
+    → OnTrue won ((v : View) → old v → CanReserve v → new (with_chunk v))
+got_both may old mid new grants tried false taken = tt
+got_both may old mid new grants tried true taken = λ v there can.
+    let zoned : View = after v (ZoneTry 0 true) in
+    (taken zoned (tried v there (grants v (ZoneTry 0 true) (may_try v can true))).0
+    (grants zoned (Occupy (Zone 0) 1 true) (may_occupy v can true))).0

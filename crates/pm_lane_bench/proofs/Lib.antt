@@ -1,1 +1,4 @@
 pub mod Fillings
+pub mod Calls
+pub mod Timed
+pub mod CallLanes

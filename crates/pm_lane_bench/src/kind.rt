@@ -5,8 +5,8 @@ pub enum Kind {
     RawStore,
     /// An OR of the kit's table.
     RawOr,
-    /// An OR of the words that lanes share.
-    SharedOr,
+    /// Nothing: the clock alone is read, as often as for ORs.
+    Clock,
     /// A step of a lane.
     Lane(LaneStep),
 }
@@ -16,6 +16,8 @@ pub enum Kind {
 pub enum LaneStep {
     /// It stores a word; after each 512 stores it flushes the line and drains.
     Store,
+    /// It sets a bit of a word, 32 times as it applies the log of a call.
+    Or,
     /// It takes a line's lock for writing, and gives it back.
     Lock,
 }
@@ -34,8 +36,9 @@ impl Kind {
         match name {
             "raw-store" => Some(Kind::RawStore),
             "raw-or" => Some(Kind::RawOr),
-            "shared-or" => Some(Kind::SharedOr),
+            "clock" => Some(Kind::Clock),
             "lane-store" => Some(Kind::Lane(LaneStep::Store)),
+            "lane-or" => Some(Kind::Lane(LaneStep::Or)),
             "lane-lock" => Some(Kind::Lane(LaneStep::Lock)),
             _ => None,
         }

@@ -1,49 +1,70 @@
 ghost use Rattle.std.specs.Prelude.{◌≡◌, [], true, false, OnOk};
 ghost use Rattle.std.specs.Bool.{OnTrue};
-ghost use Rattle.pm_lane_bench.specs.Lanes.{IsUnasked, Fills};
+ghost use Rattle.pm_view.specs.View.{View};
+ghost use Rattle.pm_lane_bench.specs.Lanes.{CanReserve, Fills, IsUnasked, with_chunk};
 ghost use Rattle.pm_shared.specs.Openings.{pool_of};
 ghost use Rattle.pm_shared.specs.TestLanes.{Rests};
 
 use crate::kind::LaneStep;
-use crate::pool::beginning;
+use crate::ors::ors;
+use crate::pool::{POOL, beginning};
 use crate::{Failure, ROUND};
+use pm_layout::Shape;
 use pm_memory::{LaneMem, LaneSync, Stopped};
 use pm_shared::{PoolSeat, SharedLane, SharedMem, TableName};
 use pm_view::Occ;
-use std::alloc::Global;
+use pm_world::{Lane, LawfulMem};
 use std::marker::Brand;
+use std::time::Duration;
 
 /// The line whose lock is taken.
 const LOCKED: u64 = 100;
 
-/// The second line of the pool's first chunk, and its first word.
+/// The second line of the pool's first chunk.
 const LINE: u64 = 385;
 
-const WORD: u64 = 3080;
+/// The first word of that line.
+pub const WORD: u64 = 3080;
 
-/// Makes the rounds on the pool's first lane.
-pub fn on_lane(alloc: Global, rounds: u64, step: LaneStep) -> Result<(), Failure> {
-    let (memory, pool) = SharedMem::new(alloc, beginning(alloc)?)?;
-    on_first::<Brand>(alloc, &memory, pool, rounds, step)
+/// Makes the rounds on the pool's first lane. Where the steps are timed apart from what a lane does
+/// besides, it tells how long they took.
+pub fn on_lane(rt: &HostRuntime, rounds: u64, step: LaneStep) -> Result<Option<Duration>, Failure> {
+    let beginning = beginning(rt.alloc())?;
+    let shape = beginning.shape;
+    let (memory, pool) = SharedMem::new(rt.alloc(), beginning)?;
+    on_first::<Brand>(rt, &memory, pool, shape, rounds, step)
 }
 
 fn on_first<N: TableName>(
-    alloc: Global,
+    rt: &HostRuntime,
     memory: &SharedMem,
     pool: PoolSeat,
+    shape: Shape,
     rounds: u64,
     step: LaneStep,
-) -> Result<(), Failure>
+) -> Result<Option<Duration>, Failure>
     requires name { memory.now.table.shared.table_id ≡ N.table }
     requires table { pool.table_id ≡ N.table }
     requires lanes { (memory.now.table.shared.key.lanes ≡ 2) × (memory.now.table.shared.key.shape.lanes ≡ 2) }
+    requires id { memory.now.table.shared.key.pool ≡ 7 }
+    requires shape { memory.now.table.shared.key.shape ≡ shape }
     requires pool { pool.me ≡ pool_of memory.now.table.shared.key 0 [] }
 {
     let mut pool = pool;
-    let mut lane = memory.split::<N>(alloc, &mut pool, 0)?;
+    let mut lane = memory.split::<N>(rt.alloc(), &mut pool, 0)?;
     match step {
-        LaneStep::Store => stores(&mut lane, rounds),
-        LaneStep::Lock => locks(&mut lane, rounds),
+        LaneStep::Store => {
+            stores(&mut lane, rounds)?;
+            Ok(None)
+        }
+        LaneStep::Or => {
+            let mut lane = Lane::new(rt.alloc(), lane, POOL, shape)?;
+            Ok(Some(ors(rt, &mut lane, rounds)?))
+        }
+        LaneStep::Lock => {
+            locks(&mut lane, rounds)?;
+            Ok(None)
+        }
     }
 }
 
@@ -84,12 +105,13 @@ fn stores<N: TableName>(lane: &mut SharedLane<'_, N>, rounds: u64) -> Result<(),
 }
 
 /// Reserves the pool's first chunk, and tells whether it did.
-fn reserve<N: TableName>(lane: &mut SharedLane<'_, N>) -> bool
-    requires { IsUnasked lane.old }
-    ensures { OnTrue result (Fills lane.new 0) }
+pub fn reserve<M: LawfulMem>(mem: &mut M) -> bool
+    requires { (v : View) × M.at mem.old v × CanReserve v }
+    ensures { OnTrue result
+        ((v : View) → M.at mem.old v → CanReserve v → M.at mem.new (with_chunk v)) }
 {
-    if lane.zone_try(0) {
-        lane.occupy(Occ::Zone(0), 1)
+    if mem.zone_try(0) {
+        mem.occupy(Occ::Zone(0), 1)
     } else {
         false
     }

@@ -1,25 +1,32 @@
 //! The program that `make bench` times: one kind of step, so many rounds of 512 steps, on the kit's table
 //! of atomic words or through a lane of a pool without objects.
 //!
-//! Promises whoever times it that each step is made: the lane's contract is that of `pm_shared`. It prints
-//! how many rounds it made.
+//! Promises whoever times it that each step is made: the lane's contract is that of `pm_shared`, and
+//! its ORs apply the logs of calls, as those of `pm_redo` do. It prints how many rounds it made, and
+//! how long ORs took.
 #![tactic(auto)]
 
+mod clock;
 mod kind;
 mod lane;
+mod ors;
 mod pool;
 mod raw;
-mod shared;
 
 use crate::kind::{Asked, Kind};
 use pm_layout::BadShape;
 use pm_memory::Stopped;
-use std::alloc::{AllocError, Global};
+use pm_objects::Refusal;
+use std::alloc::AllocError;
 use std::process::ExitCode;
+use std::time::Duration;
 use std::{env, io};
 
 /// The steps of a round.
 pub const ROUND: u64 = 512;
+
+/// The ORs that are timed together.
+pub const BLOCK: u64 = 32;
 
 /// Words that ask for nothing, no memory, or a step that was not made.
 #[derive(Debug, Drop)]
@@ -43,6 +50,12 @@ impl From<BadShape> for Failure {
     }
 }
 
+impl From<Refusal> for Failure {
+    fn from(_refusal: Refusal) -> Failure {
+        Failure
+    }
+}
+
 impl From<Stopped> for Failure {
     fn from(_stopped: Stopped) -> Failure {
         Failure
@@ -51,27 +64,36 @@ impl From<Stopped> for Failure {
 
 fn main(rt: HostRuntime) -> ExitCode {
     match run(&rt) {
-        Ok(rounds) if println!(rt; "{rounds} rounds").is_ok() => ExitCode::SUCCESS,
-        _ => ExitCode::FAILURE,
+        Ok(()) => ExitCode::SUCCESS,
+        Err(_) => ExitCode::FAILURE,
     }
 }
 
-/// Makes the rounds that the command line asks for, and tells how many they were.
-fn run(rt: &HostRuntime) -> Result<u64, Failure> {
+/// Makes the rounds that the command line asks for, and prints how many they were; of ORs, too, how
+/// long they took with the readings of the clock.
+fn run(rt: &HostRuntime) -> Result<(), Failure> {
     let words: Vec<String> = env::args(rt)?.collect(rt.alloc())?;
     let Some(asked) = Asked::of_words(&words) else {
         return Err(Failure);
     };
-    make(rt.alloc(), asked.kind, asked.rounds)?;
-    Ok(asked.rounds)
+    let took = make(rt, asked.kind, asked.rounds)?;
+    println!(rt; "{} rounds", asked.rounds)?;
+    if let Some(took) = took {
+        println!(rt; "{} nanoseconds", took.as_nanos())?;
+    }
+    Ok(())
 }
 
-/// Makes so many rounds of the steps of this kind.
-fn make(alloc: Global, kind: Kind, rounds: u64) -> Result<(), Failure> {
+/// Makes so many rounds of the steps of this kind, and tells how long ORs took with the readings of
+/// the clock.
+fn make(rt: &HostRuntime, kind: Kind, rounds: u64) -> Result<Option<Duration>, Failure> {
     match kind {
-        Kind::RawStore => raw::stores(alloc, rounds),
-        Kind::RawOr => raw::ors(alloc, rounds),
-        Kind::SharedOr => shared::ors(alloc, rounds),
-        Kind::Lane(step) => lane::on_lane(alloc, rounds, step),
+        Kind::RawStore => {
+            raw::stores(rt.alloc(), rounds)?;
+            Ok(None)
+        }
+        Kind::RawOr => Ok(Some(raw::ors(rt, rounds)?)),
+        Kind::Clock => Ok(Some(clock::readings(rt, rounds)?)),
+        Kind::Lane(step) => lane::on_lane(rt, rounds, step),
     }
 }

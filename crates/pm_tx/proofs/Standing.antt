@@ -24,7 +24,6 @@ use Rattle.pm_call.specs.GivenUp.{WasGivenUp}
 use Rattle.pm_call.specs.Plans.{commits, commits_inner, gives_up, tells}
 use Rattle.pm_call.specs.Stages.{Ended, EndedAs, EndedBy, EndedSo, IsLanePast, IsPastAt, Leaves, at_level, closed, end_refusal, fields_past, next_stage, stage_end_refusal, unlisted}
 use Rattle.pm_call.proofs.OpenedCalls.{between_may_open}
-use Rattle.pm_tx.specs.Actions.{Asked, AskedAs, AskedSo}
 use Rattle.pm_tx.specs.Commits.{InnerEnds, LevelCommitted, LevelCommittedSo, LevelEnds, OutermostEnds, PassedSo, Processed, ProcessedFrom}
 use Rattle.pm_tx.specs.Outcome.{Aborted, AbortedAs, AbortedSo}
 use Rattle.pm_tx.specs.Standing.{Stands}
@@ -198,25 +197,6 @@ module _ {M : Type 0} (at : M → View → Type 0) (old new : Lane M) where
           let here = stands.work none in
           let t = d here.standing here.works here.stands in
           ends_stands (moved here.standing t.view) here.stands.some here.stands.most result t.holds
-
-  -- ---- an action that is asked for
-
-  told_stands : (op : Operation) (s : Standing) (result : Result (Unit {0}) Refusal)
-      → AskedAs at new op result s → Stands at new
-  told_stands op s (Ok done) a = working_stands at new (next s (tells op None)) a.1.works a.1.stands
-  told_stands op s (Err r) a =
-      working_stands at new (next s (tells op (Some (Refused r)))) a.1.works a.1.stands
-
-  pub asked_stands : (op : Operation) (result : Result (Unit {0}) Refusal) → Stands at old
-      → Asked at old new op result → Stands at new
-  unfolding Asked
-  asked_stands op result stands asked = by (work_refusal old) refl asked where
-    by : (w : Option Refusal) → work_refusal old ≡ w → AskedSo w at old new op result
-        → Stands at new
-    by (Some r) some d = same_stands stands d.1
-    by None none d =
-        let here = stands.work none in
-        told_stands op here.standing result (d here.standing here.works here.stands)
 
   -- ---- a commit
 

@@ -14,7 +14,6 @@ use Rattle.pm_call.specs.Did.{Did, IsAt, work_refusal}
 use Rattle.pm_call.specs.Plans.{adds, gets, puts}
 use Rattle.pm_call.specs.Reading.{HasRead}
 use Rattle.pm_call.specs.Stages.{Ended, IsLanePast, end_refusal}
-use Rattle.pm_tx.specs.Actions.{Asked}
 use Rattle.pm_tx.specs.Commits.{LevelCommitted, Processed}
 use Rattle.pm_tx.specs.Outcome.{Aborted}
 
@@ -46,11 +45,6 @@ ReadsKeepStanding at =
     (id : Oid) (off len : ℕ) (into : List ℕ) (result : Result (Unit {0}) Refusal)
     → KeepsStanding at (λ old new. Did at old new (Read id off len) (λ v. gets id off len)
     (HasRead id off len into) result)
-
--- actions
-abbrev pub AsksKeepStanding : {M : Type 0} → (M → View → Type 0) → Type 0
-AsksKeepStanding at = (op : Operation) (result : Result (Unit {0}) Refusal)
-    → KeepsStanding at (λ old new. Asked at old new op result)
 
 -- stages
 abbrev pub CommitsKeepStanding : {M : Type 0} → (M → View → Type 0) → Type 0

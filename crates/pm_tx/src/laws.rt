@@ -1,7 +1,6 @@
 ghost use Rattle.pm_tx.specs.Standing.{
   AbortsKeepStanding,
   AddsKeepStanding,
-  AsksKeepStanding,
   CommitsKeepStanding,
   EndsKeepStanding,
   ProcessesKeepStanding,
@@ -18,7 +17,6 @@ pub fn lanes_stand<M: LawfulMem>()
     ensures add_range { AddsKeepStanding M.at }
     ensures write { WritesKeepStanding M.at }
     ensures read { ReadsKeepStanding M.at }
-    ensures set_value { AsksKeepStanding M.at }
     ensures commit { CommitsKeepStanding M.at }
     ensures process { ProcessesKeepStanding M.at }
     ensures abort { AbortsKeepStanding M.at }

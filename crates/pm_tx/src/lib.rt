@@ -8,20 +8,18 @@
 //! docs/BEHAVIOUR.md.
 #![tactic(auto)]
 
-mod actions;
 mod commits;
 mod ending;
-mod laws;
 mod locks;
+mod laws;
 mod outcome;
 mod ranges;
 mod stages;
 
-pub use actions::set_value;
 pub use commits::{commit, process};
 pub use ending::end;
-pub use laws::lanes_stand;
 pub use locks::lock;
+pub use laws::lanes_stand;
 pub use outcome::abort;
 pub use ranges::{add_range, read, write};
 pub use stages::{errno, level, stage};

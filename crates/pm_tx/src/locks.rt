@@ -11,7 +11,7 @@ use pm_world::{Lane, LawfulMem, LentOperation};
 /// Takes one more lock of an object, for writing or for reading alone, in a transaction at work, and
 /// looks under it for the object: pmemobj_tx_lock(3). The lock is tried once; a lock for reading
 /// that the lane holds is raised where it is wanted for writing. The lane holds it until the
-/// outermost level ends. No counted memory call is made but by an error.
+/// outermost level ends. No counted memory call is made, unless the transaction is given up.
 ///
 /// # Errors
 ///

@@ -105,19 +105,6 @@ fn reads_are_refused(rt: HostRuntime) -> Result<(), Fail> {
     Ok(())
 }
 
-/// Where no transaction is open, and past its work, no word is asked for.
-#[test]
-fn words_are_refused(rt: HostRuntime) -> Result<(), Fail> {
-    let id = Oid { pool: 7, off: 4224 };
-    let mut idle = lane_at(rt.alloc(), 0, Stage::None)?;
-    assert_eq!(rt; set_value(&mut idle, id, 8, 9), Err(Refusal::NoTx));
-    let mut late = lane_at(rt.alloc(), 1, Stage::OnAbort)?;
-    assert_eq!(rt; set_value(&mut late, id, 8, 9), Err(Refusal::NotWork));
-    assert!(rt; late.pending.is_empty());
-    assert_eq!(rt; late.error, TxErr::None);
-    Ok(())
-}
-
 /// Where no transaction is open, and while a level is in work, its end is refused.
 #[test]
 fn ends_are_refused(rt: HostRuntime) -> Result<(), Fail> {
@@ -128,17 +115,6 @@ fn ends_are_refused(rt: HostRuntime) -> Result<(), Fail> {
     assert_eq!(rt; level(&working), 2);
     assert_eq!(rt; stage(&working), Stage::Work);
     assert_eq!(rt; errno(&working), TxErr::None);
-    Ok(())
-}
-
-/// A word begins at a multiple of eight, and 63 actions may be pending.
-#[test]
-fn words_are_judged(rt: HostRuntime) -> Result<(), Fail> {
-    assert_eq!(rt; actions::judge_set(0, 0), Ok(()));
-    assert_eq!(rt; actions::judge_set(8, 62), Ok(()));
-    assert_eq!(rt; actions::judge_set(8, 63), Err(Refusal::ActionsFull));
-    assert_eq!(rt; actions::judge_set(12, 0), Err(Refusal::Unaligned));
-    assert_eq!(rt; actions::judge_set(12, 63), Err(Refusal::Unaligned));
     Ok(())
 }
 

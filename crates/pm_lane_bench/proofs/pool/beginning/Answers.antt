@@ -8,4 +8,5 @@ returns c = (
       (c.in_ok-vec.ensures.items_if_clones_equal (λ y e. e)) (c.in_ok-vec-2.ensures.items_if_clones_equal (λ y e. e)),
   refl,
   c.in_ok-shape.ensures.lanes,
+  refl,
 )

@@ -1,0 +1,5 @@
+pub mod CheckedWords
+pub mod EnteredWords
+pub mod PublishedLanes
+pub mod Asking
+pub mod OutsideLanes

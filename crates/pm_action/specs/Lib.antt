@@ -1,0 +1,4 @@
+pub mod Inside
+pub mod Actions
+pub mod Outside
+pub mod Calls

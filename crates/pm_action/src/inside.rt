@@ -1,0 +1,166 @@
+ghost use Rattle.std.specs.Prelude.{◌≡◌, ◌+◌, ◌≤◌, ◌++◌, [], length, None};
+ghost use Rattle.std.specs.List.{AllByRecursion};
+ghost use Rattle.pm_objects.specs.declared.calls.Operation.TheVariants.{Publish};
+ghost use Rattle.pm_call.specs.Did as did;
+ghost use Rattle.pm_call.specs.Did.{Checked, IsAt, IsAtSo};
+ghost use Rattle.pm_call.specs.Publishing.{CanPublish, words_pending};
+ghost use Rattle.pm_action.specs.Inside.{ActionChecked, Cancelled, HasPlace, Published, WordsChecked, WordsPublished, earlier, entries_of};
+
+use arrayvec::ArrayVec;
+use pm_call::{check_range, holds, refuse, work_refusal};
+use pm_layout::{REDO_ENTRIES, WORD_BYTES};
+use pm_objects::{Operation, Refusal};
+use pm_record::{Op, Redo};
+use pm_world::{Lane, LawfulMem, LentOperation, PendingAction};
+
+/// Checks a pending word: its object is held for writing, and the word ends within it. It looks at the
+/// object's size, where the object is held at all.
+fn check_action<M: LawfulMem>(lane: &mut Lane<M>, action: PendingAction) -> Result<(), Refusal>
+    requires { IsAt M.at lane.old }
+    ensures { ActionChecked M.at lane.old lane.new action result }
+{
+    match action {
+        PendingAction::Set { id, off, .. } => {
+            let inside = check_range(lane, id, false, off, WORD_BYTES);
+            if holds(lane, id, true) {
+                inside
+            } else {
+                Err(Refusal::NotLocked)
+            }
+        }
+        _ => Ok(()),
+    }
+}
+
+/// The refusal of two checks: an object that is not held comes first, and then the first of them.
+pub(crate) fn earlier(
+    first: Result<(), Refusal>,
+    second: Result<(), Refusal>,
+) -> Result<(), Refusal>
+    ensures { result ≡ earlier first second }
+{
+    match (first, second) {
+        (_, Err(Refusal::NotLocked)) => Err(Refusal::NotLocked),
+        (Ok(()), second) => second,
+        (first, _) => first,
+    }
+}
+
+/// Checks each pending word. It looks at the size of each object that is held.
+fn check_actions<M: LawfulMem>(lane: &mut Lane<M>) -> Result<(), Refusal>
+    requires { IsAt M.at lane.old }
+    ensures { WordsChecked M.at lane.old lane.new words_pending result }
+{
+    let mut checked = Ok(());
+    for i in 0..lane.pending.len() {
+        let action = lane.pending[i];
+        checked = earlier(checked, check_action(lane, action));
+    }
+    checked
+}
+
+/// Checks that what is pending may be published.
+fn check_publish<M: LawfulMem>(lane: &mut Lane<M>) -> Result<(), Refusal>
+    requires { IsAt M.at lane.old }
+    ensures { Checked M.at lane.old lane.new (λ s done. CanPublish s) Publish result }
+{
+    if let Err(why) = check_actions(lane) {
+        return Err(why);
+    }
+    let entries = (lane.entries.len() + lane.pending.len()) as u64;
+    if entries < REDO_ENTRIES {
+        Ok(())
+    } else {
+        Err(Refusal::ActionsFull)
+    }
+}
+
+/// Makes the pending words entries of the call, after those that are there; none is pending then.
+pub(crate) fn enter_words(
+    pending: &mut ArrayVec<PendingAction, 63>,
+    entries: &mut ArrayVec<Redo, 64>,
+)
+    requires room { length entries.old.items + length pending.old.items ≤ 64 }
+    requires places { AllByRecursion HasPlace pending.old.items }
+    ensures entries { entries.new.items ≡ entries.old.items ++ entries_of pending.old.items }
+    ensures pending { pending.new.items ≡ [] }
+{
+    for action in pending.as_slice() {
+        if let PendingAction::Set { id, off, value } = *action {
+            let place = id.off + off;
+            entries.push(Redo {
+                place,
+                op: Op::Set,
+                value,
+            });
+        }
+    }
+    pending.clear();
+}
+
+/// Publishes the pending words, and tells so.
+fn do_publish<M: LawfulMem>(lane: &mut Lane<M>)
+    requires { IsAtSo M.at lane.old CanPublish }
+    ensures { WordsPublished M.at lane.old lane.new }
+{
+    enter_words(&mut lane.pending, &mut lane.entries);
+    let operation = Operation::Publish;
+    lane.memory.tell(LentOperation::Whole(&operation), None);
+}
+
+/// Publishes the words that are pending, in the transaction that is at work: pmemobj_tx_publish(3).
+/// They become entries of its call, which the commit of the outermost level sets together; until then
+/// no word changes. None is pending any more. The lane holds the object of each word for writing, and
+/// the word ends within it. Makes no counted memory call; where it is refused, exactly those of
+/// `gives_up`.
+///
+/// # Errors
+///
+/// - `Stopped`: the lane had stopped, and nothing is done; or the publish is refused, and the lane
+///   comes to its stop as it rolls back: the first of the calls are made, and the lane says that it
+///   stopped.
+/// - `NoTx`: no transaction is open; nothing is done.
+/// - `NotWork`: the transaction is past its work; nothing is done.
+/// - `NotLocked`: the lane does not hold the object of a word for writing; the transaction is aborted.
+/// - `OutOfRange`: a word passes its object's end; the transaction is aborted.
+/// - `ActionsFull`: with these words the call would have more than 63 entries; the transaction is
+///   aborted.
+pub fn publish<M: LawfulMem>(lane: &mut Lane<M>) -> Result<(), Refusal>
+    requires { did.work_refusal lane.old ≡ None → IsAt M.at lane.old }
+    ensures { Published M.at lane.old lane.new result }
+{
+    if let Some(why) = work_refusal(lane) {
+        return Err(why);
+    }
+    match check_publish(lane) {
+        Ok(()) => {
+            do_publish(lane);
+            Ok(())
+        }
+        Err(why) => {
+            let operation = Operation::Publish;
+            Err(refuse(lane, LentOperation::Whole(&operation), why))
+        }
+    }
+}
+
+/// Cancels all that is pending, in the transaction that is at work. It stays so, with the words that it
+/// published before. No counted memory call is made.
+///
+/// # Errors
+///
+/// - `Stopped`: the lane had stopped; nothing is done.
+/// - `NoTx`: no transaction is open; nothing is done.
+/// - `NotWork`: the transaction is past its work; nothing is done.
+pub(crate) fn cancel_inside<M: LawfulMem>(lane: &mut Lane<M>) -> Result<(), Refusal>
+    requires { did.work_refusal lane.old ≡ None → IsAt M.at lane.old }
+    ensures { Cancelled M.at lane.old lane.new result }
+{
+    if let Some(why) = work_refusal(lane) {
+        return Err(why);
+    }
+    lane.pending.clear();
+    let operation = Operation::Cancel;
+    lane.memory.tell(LentOperation::Whole(&operation), None);
+    Ok(())
+}

@@ -1,0 +1,5 @@
+use Rattle.pm_call.proofs.PublishedWords as words
+use Rattle.pm_call.proofs.publishing.pending_words_may_be_published.Goals as goal
+
+pub returns : goal.returns
+returns c = words.pending_words_may_be_published

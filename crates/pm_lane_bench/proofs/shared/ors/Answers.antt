@@ -1,5 +1,0 @@
-use Rattle.pm_shared.proofs.Bare.{can_begin}
-use Rattle.pm_lane_bench.proofs.shared.ors.Goals as goal
-
-pub new-requires : goal.new-requires
-new-requires c = can_begin c.in_ok-beginning.field-0 c.in_ok-beginning.ensures.0
