@@ -3,4 +3,5 @@ pub mod Outcome
 pub mod Ending
 pub mod Commits
 pub mod Locks
+pub mod Begins
 pub mod Standing

@@ -8,18 +8,20 @@
 //! docs/BEHAVIOUR.md.
 #![tactic(auto)]
 
+mod begins;
 mod commits;
 mod ending;
-mod locks;
 mod laws;
+mod locks;
 mod outcome;
 mod ranges;
 mod stages;
 
+pub use begins::begin;
 pub use commits::{commit, process};
 pub use ending::end;
-pub use locks::lock;
 pub use laws::lanes_stand;
+pub use locks::lock;
 pub use outcome::abort;
 pub use ranges::{add_range, read, write};
 pub use stages::{errno, level, stage};
