@@ -1,5 +1,5 @@
--- PENDING WORDS ARE CHECKED, one by one: the lane stays at work, and what the words come to stays as it
--- looks at more.
+-- PENDING WORDS ARE CHECKED, one by one: the lane stays at work, and what the words come to
+-- stays as it looks at more.
 use Rattle.std.proofs.Common.{◌≡◌, ℕ, zero, suc, ◌+◌, ◌/◌, ◌-◌, ◌<◌, ◌≤◌, inl, inr, ⊎_elim, Bool, true, false, not, ◌==◌, ◌&&◌, ◌||◌, nat_lt, Contains, List, [], ◌∷◌, ◌++◌, length, map, slice_index_or, take, refl, sym, ap, ◌∙◌, subst, arith, Some, Result, Ok, Err}
 use Rattle.std.specs.List.{list_any}
 use Rattle.std.specs.Option.{option_map_or}
@@ -65,7 +65,8 @@ module _ (s : Standing) (w : View) (same : w ≡ record s.view { claims = w.clai
   held_same id write =
       ap (λ (y : View). id.pool == y.fixed.pool && is_in_locks s.locks id.off write) same
 
-  unheld_same : (words : List SetWord) → list_any (is_unheld t) words ≡ list_any (is_unheld s) words
+  unheld_same : (words : List SetWord)
+      → list_any (is_unheld t) words ≡ list_any (is_unheld s) words
   unheld_same words = λ i. list_any (λ (a : SetWord). not (held_same a.id true i)) words
 
   word_stays : (a : SetWord) → HasWord s a → HasWord t a
@@ -223,7 +224,8 @@ module _ (t : Standing) (stands : At t) (a : SetWord) where
 
   module _ {M : Type 0} (at : M → View → Type 0) (lane : Lane M) where
     abbrev Ranged : Result (Unit {0}) Refusal → Type 0
-    Ranged result = Found {T = Unit {0}} at lane (λ s done. HasRange s a.id a.off 8 false) reads result t
+    Ranged result =
+        Found {T = Unit {0}} at lane (λ s done. HasRange s a.id a.off 8 false) reads result t
 
     abbrev Came : Result (Unit {0}) Refusal → Type 0
     Came result = AreChecked t (a ∷ []) result × Works at lane t × At t
@@ -282,7 +284,8 @@ word_is id off value a e = λ i. record {
 
 module _ {M : Type 0} (at : M → View → Type 0) (old new : Lane M) (id : Oid) (off value : ℕ)
     (ranged : Result (Unit {0}) Refusal) (held : Bool)
-    (checked : Checked at old new (λ s (done : Unit {0}). HasRange s id off 8 false) (Read id off 8) ranged)
+    (checked : Checked at old new (λ s (done : Unit {0}). HasRange s id off 8 false)
+    (Read id off 8) ranged)
     (is_held : (s : Standing) → Works at new s → held ≡ is_held_so s id true) where
   abbrev a : SetWord
   a = record { id = id; off = off; value = value }
@@ -390,7 +393,8 @@ module _ {M : Type 0} (at : M → View → Type 0) where
             (subst (λ k. Come (moved t a.view) (take k (words_pending t)))
             (let e : suc n ≡ n + 1 = omega arith in e) (subst (Come (moved t a.view)) (sym w.more)
             (checked_both (moved t a.view) (take n (words_pending t)) (w.word ∷ []) first second
-            (checked_stays t a.view same values (take n (words_pending t)) first c.came) a.holds.0)))
+            (checked_stays t a.view same values (take n (words_pending t)) first c.came)
+            a.holds.0)))
 
     -- one more, wherever the looks so far led
     pub check_more : (s : Standing) → After s (CheckedFirst lane n first)

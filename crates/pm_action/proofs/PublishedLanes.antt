@@ -55,15 +55,16 @@ module _ (t : Standing) (stands : At t) where
   refused_by unheld past full r sized one two three first = record {
     looks = pending_words_are_looked_at t stands sized;
     first = publish_refusals t stands ∙ ((λ i. first_of (
-        (refusal.NotLocked, one i) ∷ (refusal.OutOfRange, two i) ∷ (refusal.ActionsFull, three i) ∷ []))
+        (refusal.NotLocked, one i) ∷ (refusal.OutOfRange, two i)
+        ∷ (refusal.ActionsFull, three i) ∷ []))
         ∙ first);
   }
 
   refused_words : (r : Refusal) → AreChecked t words (Err r) → IsRefused t Publish r
   unfolding first_of
   refused_words refusal.NotLocked c =
-      refused_by true (list_any (is_past_end t) words) (nat_lt max_entries (many + 1)) refusal.NotLocked
-      c.0 c.1 refl refl refl
+      refused_by true (list_any (is_past_end t) words) (nat_lt max_entries (many + 1))
+      refusal.NotLocked c.0 c.1 refl refl refl
   refused_words refusal.OutOfRange c =
       refused_by false true (nat_lt max_entries (many + 1)) refusal.OutOfRange c.0 c.1.0
       (any_of (is_past_end t) words c.1.1.0 c.1.1.1 (past c.1.1.0 c.1.1.2)) refl refl
@@ -75,8 +76,8 @@ module _ (t : Standing) (stands : At t) where
 
   refused_full : AreChecked t words (Ok tt) → 64 ≤ many → IsRefused t Publish refusal.ActionsFull
   unfolding first_of
-  refused_full c high = refused_by false false true refusal.ActionsFull c.0 (none_unheld t words c.1)
-      (none_past_end t words c.1) (lt-ltb max_entries (many + 1) (omega (arith, high))) refl
+  refused_full c high = refused_by false false true refusal.ActionsFull c.0
+      (none_unheld t words c.1) (none_past_end t words c.1) (lt-ltb max_entries (many + 1) (omega (arith, high))) refl
 
 -- what a check of a publish has in view
 abbrev pub Publishes : Standing → Unit {0} → Type 0
@@ -107,7 +108,8 @@ module _ {M : Type 0} (at : M → View → Type 0) (old new : Lane M) where
       by_words (Err r) (Err r) checked (λ t c works is. (refused_words t is r c, works, is))
 
   pub check_ok : length new.entries.items + length new.pending.items < 64
-      → WordsChecked at old new words_pending (Ok tt) → Checked at old new Publishes Publish (Ok tt)
+      → WordsChecked at old new words_pending (Ok tt)
+      → Checked at old new Publishes Publish (Ok tt)
   check_ok low checked = by_words (Ok tt) (Ok tt) checked (λ t c works is. (
     record { each = c.1; room = let e = entries_then t works is in omega (arith, e, low) },
     works,
@@ -200,8 +202,8 @@ module _ {M : Type 0} (at : M → View → Type 0) (old mid new : Lane M) where
       → Published at old new result
   unfolding Published Checked
   by_check result came none checked so = subst (λ o. PublishedSo o at old new result) none
-      (λ s works is. after_so s (Found at mid Publishes Publish came) (PublishedAs at new result) so
-      (checked s works is))
+      (λ s works is. after_so s (Found at mid Publishes Publish came) (PublishedAs at new result)
+      so (checked s works is))
 
   pub published_ok : None ≡ work_refusal old → Checked at old mid Publishes Publish (Ok tt)
       → WordsPublished at mid new → Published at old new (Ok tt)
@@ -209,7 +211,8 @@ module _ {M : Type 0} (at : M → View → Type 0) (old mid new : Lane M) where
   published_ok none checked published =
       by_check (Ok tt) (Ok tt) none checked (λ t f. published t f.1 f.2 f.0)
 
-  gives : (t : Standing) (r : Refusal) → IsRefused t Publish r → GivesUp t Publish (Some (Refused r))
+  gives : (t : Standing) (r : Refusal) → IsRefused t Publish r
+      → GivesUp t Publish (Some (Refused r))
   gives t r refused = inl (record {
     inside = refl;
     plain = refl;

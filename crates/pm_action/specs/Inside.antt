@@ -1,4 +1,5 @@
--- WHAT PUBLISH AND CANCEL DID to a lane whose transaction is at work, by cases of what they answer.
+-- WHAT PUBLISH AND CANCEL DID to a lane whose transaction is at work, by cases of what they
+-- answer.
 use Rattle.std.specs.Prelude.{◌≡◌, ℕ, ◌+◌, ◌^◌, ◌<◌, true, false, Contains, List, [], ◌∷◌, Option, None, Some, Result, Ok, Err}
 use Rattle.std.specs.List.{AllByRecursion, flat_map, list_any}
 use Rattle.pm_model.specs.Pending.{SetWord}
@@ -29,8 +30,8 @@ pub record PassesEnd (s : Standing) (a : SetWord) : Type 0 where
   pub small : size < 2 ^ 64
   pub past : size < a.off + 8
 
--- what some words come to: the lane has each for writing; or one is of an object that is not held so;
--- or none is, and one passes its object's end
+-- what some words come to: the lane has each for writing; or one is of an object that is not
+-- held so; or none is, and one passes its object's end
 abbrev pub JudgedWords : Standing → List SetWord → Result (Unit {0}) Refusal → Type 0
 JudgedWords s words (Ok done) = AllByRecursion (HasWord s) words
 JudgedWords s words (Err refusal.NotLocked) = list_any (is_unheld s) words ≡ true
@@ -55,7 +56,8 @@ ActionChecked at old new action result = (a : SetWord) → action ≡ listed_set
     → WordsChecked at old new (λ s. a ∷ []) result
 
 -- the refusal of two checks: that of an object that is not held comes first
-abbrev pub earlier : Result (Unit {0}) Refusal → Result (Unit {0}) Refusal → Result (Unit {0}) Refusal
+abbrev pub earlier : Result (Unit {0}) Refusal → Result (Unit {0}) Refusal
+    → Result (Unit {0}) Refusal
 earlier first (Err refusal.NotLocked) = Err refusal.NotLocked
 earlier (Ok done) second = second
 earlier (Err r) second = Err r
@@ -94,8 +96,8 @@ pub record StoppedInRefusal {M : Type 0} (at : M → View → Type 0) (lane : La
   pub refused : IsRefused s Publish refusal
   pub cut : Cut at lane s (gives_up Publish (Some (Refused refusal)) number) true
 
--- once the lane looked at sizes: it is done; it is refused, and the transaction is given up; or the lane
--- stopped on the way
+-- once the lane looked at sizes: it is done; it is refused, and the transaction is given up; or
+-- the lane stopped on the way
 abbrev pub PublishedAs : {M : Type 0} → (M → View → Type 0) → Lane M → Result (Unit {0}) Refusal
     → Standing → Type 0
 PublishedAs at lane (Ok done) s = WasPublished at lane s

@@ -13,8 +13,8 @@ use pm_objects::{Operation, Refusal};
 use pm_record::{Op, Redo};
 use pm_world::{Lane, LawfulMem, LentOperation, PendingAction};
 
-/// Checks a pending word: its object is held for writing, and the word ends within it. It looks at the
-/// object's size, where the object is held at all.
+/// Checks a pending word: its object is held for writing, and the word ends within it. It looks
+/// at the object's size, where the object is held at all.
 fn check_action<M: LawfulMem>(lane: &mut Lane<M>, action: PendingAction) -> Result<(), Refusal>
     requires { IsAt M.at lane.old }
     ensures { ActionChecked M.at lane.old lane.new action result }
@@ -108,20 +108,21 @@ fn do_publish<M: LawfulMem>(lane: &mut Lane<M>)
     lane.memory.tell(LentOperation::Whole(&operation), None);
 }
 
-/// Publishes the words that are pending, in the transaction that is at work: pmemobj_tx_publish(3).
-/// They become entries of its call, which the commit of the outermost level sets together; until then
-/// no word changes. None is pending any more. The lane holds the object of each word for writing, and
-/// the word ends within it. Makes no counted memory call; where it is refused, exactly those of
-/// `gives_up`.
+/// Publishes the words that are pending, in the transaction that is at work:
+/// pmemobj_tx_publish(3). They become entries of its call, which the commit of the outermost
+/// level sets together; until then no word changes. None is pending any more. The lane holds
+/// the object of each word for writing, and the word ends within it. Makes no counted memory
+/// call; where it is refused, exactly those of `gives_up`.
 ///
 /// # Errors
 ///
-/// - `Stopped`: the lane had stopped, and nothing is done; or the publish is refused, and the lane
-///   comes to its stop as it rolls back: the first of the calls are made, and the lane says that it
-///   stopped.
+/// - `Stopped`: the lane had stopped, and nothing is done; or the publish is refused, and the
+///   lane comes to its stop as it rolls back: the first of the calls are made, and the lane says
+///   that it stopped.
 /// - `NoTx`: no transaction is open; nothing is done.
 /// - `NotWork`: the transaction is past its work; nothing is done.
-/// - `NotLocked`: the lane does not hold the object of a word for writing; the transaction is aborted.
+/// - `NotLocked`: the lane does not hold the object of a word for writing; the transaction is
+///   aborted.
 /// - `OutOfRange`: a word passes its object's end; the transaction is aborted.
 /// - `ActionsFull`: with these words the call would have more than 63 entries; the transaction is
 ///   aborted.

@@ -1,5 +1,5 @@
--- PENDING WORDS ARE PUBLISHED, OR CANCELLED: the operation is told, and the lane is at work with the
--- longer list of entries, or with the same.
+-- PENDING WORDS ARE PUBLISHED, OR CANCELLED: the operation is told, and the lane is at work
+-- with the longer list of entries, or with the same.
 use Rattle.std.proofs.Common.{◌≡◌, zero, suc, ◌+◌, ◌-◌, ◌<◌, ◌≤◌, inl, inr, nat_lt, Bool, true, false, ◌||◌, Contains, List, [], ◌∷◌, ◌++◌, length, length-append, map, refl, sym, ap, ◌∙◌, subst, arith, None}
 use Rattle.std.specs.List.{AllByRecursion, list_any}
 use Rattle.std.proofs.lemmas.Bool.{both_ways, false_from_ne_true, ltb-true}
@@ -135,7 +135,8 @@ module _ (s : Standing) (at : At s) where
   looked : AllByRecursion (IsWordSized s) words → LookedAt s.view (entries_so_far s) None Publish
   looked sized = record {
     enters = ranges.enters s at;
-    sizes = λ id write among held stays. ranges.asked s at id (named (IsSizedIfHeld s) words id sized
+    sizes = λ id write among held stays. ranges.asked s at id
+        (named (IsSizedIfHeld s) words id sized
         (subst (λ (p : Pending). Contains (map id_of p.sets) id) pending_is among)) write held;
     knows_root = no_root_is_asked v None Publish (ap (λ (p : Pending). p.frees) pending_is);
   }
@@ -237,7 +238,8 @@ module _ (s : Standing) (at : At s) where
   cancel_now = pending_more v.call cancelled (pending_of v.entries)
 
   cancel_are : AreLists (then cancelled s.view.published s.entries) s.level (lists_of emptied)
-  cancel_are = subst (AreLists (then cancelled s.view.published s.entries) s.level) (sym cancel_lists)
+  cancel_are =
+      subst (AreLists (then cancelled s.view.published s.entries) s.level) (sym cancel_lists)
       (record {
         level_is = at.lists.level_is;
         works = at.lists.works;
@@ -364,11 +366,13 @@ module _ (s : Standing) (at : At s) where
           replied = refl;
           looks = publish_unrefused.looks;
           unrefused = publish_unrefused.none;
-          rooms = λ kept. subst (λ (p : Pending). HaveBlocksFor next kept lists.made (blocks_reserved p))
+          rooms = λ kept.
+              subst (λ (p : Pending). HaveBlocksFor next kept lists.made (blocks_reserved p))
               (sym pending_is) tt;
           olds = [];
           news = [];
-          freed = ap (λ (p : Pending). map (λ (id : Oid). freed_item id.off) p.frees) (sym pending_is);
+          freed =
+              ap (λ (p : Pending). map (λ (id : Oid). freed_item id.off) p.frees) (sym pending_is);
           made = ap (λ (p : Pending). map made_of p.reserved) (sym pending_is);
           changes = changes;
         })

@@ -1,6 +1,6 @@
--- WORDS ARE PUBLISHED, OR DROPPED, in a transaction at work, as laws: those that are pending become
--- entries of the call, which the commit of the outermost level sets; or none is pending any more. And
--- why a publish is refused. pmemobj_tx_publish(3), pmemobj_cancel(3).
+-- WORDS ARE PUBLISHED, OR CANCELLED, in a transaction at work, as laws: those that are pending
+-- become entries of the call, which the commit of the outermost level sets; or none is pending
+-- any more. And why a publish is refused. pmemobj_tx_publish(3), pmemobj_cancel(3).
 use Rattle.std.specs.Prelude.{◌≡◌, ◌+◌, ◌<◌, nat_lt, Bool, true, not, List, [], ◌∷◌, ◌++◌, length, map, None}
 use Rattle.std.specs.List.{AllByRecursion, list_any}
 use Rattle.pm_layout.specs.Areas.{redo_entries}
@@ -44,8 +44,8 @@ IsWordSized s a = IsSizedIfHeld s a.id
 
 -- ---- WHY A PUBLISH IS REFUSED
 
--- in their order: a word is of an object that is not held for writing; one passes its object's end;
--- the log has not room for all entries and the one of the generation
+-- in their order: a word is of an object that is not held for writing; one passes its object's
+-- end; the log has not room for all entries and the one of the generation
 abbrev pub publishing_tests : Standing → List Test
 publishing_tests s =
     (refusal.NotLocked, list_any (is_unheld s) (words_pending s))

@@ -13,8 +13,8 @@ returns-in-Some g c =
 pub tell-requires : goal.tell-requires
 tell-requires g c =
     let r = c.requires (let e : work_refusal c.args.lane.now ≡ None = search rules in e) in
-    g.met.M.LawfulMem.meets c.args.lane.now.memory r.standing.view (Tell Cancel None) r.works.memory
-    r.stands.working.is_open
+    g.met.M.LawfulMem.meets c.args.lane.now.memory r.standing.view (Tell Cancel None)
+    r.works.memory r.stands.working.is_open
 
 pub returns : goal.returns
 returns g c =

@@ -37,7 +37,8 @@ loop-i-preserved g c s works is =
     {x = earlier c.loop-i.checked c.check_action.result} (sym c.earlier-checked.ensures)
     (check_more g.M.LaneMem.at c.loop-i.lane c.check_action.new.lane c.loop-i.i c.loop-i.checked
     c.check_action.result (slice_index_or c.deref.result.now c.loop-i.i action.None) action.None
-    (omega (arith, many, low, end)) (ap (λ xs. slice_index_or xs c.loop-i.i action.None) c.deref.ensures.0)
+    (omega (arith, many, low, end))
+    (ap (λ xs. slice_index_or xs c.loop-i.i action.None) c.deref.ensures.0)
     c.check_action.ensures s a)
 
 pub returns : goal.returns

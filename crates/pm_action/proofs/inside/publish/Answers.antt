@@ -16,8 +16,8 @@ check_publish-requires g c =
 pub do_publish-requires : goal.do_publish-requires
 do_publish-requires g c =
     let is = c.requires (let e : work_refusal c.args.lane.now ≡ None = search rules in e) in
-    checked_so g.M.LaneMem.at c.args.lane.now c.check_publish.new.lane c.check_publish.new.lane Publish
-    Publishes tt is c.in-Ok.ensures
+    checked_so g.M.LaneMem.at c.args.lane.now c.check_publish.new.lane c.check_publish.new.lane
+    Publish Publishes tt is c.in-Ok.ensures
 
 pub refuse-requires : goal.refuse-requires
 refuse-requires g c = λ goes.
