@@ -59,4 +59,6 @@ pub mod LoggedCalls
 pub mod LoggedCommits
 pub mod OpenedCalls
 pub mod RefusedBegins
+pub mod OpenedLanes
+pub mod WaitedLocks
 pub mod Begins
