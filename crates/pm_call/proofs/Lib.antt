@@ -59,6 +59,8 @@ pub mod LoggedCalls
 pub mod LoggedCommits
 pub mod OpenedCalls
 pub mod RefusedBegins
+pub mod OpenedLanes
+pub mod WaitedLocks
 pub mod Begins
 pub mod AskedWords
 pub mod LoneActions

@@ -1,5 +1,5 @@
 use Rattle.pm_view.specs.Steps.Step.{NumberSeen}
-use Rattle.pm_call.proofs.Begins.{call_opens, may_see, none_drawn, none_generation}
+use Rattle.pm_call.proofs.OpenedLanes.{call_opens, may_see, none_drawn, none_generation}
 use Rattle.pm_call.proofs.opening.open_call.Goals as goal
 
 pub number_seen-requires : goal.number_seen-requires
