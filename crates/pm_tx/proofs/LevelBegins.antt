@@ -29,7 +29,7 @@ no_other : (s : Stage) → other_stage s ≡ Some refusal.NoTx → ⊥
 no_other stage.Work e = absurd cc
 no_other s e = absurd cc
 
-outside : (stopped : Bool) (s : Stage) (level : ℕ)
+pub outside : (stopped : Bool) (s : Stage) (level : ℕ)
     → cond stopped (Some refusal.Stopped) (stage_refusal s level) ≡ Some refusal.NoTx
     → (stopped ≡ false) × (level ≡ 0)
 outside true s level e = absurd cc

@@ -2,6 +2,7 @@
 -- as laws.
 use Rattle.std.specs.Prelude.{◌≡◌, ℕ, false, List, None, Result}
 use Rattle.pm_objects.specs.declared.calls.Operation.TheVariants.{AddRange, Read, Write}
+use Rattle.pm_objects.specs.declared.calls.Want.{Want}
 use Rattle.pm_objects.specs.declared.history.TxErr.{TxErr}
 use Rattle.pm_objects.specs.declared.ids.Oid.{Oid}
 use Rattle.pm_objects.specs.declared.refusal.Refusal.{Refusal}
@@ -13,7 +14,9 @@ use Rattle.pm_call.specs.Did.{Did, IsAt, work_refusal}
 use Rattle.pm_call.specs.Plans.{adds, gets, puts}
 use Rattle.pm_call.specs.Reading.{HasRead}
 use Rattle.pm_call.specs.Stages.{Ended, IsLanePast, end_refusal}
+use Rattle.pm_tx.specs.Begins.{LevelBegun}
 use Rattle.pm_tx.specs.Commits.{LevelCommitted, Processed}
+use Rattle.pm_tx.specs.Locks.{DidLock}
 use Rattle.pm_tx.specs.Outcome.{Aborted}
 
 -- A LANE STANDS: unless it stopped it is between two calls, at work, or past the work of a level,
@@ -61,3 +64,12 @@ AbortsKeepStanding at = (errnum : ℕ) (result : Result (Unit {0}) Refusal)
 abbrev pub EndsKeepStanding : {M : Type 0} → (M → View → Type 0) → Type 0
 EndsKeepStanding at = (result : Result TxErr Refusal)
     → KeepsStanding at (λ old new. Ended at old new result)
+
+-- locks, and levels that begin
+abbrev pub LocksKeepStanding : {M : Type 0} → (M → View → Type 0) → Type 0
+LocksKeepStanding at = (op : Operation) (wants : List Want) (result : Result (Unit {0}) Refusal)
+    → KeepsStanding at (λ old new. DidLock at old new op wants result)
+
+abbrev pub BeginsKeepStanding : {M : Type 0} → (M → View → Type 0) → Type 0
+BeginsKeepStanding at = (wants : List Want) (result : Result (Unit {0}) Refusal)
+    → KeepsStanding at (λ old new. LevelBegun at old new wants result)

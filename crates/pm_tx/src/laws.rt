@@ -1,8 +1,10 @@
 ghost use Rattle.pm_tx.specs.Standing.{
   AbortsKeepStanding,
   AddsKeepStanding,
+  BeginsKeepStanding,
   CommitsKeepStanding,
   EndsKeepStanding,
+  LocksKeepStanding,
   ProcessesKeepStanding,
   ReadsKeepStanding,
   WritesKeepStanding,
@@ -14,6 +16,8 @@ use pm_world::LawfulMem;
 /// stopped, or it is between two calls, at work, or past the work of a level, as its fields say. It
 /// is all that a caller of many calls has to know of its lane. No code runs.
 pub fn lanes_stand<M: LawfulMem>()
+    ensures begin { BeginsKeepStanding M.at }
+    ensures lock { LocksKeepStanding M.at }
     ensures add_range { AddsKeepStanding M.at }
     ensures write { WritesKeepStanding M.at }
     ensures read { ReadsKeepStanding M.at }

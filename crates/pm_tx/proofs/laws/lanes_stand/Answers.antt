@@ -2,6 +2,7 @@ use Rattle.pm_objects.specs.declared.calls.Operation.TheVariants.{AddRange, Read
 use Rattle.pm_call.specs.Adding.{HasCounted}
 use Rattle.pm_call.specs.Plans.{adds, gets, puts}
 use Rattle.pm_call.specs.Reading.{HasRead}
+use Rattle.pm_tx.proofs.LockStanding.{begun_level_stands, lock_stands}
 use Rattle.pm_tx.proofs.Standing.{aborted_stands, committed_stands, did_stands, ended_stands, processed_stands}
 use Rattle.pm_tx.proofs.laws.lanes_stand.Goals as goal
 
@@ -25,3 +26,9 @@ returns-clause-abort g c errnum result old new = aborted_stands g.M.LaneMem.at o
 
 pub returns-clause-end : goal.returns-clause-end
 returns-clause-end g c result old new = ended_stands g.M.LaneMem.at old new result
+
+pub returns-clause-lock : goal.returns-clause-lock
+returns-clause-lock g c op wants result old new = lock_stands g.M.LaneMem.at old new op wants result
+
+pub returns-clause-begin : goal.returns-clause-begin
+returns-clause-begin g c wants result old new = begun_level_stands g.M.LaneMem.at old new wants result
