@@ -60,5 +60,7 @@ pub mod OpenedCalls
 pub mod RefusedBegins
 pub mod Begins
 pub mod AskedWords
+pub mod LoneCalls
 pub mod LoneActions
+pub mod RefusedPublications
 pub mod PublishedWords

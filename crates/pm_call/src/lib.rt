@@ -47,7 +47,7 @@ pub use locking::{
 pub use opening::{
     begin_outermost, open_call, refusals_of_begins_are_the_models, refused_begins_end,
 };
-pub use outside::{actions_may_be_told, end_outside};
+pub use outside::{actions_may_be_told, end_outside, refused_publications_end};
 pub use publishing::{
     pending_words_are_looked_at, pending_words_may_be_cancelled, pending_words_may_be_published,
     refusals_of_publish_are_the_models,
