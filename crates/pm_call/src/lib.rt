@@ -33,7 +33,7 @@ mod writing;
 pub use adding::{do_add, ranges_may_be_added};
 pub use checking::{check_range, check_words, holds};
 pub use committing::{commit_inner, stage_after};
-pub use finishing::commit_call;
+pub use finishing::{commit_call, finish_entries};
 pub use holding::is_held;
 pub use laws::{
     calls_given_up_are_past_work, committed_calls_are_past_work, inner_levels_may_be_committed,
