@@ -2,6 +2,7 @@
 use Rattle.std.proofs.Common.{◌≡◌, ◌≢◌, ℕ, zero, suc, ◌+◌, ◌^◌, ◌<◌, ◌==◌, inl, inr, cond, List, [], ◌∷◌, ◌++◌, length, map, refl, sym, ap, ◌∙◌, subst, arith, rules, None, Some, Result, Ok, Err, IsErr}
 use Rattle.std.proofs.lemmas.Bool.{cond-false, ne_eqb}
 use Rattle.pm_memory.specs.declared.lane_mem.Stopped.{Stopped}
+use Rattle.pm_objects.specs.declared.calls.Operation.{Operation}
 use Rattle.pm_objects.specs.declared.calls.Operation.TheVariants.{Commit}
 use Rattle.pm_record.specs.declared.redo.Redo.{Redo}
 use Rattle.pm_view.specs.Log.{Idle, Recorded, next_log}
@@ -52,35 +53,35 @@ no_record : (sh : Rattle.pm_layout.specs.declared.shape.Shape.Shape) (rs : List 
 no_record sh [] e = refl
 no_record sh (r ∷ rs) e = absurd cc
 
-finishes_some : (es : List Redo) (found : ℕ → ℕ) (n : ℕ) → length es ≢ 0 → finishes es found n ≡ logs_entries es found n
+finishes_some : (es : List Redo) (found : ℕ → ℕ) (n : ℕ) → length es ≢ 0 → finishes es found n ≡ logs_entries Commit es found n
 finishes_some [] found n some = absurd (some refl)
 finishes_some (e ∷ es) found n some = refl
 
-can_some : (v : View) (es : List Redo) → length es ≢ 0 → CanFinish v es → CanLogCall v es
+can_some : (v : View) (es : List Redo) → length es ≢ 0 → CanFinish v es → CanLogCall v Commit es
 unfolding CanFinish
 can_some v [] some can = absurd (some refl)
 can_some v (e ∷ es) some can = can
 
-can_none : (v : View) (es : List Redo) → es ≡ [] → CanFinish v es → CanNumber v CanEndRecords
+can_none : (v : View) (es : List Redo) → es ≡ [] → CanFinish v es → CanNumber v Commit CanEndRecords
 unfolding CanFinish
 can_none v es e can = subst (CanFinish v) e can
 
 -- a number that is taken changes nothing of the log's records and entries
-same_log : (v : View) (n : ℕ) (f : Fields) → with_log (after_all v (ends_call Commit None n v)) f ≡ with_log v f
+same_log : (op : Operation) (v : View) (n : ℕ) (f : Fields) → with_log (after_all v (ends_call op None n v)) f ≡ with_log v f
 unfolding in_turn one after_all
-same_log v n f = refl
+same_log op v n f = refl
 
-same_entries : (v : View) (n : ℕ) → listed_entries (after_all v (ends_call Commit None n v)) ≡ listed_entries v
+same_entries : (op : Operation) (v : View) (n : ℕ) → listed_entries (after_all v (ends_call op None n v)) ≡ listed_entries v
 unfolding in_turn one after_all
-same_entries v n = refl
+same_entries op v n = refl
 
-same_generation : (v : View) (n : ℕ) → (after_all v (ends_call Commit None n v)).log.generation ≡ v.log.generation
+same_generation : (op : Operation) (v : View) (n : ℕ) → (after_all v (ends_call op None n v)).log.generation ≡ v.log.generation
 unfolding in_turn one after_all
-same_generation v n = refl
+same_generation op v n = refl
 
-same_shape : (v : View) (n : ℕ) → (after_all v (ends_call Commit None n v)).fixed.shape ≡ v.fixed.shape
+same_shape : (op : Operation) (v : View) (n : ℕ) → (after_all v (ends_call op None n v)).fixed.shape ≡ v.fixed.shape
 unfolding in_turn one after_all
-same_shape v n = refl
+same_shape op v n = refl
 
 module _ {M : Type 0} (at : M → View → Type 0) (old : Lane M) where
   -- ---- cut short
@@ -128,48 +129,48 @@ module _ {M : Type 0} (at : M → View → Type 0) (old : Lane M) where
       moves (Err stopped) m = m
 
   -- ---- the call is numbered
-  pub may_number : (Keeps : View → Type 0) (P : View → Type 0) → ((v : View) → Keeps v → at old.memory v) → StandsAs Keeps (λ v. CanNumber v P) → MayEnd (at old.memory) Commit None
+  pub may_number : (op : Operation) (Keeps : View → Type 0) (P : View → Type 0) → ((v : View) → Keeps v → at old.memory v) → StandsAs Keeps (λ v. CanNumber v op P) → MayEnd (at old.memory) op None
   unfolding MayEnd
-  may_number Keeps P seen is = (is.0, seen is.0 is.1, is.2.ready)
+  may_number op Keeps P seen is = (is.0, seen is.0 is.1, is.2.ready)
 
-  module _ (mid : Lane M) (n : ℕ) (same : mid ≡ record old { memory = mid.memory; drawn = Some (n + 1); last = n + 1 }) (made : IsMade (at old.memory) (at mid.memory) (ends_call Commit None n)) where
-    memory_then : (v : View) → at old.memory v → Ready v (ends_call Commit None n v) → at mid.memory (after_all v (ends_call Commit None n v))
+  module _ (op : Operation) (mid : Lane M) (n : ℕ) (same : mid ≡ record old { memory = mid.memory; drawn = Some (n + 1); last = n + 1 }) (made : IsMade (at old.memory) (at mid.memory) (ends_call op None n)) where
+    memory_then : (v : View) → at old.memory v → Ready v (ends_call op None n v) → at mid.memory (after_all v (ends_call op None n v))
     unfolding Runs
     memory_then v seen ready = made v seen ready
 
-    keeps_numbered : (v : View) → KeepsLog at old v → Ready v (ends_call Commit None n v) → KeepsLog at mid (after_all v (ends_call Commit None n v))
+    keeps_numbered : (v : View) → KeepsLog at old v → Ready v (ends_call op None n v) → KeepsLog at mid (after_all v (ends_call op None n v))
     keeps_numbered v keeps ready = record {
       memory = memory_then v keeps.memory ready;
       fields = ap fields_of same
           ∙ (ap (λ (f : Fields). record f { drawn = Some (n + 1); last = n + 1 }) keeps.fields
-          ∙ (sym (same_log v n (record (fields_of old) { drawn = Some (n + 1); last = n + 1 }))
-          ∙ ap (with_log (after_all v (ends_call Commit None n v))) (sym (ap fields_of same))));
+          ∙ (sym (same_log op v n (record (fields_of old) { drawn = Some (n + 1); last = n + 1 }))
+          ∙ ap (with_log (after_all v (ends_call op None n v))) (sym (ap fields_of same))));
     }
 
-    call_numbered : (v : View) → KeepsCall at old v → Ready v (ends_call Commit None n v) → KeepsCall at mid (after_all v (ends_call Commit None n v))
+    call_numbered : (v : View) → KeepsCall at old v → Ready v (ends_call op None n v) → KeepsCall at mid (after_all v (ends_call op None n v))
     call_numbered v keeps ready = record {
       keeps = record {
         memory = memory_then v keeps.keeps.memory ready;
-        shape = ap (λ (l : Lane M). l.shape) same ∙ (keeps.keeps.shape ∙ sym (same_shape v n));
-        entries = ap (λ (l : Lane M). l.entries.items) same ∙ (keeps.keeps.entries ∙ sym (same_entries v n));
+        shape = ap (λ (l : Lane M). l.shape) same ∙ (keeps.keeps.shape ∙ sym (same_shape op v n));
+        entries = ap (λ (l : Lane M). l.entries.items) same ∙ (keeps.keeps.entries ∙ sym (same_entries op v n));
       };
-      generation = ap (λ (l : Lane M). l.log.generation) same ∙ (keeps.generation ∙ sym (same_generation v n));
+      generation = ap (λ (l : Lane M). l.log.generation) same ∙ (keeps.generation ∙ sym (same_generation op v n));
     }
 
-    pub records_stand : StandsAs (KeepsLog at old) (λ v. CanNumber v CanEndRecords) → StandsAs (KeepsLog at mid) CanEndRecords
-    records_stand is = (after_all is.0 (ends_call Commit None n is.0), keeps_numbered is.0 is.1 (is.2.ready n), is.2.then n)
+    pub records_stand : StandsAs (KeepsLog at old) (λ v. CanNumber v op CanEndRecords) → StandsAs (KeepsLog at mid) CanEndRecords
+    records_stand is = (after_all is.0 (ends_call op None n is.0), keeps_numbered is.0 is.1 (is.2.ready n), is.2.then n)
 
-    pub call_stands : StandsAs (KeepsCall at old) (λ v. CanNumber v CanSeal) → StandsAs (KeepsCall at mid) CanSeal
-    call_stands is = (after_all is.0 (ends_call Commit None n is.0), call_numbered is.0 is.1 (is.2.ready n), is.2.then n)
+    pub call_stands : StandsAs (KeepsCall at old) (λ v. CanNumber v op CanSeal) → StandsAs (KeepsCall at mid) CanSeal
+    call_stands is = (after_all is.0 (ends_call op None n is.0), call_numbered is.0 is.1 (is.2.ready n), is.2.then n)
 
-    pub finished_records : (new : Lane M) (result : Result (Unit {0}) Stopped) → old.entries.items ≡ [] → EndedRecords at mid new result → FinishedRecords at old new result
+    pub finished_records : (new : Lane M) (result : Result (Unit {0}) Stopped) → old.entries.items ≡ [] → EndedRecords at mid new result → FinishedRecords at op old new result
     unfolding FinishedRecords EndedRecords in_turn
     finished_records new (Ok done) empty ended = (
       n,
       λ v keeps can.
-          let w : View = after_all v (ends_call Commit None n v) in
+          let w : View = after_all v (ends_call op None n v) in
           let m : LogMoves at mid new (after_all w (ends_records w)) = ended w (keeps_numbered v keeps (can.ready n)) (can.then n) in
-          subst (λ (z : View). IsSeenAs at new z (numbered n z (fields_of old))) (sym (after_all-append v (ends_call Commit None n v) (ends_records w))) (record {
+          subst (λ (z : View). IsSeenAs at new z (numbered n z (fields_of old))) (sym (after_all-append v (ends_call op None n v) (ends_records w))) (record {
             memory = m.memory;
             fields = m.fields
                 ∙ (ap (λ (l : Lane M). with_log (after_all w (ends_records w)) (fields_of l)) same
@@ -179,22 +180,22 @@ module _ {M : Type 0} (at : M → View → Type 0) (old : Lane M) where
     finished_records new (Err stopped) empty ended = (
       n,
       λ v keeps can.
-          let w : View = after_all v (ends_call Commit None n v) in
+          let w : View = after_all v (ends_call op None n v) in
           let m = ended w (keeps_numbered v keeps (can.ready n)) (can.then n) in (
-            ran_then {T = Unit {0}} (at new.memory) v (ends_call Commit None n) ends_records (Err stopped) (ready_both v (ends_call Commit None n v) (ends_records w) (can.ready n) (ends_ready w (can.then n))) m.0,
+            ran_then {T = Unit {0}} (at new.memory) v (ends_call op None n) ends_records (Err stopped) (ready_both v (ends_call op None n v) (ends_records w) (can.ready n) (ends_ready w (can.then n))) m.0,
             cut_numbered mid new n same m.1,
           ),
     )
 
-    pub performed_call : (new : Lane M) (result : Result (Unit {0}) Stopped) → PerformedEntries at mid new result → PerformedCall at old new result
+    pub performed_call : (new : Lane M) (result : Result (Unit {0}) Stopped) → PerformedEntries at mid new result → PerformedCall at op old new result
     unfolding PerformedCall PerformedEntries in_turn
     performed_call new (Ok done) performed = (
       performed.0,
       n,
       λ v keeps can.
-          let w : View = after_all v (ends_call Commit None n v) in
+          let w : View = after_all v (ends_call op None n v) in
           let m = performed.1 w (call_numbered v keeps (can.ready n)) (can.then n) in
-          subst (λ (z : View). IsSeenAs at new z (numbered n z (fields_of old))) (sym (after_all-append v (ends_call Commit None n v) (performs performed.0 w))) (record {
+          subst (λ (z : View). IsSeenAs at new z (numbered n z (fields_of old))) (sym (after_all-append v (ends_call op None n v) (performs performed.0 w))) (record {
             memory = m.memory;
             fields = m.fields ∙ ap (λ (l : Lane M). record (with_log (after_all w (performs performed.0 w)) (fields_of l)) { entries = [] }) same;
           }),
@@ -203,9 +204,9 @@ module _ {M : Type 0} (at : M → View → Type 0) (old : Lane M) where
       performed.0,
       n,
       λ v keeps can.
-          let w : View = after_all v (ends_call Commit None n v) in
+          let w : View = after_all v (ends_call op None n v) in
           let m = performed.1 w (call_numbered v keeps (can.ready n)) (can.then n) in (
-            ran_then {T = Unit {0}} (at new.memory) v (ends_call Commit None n) (performs performed.0) (Err stopped) (ready_both v (ends_call Commit None n v) (performs performed.0 w) (can.ready n) (perform_lawful w performed.0 (can.then n)).0) m.0,
+            ran_then {T = Unit {0}} (at new.memory) v (ends_call op None n) (performs performed.0) (Err stopped) (ready_both v (ends_call op None n v) (performs performed.0 w) (can.ready n) (perform_lawful w performed.0 (can.then n)).0) m.0,
             cut_numbered mid new n same m.1,
           ),
     )
@@ -240,15 +241,15 @@ module _ {M : Type 0} (at : M → View → Type 0) (old : Lane M) where
   performed_err mid stopped (Err e) error performed = (performed.0, λ v keeps can. let r = performed.1 v keeps.keeps can in (r.0, ap fields_of r.1))
 
   -- ---- they are logged before
-  logged_ready : (v : View) (es : List Redo) (found : ℕ → ℕ) (n : ℕ) → CanLogCall v es → Ready v (logs_entries es found n v)
+  logged_ready : (op : Operation) (v : View) (es : List Redo) (found : ℕ → ℕ) (n : ℕ) → CanLogCall v op es → Ready v (logs_entries op es found n v)
   unfolding in_turn
-  logged_ready v es found n can =
+  logged_ready op v es found n can =
       let w : View = after_all v (writes_log es v) in
-      ready_both v (writes_log es v) (performs_call found n w) (log_lawful v es can.logs).0
-      (ready_both w (ends_call Commit None n w) (performs found (after_all w (ends_call Commit None n w))) (can.numbers.ready n) (perform_lawful (after_all w (ends_call Commit None n w)) found (can.numbers.then n)).0)
+      ready_both v (writes_log es v) (performs_call op found n w) (log_lawful v es can.logs).0
+      (ready_both w (ends_call op None n w) (performs found (after_all w (ends_call op None n w))) (can.numbers.ready n) (perform_lawful (after_all w (ends_call op None n w)) found (can.numbers.then n)).0)
 
-  module _ (mid : Lane M) where
-    logged_keeps : Logged at old.log.generation old mid (Ok tt) → (v : View) → MayLog at old old.log.generation v → CanLogCall v old.entries.items → KeepsCall at mid (after_all v (writes_log old.entries.items v))
+  module _ (op : Operation) (mid : Lane M) where
+    logged_keeps : Logged at old.log.generation old mid (Ok tt) → (v : View) → MayLog at old old.log.generation v → CanLogCall v op old.entries.items → KeepsCall at mid (after_all v (writes_log old.entries.items v))
     unfolding Logged
     logged_keeps logged v may can = let r = logged v may in record {
       keeps = r.0;
@@ -259,10 +260,10 @@ module _ {M : Type 0} (at : M → View → Type 0) (old : Lane M) where
     unfolding Logged
     logged_same logged v may = (logged v may).1
 
-    pub logged_stands : StandsAs (MayLog at old old.log.generation) (λ v. CanLogCall v old.entries.items) → Logged at old.log.generation old mid (Ok tt) → StandsAs (KeepsCall at mid) (λ v. CanNumber v CanSeal)
+    pub logged_stands : StandsAs (MayLog at old old.log.generation) (λ v. CanLogCall v op old.entries.items) → Logged at old.log.generation old mid (Ok tt) → StandsAs (KeepsCall at mid) (λ v. CanNumber v op CanSeal)
     logged_stands is logged = (after_all is.0 (writes_log old.entries.items is.0), logged_keeps logged is.0 is.1 is.2, is.2.numbers)
 
-    pub finished_entries : (new : Lane M) (result : Result (Unit {0}) Stopped) → Logged at old.log.generation old mid (Ok tt) → PerformedCall at mid new result → FinishedEntries at old new result
+    pub finished_entries : (new : Lane M) (result : Result (Unit {0}) Stopped) → Logged at old.log.generation old mid (Ok tt) → PerformedCall at op mid new result → FinishedEntries at op old new result
     unfolding FinishedEntries PerformedCall in_turn
     finished_entries new (Ok done) logged performed = (
       performed.0,
@@ -270,9 +271,9 @@ module _ {M : Type 0} (at : M → View → Type 0) (old : Lane M) where
       λ v may can.
           let w : View = after_all v (writes_log old.entries.items v) in
           let m = performed.2 w (logged_keeps logged v may can) can.numbers in
-          subst (λ (z : View). IsSeenAs at new z (numbered performed.1 z (fields_of old))) (sym (after_all-append v (writes_log old.entries.items v) (performs_call performed.0 performed.1 w))) (record {
+          subst (λ (z : View). IsSeenAs at new z (numbered performed.1 z (fields_of old))) (sym (after_all-append v (writes_log old.entries.items v) (performs_call op performed.0 performed.1 w))) (record {
             memory = m.memory;
-            fields = m.fields ∙ ap (λ (l : Lane M). numbered performed.1 (after_all w (performs_call performed.0 performed.1 w)) (fields_of l)) (logged_same logged v may);
+            fields = m.fields ∙ ap (λ (l : Lane M). numbered performed.1 (after_all w (performs_call op performed.0 performed.1 w)) (fields_of l)) (logged_same logged v may);
           }),
     )
     finished_entries new (Err stopped) logged performed = (
@@ -281,19 +282,19 @@ module _ {M : Type 0} (at : M → View → Type 0) (old : Lane M) where
       λ v may can.
           let w : View = after_all v (writes_log old.entries.items v) in
           let m = performed.2 w (logged_keeps logged v may can) can.numbers in (
-            ran_then {T = Unit {0}} (at new.memory) v (writes_log old.entries.items) (performs_call performed.0 performed.1) (Err stopped) (logged_ready v old.entries.items performed.0 performed.1 can) m.0,
+            ran_then {T = Unit {0}} (at new.memory) v (writes_log old.entries.items) (performs_call op performed.0 performed.1) (Err stopped) (logged_ready op v old.entries.items performed.0 performed.1 can) m.0,
             cut_after mid new performed.1 (logged_same logged v may) m.1,
           ),
     )
 
-    pub logged_err : (stopped : Stopped) (result : Result (Unit {0}) Stopped) → IsErr result → Logged at old.log.generation old mid (Err stopped) → FinishedEntries at old mid result
+    pub logged_err : (stopped : Stopped) (result : Result (Unit {0}) Stopped) → IsErr result → Logged at old.log.generation old mid (Err stopped) → FinishedEntries at op old mid result
     unfolding FinishedEntries Logged
     logged_err stopped (Ok done) error logged = absurd (search rules)
     logged_err stopped (Err e) error logged = (
       (λ i. 0),
       0,
       λ v may can. let r = logged v may in (
-        ran_err (at mid.memory) v (writes_log old.entries.items) (performs_call (λ i. 0) 0) stopped (logged_ready v old.entries.items (λ i. 0) 0 can) r.0,
+        ran_err (at mid.memory) v (writes_log old.entries.items) (performs_call op (λ i. 0) 0) stopped (logged_ready op v old.entries.items (λ i. 0) 0 can) r.0,
         cut_none mid 0 (ap fields_of r.1),
       ),
     )
@@ -302,16 +303,16 @@ module _ {M : Type 0} (at : M → View → Type 0) (old : Lane M) where
   abbrev pub MayFinish : Type 0
   MayFinish = StandsAs (KeepsLog at old) (λ v. CanFinish v old.entries.items)
 
-  may_log : (v : View) → KeepsLog at old v → CanLogCall v old.entries.items → MayLog at old old.log.generation v
+  may_log : (v : View) → KeepsLog at old v → CanLogCall v Commit old.entries.items → MayLog at old old.log.generation v
   may_log v keeps can = record { memory = keeps.memory; shape = ap (λ (f : Fields). f.shape) keeps.fields; generation_ = ap (λ (f : Fields). f.generation) keeps.fields; can = can.logs }
 
-  pub records_may : MayFinish → old.entries.items ≡ [] → StandsAs (KeepsLog at old) (λ v. CanNumber v CanEndRecords)
+  pub records_may : MayFinish → old.entries.items ≡ [] → StandsAs (KeepsLog at old) (λ v. CanNumber v Commit CanEndRecords)
   records_may is none = (is.0, is.1, can_none is.0 old.entries.items none is.2)
 
-  pub entries_may : MayFinish → length old.entries.items ≢ 0 → StandsAs (MayLog at old old.log.generation) (λ v. CanLogCall v old.entries.items)
+  pub entries_may : MayFinish → length old.entries.items ≢ 0 → StandsAs (MayLog at old old.log.generation) (λ v. CanLogCall v Commit old.entries.items)
   entries_may is some = let can = can_some is.0 old.entries.items some is.2 in (is.0, may_log is.0 is.1 can, can)
 
-  pub finished_none : (new : Lane M) (result : Result (Unit {0}) Stopped) → old.entries.items ≡ [] → FinishedRecords at old new result → Finished at old new result
+  pub finished_none : (new : Lane M) (result : Result (Unit {0}) Stopped) → old.entries.items ≡ [] → FinishedRecords at Commit old new result → Finished at old new result
   unfolding Finished FinishedRecords
   finished_none new result none finished = (
     (λ i. 0),
@@ -320,7 +321,7 @@ module _ {M : Type 0} (at : M → View → Type 0) (old : Lane M) where
         subst (λ (es : List Redo). FinishedAs at old new (finishes es (λ i. 0) finished.0) finished.0 v result) (sym none) (finished.1 v keeps (can_none v old.entries.items none can)),
   )
 
-  pub finished_some : (new : Lane M) (result : Result (Unit {0}) Stopped) → length old.entries.items ≢ 0 → FinishedEntries at old new result → Finished at old new result
+  pub finished_some : (new : Lane M) (result : Result (Unit {0}) Stopped) → length old.entries.items ≢ 0 → FinishedEntries at Commit old new result → Finished at old new result
   unfolding Finished FinishedEntries
   finished_some new result some finished = (
     finished.0,

@@ -63,5 +63,7 @@ pub mod OpenedLanes
 pub mod WaitedLocks
 pub mod Begins
 pub mod AskedWords
+pub mod LoneCalls
 pub mod LoneActions
+pub mod RefusedPublications
 pub mod PublishedWords

@@ -272,7 +272,7 @@ can_finish s at one_ knows = by s.entries refl
     by [] none = record { ready = λ n. outermost.numbers_ready s at one_ none n; then = λ n. outermost.numbers_then s at one_ none n }
     by (e ∷ es) some =
         let goes : s.entries ≢ [] = λ z. absurd (let q : [] ≡ e ∷ es = sym z ∙ some in cc) in
-        subst (CanLogCall (after_all s.view (persists_all s.view))) some (record {
+        subst (CanLogCall (after_all s.view (persists_all s.view)) Commit) some (record {
           logs = logs_then s at one_ goes knows (λ i. 0) 0;
           numbers = record {
             ready = λ n. ready_logged s at one_ goes knows (λ i. 0) n (after_all s.view (persists_all s.view)) (logged_from s at one_ goes knows (λ i. 0) n);

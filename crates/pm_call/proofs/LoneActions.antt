@@ -1,9 +1,8 @@
 -- AN ACTION IN A CALL OF ITS OWN has its fact, and its lane is between two calls then.
-use Rattle.std.proofs.Common.{◌≡◌, inl, ℕ, ◌%◌, ◌^◌, ◌<◌, ◌==◌, nat_le, Bool, true, false, cond, not, All, List, [], ◌∷◌, ◌++◌, length, refl, sym, ap, ◌∙◌, subst, arith, eqb-true, Option, None, Some}
+use Rattle.std.proofs.Common.{◌≡◌, ℕ, ◌%◌, ◌^◌, ◌<◌, ◌==◌, nat_le, Bool, true, false, cond, not, List, [], ◌∷◌, ◌++◌, length, refl, sym, ap, ◌∙◌, subst, arith, eqb-true, Option, None, Some}
 use Rattle.std.specs.Prelude.{MatchOption}
 use Rattle.std.proofs.lemmas.Bool.{leb-false}
-use Rattle.std.proofs.lemmas.List.Elements.{All-nil}
-use Rattle.pm_model.specs.Inside.{IsRefused, Ran, is_action}
+use Rattle.pm_model.specs.Inside.{IsRefused, is_action}
 use Rattle.pm_model.specs.Pending.{max_actions, pending_count}
 use Rattle.pm_model.specs.Refusals.{first_of}
 use Rattle.pm_objects.specs.declared.calls.Operation.{Operation}
@@ -13,30 +12,21 @@ use Rattle.pm_objects.specs.declared.history.Value.TheVariants.{Refused}
 use Rattle.pm_objects.specs.declared.refusal.Refusal.{Refusal}
 use Rattle.pm_objects.specs.declared.refusal.Refusal.TheVariants.{ActionsFull, Unaligned}
 use Rattle.pm_objects.specs.declared.ids.Oid.{Oid}
-use Rattle.pm_view.specs.Entries.{Entry, latest, redos, turn}
-use Rattle.pm_view.specs.Log.{Idle, Log, Open, new_log, phase_drawn}
-use Rattle.pm_view.specs.Steps.Step.{Draw, Tell}
+use Rattle.pm_view.specs.Steps.Step.{Tell}
 use Rattle.pm_view.specs.View.{Told, View}
-use Rattle.pm_view.specs.Views.{after, after_all}
-use Rattle.pm_world.specs.LaneFields.{Standing, last_number, listed, moved}
-use Rattle.pm_world.specs.Lawful.{KeepsRoot, MayDraw}
+use Rattle.pm_view.specs.Views.{after}
+use Rattle.pm_world.specs.LaneFields.{Standing, listed}
 use Rattle.pm_crash.specs.Calls.{Fact, pending_after, pending_of}
 use Rattle.pm_crash.specs.SimOutside.{IsActionDone, refusal_alone}
-use Rattle.pm_crash.proofs.EntryFacts.{draws_keep_facts}
 use Rattle.pm_crash.proofs.SimOutside.{actions_are_facts}
-use Rattle.pm_crash.proofs.Simulation.{no_turn}
-use Rattle.pm_plan.specs.Plans.{Ready, in_turn, one}
-use Rattle.pm_call.specs.Did.{IsOver, unseen}
-use Rattle.pm_call.specs.Held.{HoldsAll}
+use Rattle.pm_call.specs.Did.{unseen}
 use Rattle.pm_call.specs.Locking.{IsOpened}
 use Rattle.pm_call.specs.Outside.{ActionsMayBeTold, EndsAction, IsWordAction, RepliesAlone}
-use Rattle.pm_call.specs.Plans.{ends_call}
-use Rattle.pm_call.specs.Stages.{IsBetween}
-use Rattle.pm_call.specs.Waiting.{HasPending, pending_now, uncalled}
+use Rattle.pm_call.specs.Waiting.{HasPending, pending_now}
 use Rattle.pm_call.proofs.AskedWords.{asked_pending, count_is, dropped_pending}
 use Rattle.pm_call.proofs.Ending.{refused_actions, refused_pending}
-use Rattle.pm_call.proofs.OverCalls.{ClaimsStand, claims_ended, drawn_now, over_by}
-use Rattle.pm_call.proofs.Staying.{has_pending, pending_told}
+use Rattle.pm_call.proofs.LoneCalls.{ends_number, ends_over, opened_is_open, steps_ready}
+use Rattle.pm_call.proofs.Staying.{pending_told}
 
 -- ---- WHAT IS PENDING THEN
 
@@ -85,90 +75,24 @@ replies_told v (SetValue id off value) reply is replies = replies
 replies_told v Cancel reply is replies = replies
 replies_told v op reply is replies = absurd is
 
--- ---- THE CALL ENDS
 module _ (s : Standing) (is : IsOpened s) (op : Operation) (reply : Option Value) (word : IsWordAction op) (replies : RepliesAlone s op reply) where
-  abbrev v : View
-  v = s.view
-
-  abbrev ran : Ran
-  ran = record { operation = op; seen = unseen; reply = reply }
-
-  abbrev told : View
-  told = after v (Tell op reply)
-
-  abbrev done : ℕ → View
-  done n = after told (Draw n)
-
-  fact : Fact told
-  fact = actions_are_facts told ran (record {
+  fact : Fact (after s.view (Tell op reply))
+  fact = actions_are_facts (after s.view (Tell op reply)) (record { operation = op; seen = unseen; reply = reply }) (record {
     lone = ap (λ (call : List Told). call ++ record { operation = op; reply = reply } ∷ []) is.call;
     bare = record { records = is.records; entries = is.working.unentered };
     action = action_is op word;
-    replies = replies_told v op reply word replies;
+    replies = replies_told s.view op reply word replies;
   })
 
-  may_draw : MayDraw told
-  may_draw = record {
-    is_open = is.working.is_open;
-    whole = is.working.whole;
-    first = is.number.none;
-    drained = inl is.drained;
-    found = is.number.seen;
-    seen = is.number.told;
-    below = is.number.below;
-    new_blocks = λ B e. absurd (let z : Some true ≡ None = sym e ∙ (ap (λ (es : List Entry). turn (latest (redos es)) B) is.working.unentered ∙ no_turn B) in cc);
-    root = subst (All (KeepsRoot told)) (sym is.working.unentered) (All-nil _);
-    entries = inl is.working.unentered;
-  }
-
-  log_is : v.log ≡ new_log Open v.log.generation
-  log_is = λ i. record {
-    phase = is.working.is_open i;
-    generation = v.log.generation;
-    bumped = is.unbumped i;
-    records = is.records i;
-    entries = is.working.unentered i;
-    slot = is.working.whole.0 i;
-    pair = is.working.whole.1 i;
-  }
-
-  log_done : (n : ℕ) → (done n).log ≡ new_log Idle (done n).log.generation
-  log_done n = ap (λ (l : Log). record l { phase = phase_drawn n l.records l.entries }) log_is
-
-  holds : HoldsAll v s.locks
-  holds = subst (HoldsAll v) (sym is.locks) is.holds
-
-  claims : ClaimsStand v s.locks
-  claims = record {
-    lane = is.working.lane;
-    lanes = is.working.lanes;
-    zones = is.working.zones;
-    unmaking = is.working.unmaking;
-    sound = is.sound;
-    sizes = is.sizes;
-    holds = holds;
-    own = is.own;
-  }
-
-  is_over : (n : ℕ) → IsOver (moved s (done n))
-  is_over n = over_by (moved s (done n)) (log_done n) is.drained is.working.known is.sealed (draws_keep_facts told n fact is.facts)
-      (has_pending told (uncalled (done n)) (drawn_now v op reply n) refl (asked_alone v is.call is.pending op reply word replies))
-      (claims_ended v op reply n s.locks claims)
-
-  steps_ready : (n : ℕ) → Ready v (ends_call op reply n v)
-  unfolding Ready in_turn one after_all
-  steps_ready n = (is.working.is_open, tt, (may_draw, tt, tt))
-
-  pub ends_so : (n : ℕ) → after_all v (ends_call op reply n v) ≡ done n
-  unfolding in_turn one after_all
-  ends_so n = refl
-
   ends_action : (n : ℕ) → EndsAction s op reply n
-  ends_action n = record {
-    ready = steps_ready n;
-    between = subst (λ (w : View). IsBetween (moved s w)) (sym (ends_so n)) (record { over = is_over n; unlocked = is.locks; unlisted = is.entries });
-    number = ap (λ (w : View). last_number w.entries) (ends_so n);
-  }
+  ends_action n =
+      let o = opened_is_open s is in
+      let pending = asked_alone s.view is.call is.pending op reply word replies in
+      record {
+        ready = steps_ready s s.locks o op reply fact pending n;
+        between = record { over = ends_over s s.locks o op reply fact pending n; unlocked = is.locks; unlisted = is.entries };
+        number = ends_number s s.locks o op reply fact pending n;
+      }
 
 pub actions_may_be_told : ActionsMayBeTold
 actions_may_be_told s op reply n is word replies = ends_action s is op reply word replies n

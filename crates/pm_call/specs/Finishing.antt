@@ -1,8 +1,9 @@
--- WHAT THE PARTS OF A COMMIT DO to a lane whose call is drained: the call takes its number, and its records and entries end. Each over the
+-- WHAT THE PARTS OF A COMMIT, or of a publish, DO to a lane whose call is drained: the call takes its number, and its records and entries end. Each over the
 -- views that the lane's memory may be seen as.
 use Rattle.std.specs.Prelude.{◌≡◌, ◌≢◌, ◌⊎◌, ℕ, ◌+◌, List, [], ◌∷◌, Option, Some, None, Result, Ok, Err}
 use Rattle.pm_memory.specs.Runs.{Stops}
 use Rattle.pm_memory.specs.declared.lane_mem.Stopped.{Stopped}
+use Rattle.pm_objects.specs.declared.calls.Operation.{Operation}
 use Rattle.pm_objects.specs.declared.calls.Operation.TheVariants.{Commit}
 use Rattle.pm_record.specs.declared.redo.Redo.{Redo}
 use Rattle.pm_view.specs.View.{View}
@@ -25,19 +26,19 @@ use Rattle.pm_call.specs.Plans.{ends_call, ends_records, finishes, logs_entries,
 unfoldable pub CanEndRecords : View → Type 0
 CanEndRecords v = v.log.records ≢ [] → CanRetire v
 
--- the call may take whatever number, and this holds then
-pub record CanNumber (v : View) (Then : View → Type 0) : Type 0 where
-  pub ready : (n : ℕ) → Ready v (ends_call Commit None n v)
-  pub then : (n : ℕ) → Then (after_all v (ends_call Commit None n v))
+-- once this operation is told the call may take whatever number, and this holds then
+pub record CanNumber (v : View) (op : Operation) (Then : View → Type 0) : Type 0 where
+  pub ready : (n : ℕ) → Ready v (ends_call op None n v)
+  pub then : (n : ℕ) → Then (after_all v (ends_call op None n v))
 
 -- a log of these entries may be written; it may be performed once the call has its number
-pub record CanLogCall (v : View) (entries : List Redo) : Type 0 where
+pub record CanLogCall (v : View) (op : Operation) (entries : List Redo) : Type 0 where
   pub logs : CanLog v entries
-  pub numbers : CanNumber (after_all v (writes_log entries v)) CanSeal
+  pub numbers : CanNumber (after_all v (writes_log entries v)) op CanSeal
 
 unfoldable pub CanFinish : View → List Redo → Type 0
-CanFinish v [] = CanNumber v CanEndRecords
-CanFinish v (e ∷ entries) = CanLogCall v (e ∷ entries)
+CanFinish v [] = CanNumber v Commit CanEndRecords
+CanFinish v (e ∷ entries) = CanLogCall v Commit (e ∷ entries)
 
 -- the lane may be seen so that it may do this
 abbrev pub StandsAs : (View → Type 0) → (View → Type 0) → Type 0
@@ -78,17 +79,17 @@ module _ {M : Type 0} (at : M → View → Type 0) where
   unfoldable pub EndedRecords : Lane M → Lane M → Result (Unit {0}) Stopped → Type 0
   EndedRecords old new result = (v : View) → KeepsLog at old v → CanEndRecords v → MovesLog at old new ends_records v result
 
-  unfoldable pub FinishedRecords : Lane M → Lane M → Result (Unit {0}) Stopped → Type 0
-  FinishedRecords old new result = (n : ℕ) × ((v : View) → KeepsLog at old v → CanNumber v CanEndRecords → FinishedAs at old new (in_turn (ends_call Commit None n) ends_records) n v result)
+  unfoldable pub FinishedRecords : Operation → Lane M → Lane M → Result (Unit {0}) Stopped → Type 0
+  FinishedRecords op old new result = (n : ℕ) × ((v : View) → KeepsLog at old v → CanNumber v op CanEndRecords → FinishedAs at old new (in_turn (ends_call op None n) ends_records) n v result)
 
   unfoldable pub PerformedEntries : Lane M → Lane M → Result (Unit {0}) Stopped → Type 0
   PerformedEntries old new result = (found : ℕ → ℕ) × ((v : View) → KeepsCall old v → CanSeal v → PerformedAs at old new (performs found) v result)
 
-  unfoldable pub PerformedCall : Lane M → Lane M → Result (Unit {0}) Stopped → Type 0
-  PerformedCall old new result = (found : ℕ → ℕ) × (n : ℕ) × ((v : View) → KeepsCall old v → CanNumber v CanSeal → FinishedAs at old new (performs_call found n) n v result)
+  unfoldable pub PerformedCall : Operation → Lane M → Lane M → Result (Unit {0}) Stopped → Type 0
+  PerformedCall op old new result = (found : ℕ → ℕ) × (n : ℕ) × ((v : View) → KeepsCall old v → CanNumber v op CanSeal → FinishedAs at old new (performs_call op found n) n v result)
 
-  unfoldable pub FinishedEntries : Lane M → Lane M → Result (Unit {0}) Stopped → Type 0
-  FinishedEntries old new result = (found : ℕ → ℕ) × (n : ℕ) × ((v : View) → MayLog at old old.log.generation v → CanLogCall v old.entries.items → FinishedAs at old new (logs_entries old.entries.items found n) n v result)
+  unfoldable pub FinishedEntries : Operation → Lane M → Lane M → Result (Unit {0}) Stopped → Type 0
+  FinishedEntries op old new result = (found : ℕ → ℕ) × (n : ℕ) × ((v : View) → MayLog at old old.log.generation v → CanLogCall v op old.entries.items → FinishedAs at old new (logs_entries op old.entries.items found n) n v result)
 
   unfoldable pub Finished : Lane M → Lane M → Result (Unit {0}) Stopped → Type 0
   Finished old new result = (found : ℕ → ℕ) × (n : ℕ) × ((v : View) → KeepsLog at old v → CanFinish v old.entries.items → FinishedAs at old new (finishes old.entries.items found n) n v result)

@@ -56,15 +56,15 @@ ends_records v = if length v.log.records == 0 then [] else retires v
 
 -- at the outermost level all is made persistent, and the call takes its number; then its records end. Entries are logged before the number is
 -- taken, and performed after it, which ends the records too
-abbrev pub performs_call : (ℕ → ℕ) → ℕ → Plan
-performs_call found n = in_turn (ends_call Commit None n) (performs found)
+abbrev pub performs_call : Operation → (ℕ → ℕ) → ℕ → Plan
+performs_call op found n = in_turn (ends_call op None n) (performs found)
 
-abbrev pub logs_entries : List Redo → (ℕ → ℕ) → ℕ → Plan
-logs_entries entries found n = in_turn (writes_log entries) (performs_call found n)
+abbrev pub logs_entries : Operation → List Redo → (ℕ → ℕ) → ℕ → Plan
+logs_entries op entries found n = in_turn (writes_log entries) (performs_call op found n)
 
 abbrev pub finishes : List Redo → (ℕ → ℕ) → ℕ → Plan
 finishes [] found n = in_turn (ends_call Commit None n) ends_records
-finishes (e ∷ entries) found n = logs_entries (e ∷ entries) found n
+finishes (e ∷ entries) found n = logs_entries Commit (e ∷ entries) found n
 
 abbrev pub commits : List Redo → (ℕ → ℕ) → ℕ → Plan
 commits entries found n = in_turn persists_all (finishes entries found n)

@@ -8,6 +8,7 @@ ghost use Rattle.pm_call.specs.Commits.{CallCommitted, Committed, KnowsEntries, 
 ghost use Rattle.pm_call.specs.At.{At};
 ghost use Rattle.pm_call.specs.Did.{After, IsAt, IsAtSo};
 ghost use Rattle.pm_world.specs.LaneFields.{Standing, at_work};
+ghost use Rattle.pm_world.specs.Lent.{operation_of};
 ghost use Rattle.pm_call.specs.Finishing.{CanEndRecords, CanFinish, CanLogCall, CanNumber};
 ghost use Rattle.pm_call.specs.Finishing.{EndedRecords, Finished, FinishedEntries, FinishedRecords};
 ghost use Rattle.pm_call.specs.Finishing.{KeepsCall, PerformedCall, PerformedEntries, StandsAs};
@@ -24,16 +25,16 @@ use pm_redo::{log, perform};
 use pm_undo::retire;
 use pm_world::{Lane, LawfulMem, LentOperation};
 
-/// Tells the commit, draws the number of the open call, and tells how many were drawn before.
-fn number_commit<M: LawfulMem>(lane: &mut Lane<M>) -> u64
-    requires { MayEnd (M.at lane.old.memory) Commit None }
+/// Tells the operation that ends the open call, and draws the call's number: how many were drawn
+/// before.
+fn number_call<M: LawfulMem>(lane: &mut Lane<M>, told: LentOperation<'_>) -> u64
+    requires { MayEnd (M.at lane.old.memory) (operation_of told) None }
     ensures made { IsMade (M.at lane.old.memory) (M.at lane.new.memory)
-        (ends_call Commit None result) }
+        (ends_call (operation_of told.entry) None result) }
     ensures lane { lane.new ≡ record lane.old
         { memory = lane.new.memory; drawn = Some (result + 1); last = result + 1 } }
 {
-    let operation = Operation::Commit;
-    lane.memory.tell(LentOperation::Whole(&operation), None);
+    lane.memory.tell(told, None);
     let number = lane.memory.draw();
     lane.drawn = Some(number + 1);
     lane.last = number + 1;
@@ -52,13 +53,14 @@ fn end_records<M: LawfulMem>(lane: &mut Lane<M>) -> Result<(), Stopped>
     }
 }
 
-/// Numbers a call that lists no entry, and ends its records.
+/// Numbers a call that is committed and lists no entry, and ends its records.
 fn finish_records<M: LawfulMem>(lane: &mut Lane<M>) -> Result<(), Stopped>
     requires empty { lane.old.entries.items ≡ [] }
-    requires may { StandsAs (KeepsLog M.at lane.old) (λ v. CanNumber v CanEndRecords) }
-    ensures { FinishedRecords M.at lane.old lane.new result }
+    requires may { StandsAs (KeepsLog M.at lane.old) (λ v. CanNumber v Commit CanEndRecords) }
+    ensures { FinishedRecords M.at Commit lane.old lane.new result }
 {
-    number_commit(lane);
+    let operation = Operation::Commit;
+    number_call(lane, LentOperation::Whole(&operation));
     end_records(lane)
 }
 
@@ -72,23 +74,31 @@ fn perform_entries<M: LawfulMem>(lane: &mut Lane<M>) -> Result<(), Stopped>
     Ok(())
 }
 
-/// Numbers a call whose log is written, and performs the log.
-fn perform_call<M: LawfulMem>(lane: &mut Lane<M>) -> Result<(), Stopped>
-    requires { StandsAs (KeepsCall M.at lane.old) (λ v. CanNumber v CanSeal) }
-    ensures { PerformedCall M.at lane.old lane.new result }
+/// Numbers a call whose log is written, with the operation that ends it, and performs the log.
+fn perform_call<M: LawfulMem>(lane: &mut Lane<M>, told: LentOperation<'_>) -> Result<(), Stopped>
+    requires { StandsAs (KeepsCall M.at lane.old) (λ v. CanNumber v (operation_of told) CanSeal) }
+    ensures { PerformedCall M.at (operation_of told.entry) lane.old lane.new result }
 {
-    number_commit(lane);
+    number_call(lane, told);
     perform_entries(lane)
 }
 
-/// Writes a log of the lane's entries, numbers the call, and performs the log.
-fn finish_entries<M: LawfulMem>(lane: &mut Lane<M>) -> Result<(), Stopped>
+/// Writes a log of the lane's entries, numbers the call with the operation that ends it, a commit or a
+/// publish, and performs the log. Makes exactly the memory calls of `logs_entries`.
+///
+/// # Errors
+///
+/// `Stopped`: the lane came to its stop; the first of the calls are made.
+pub fn finish_entries<M: LawfulMem>(
+    lane: &mut Lane<M>,
+    told: LentOperation<'_>,
+) -> Result<(), Stopped>
     requires { StandsAs (MayLog M.at lane.old lane.old.log.generation)
-        (λ v. CanLogCall v lane.old.entries.items) }
-    ensures { FinishedEntries M.at lane.old lane.new result }
+        (λ v. CanLogCall v (operation_of told) lane.old.entries.items) }
+    ensures { FinishedEntries M.at (operation_of told.entry) lane.old lane.new result }
 {
     log(lane, lane.log.generation)?;
-    perform_call(lane)
+    perform_call(lane, told)
 }
 
 /// Numbers a call of which all is persistent, and ends its records, or performs its entries.
@@ -99,7 +109,8 @@ fn finish<M: LawfulMem>(lane: &mut Lane<M>) -> Result<(), Stopped>
     if lane.entries.is_empty() {
         finish_records(lane)
     } else {
-        finish_entries(lane)
+        let operation = Operation::Commit;
+        finish_entries(lane, LentOperation::Whole(&operation))
     }
 }
 

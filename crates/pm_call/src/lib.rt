@@ -35,7 +35,7 @@ mod writing;
 pub use adding::{do_add, ranges_may_be_added};
 pub use checking::{check_range, check_words, holds};
 pub use committing::{commit_inner, stage_after};
-pub use finishing::commit_call;
+pub use finishing::{commit_call, finish_entries};
 pub use holding::is_held;
 pub use laws::{
     calls_given_up_are_past_work, committed_calls_are_past_work, inner_levels_may_be_committed,
@@ -50,7 +50,7 @@ pub use locking::{
 pub use opening::{
     begin_outermost, open_call, refusals_of_begins_are_the_models, refused_begins_end,
 };
-pub use outside::{actions_may_be_told, end_outside};
+pub use outside::{actions_may_be_told, end_outside, refused_publications_end};
 pub use publishing::{
     pending_words_are_looked_at, pending_words_may_be_cancelled, pending_words_may_be_published,
     refusals_of_publish_are_the_models,

@@ -4,7 +4,7 @@ ghost use Rattle.pm_plan.specs.Plans.{IsMade};
 ghost use Rattle.pm_world.specs.LaneFields.{fields_of};
 ghost use Rattle.pm_world.specs.Lent.{operation_of, value_of};
 ghost use Rattle.pm_call.specs.GivenUp.{MayEnd};
-ghost use Rattle.pm_call.specs.Outside.{ActionsMayBeTold};
+ghost use Rattle.pm_call.specs.Outside.{ActionsMayBeTold, RefusedPublicationsEnd, TriedLocksLeaveOpen};
 ghost use Rattle.pm_call.specs.Plans.{ends_call};
 
 use pm_world::{Lane, LawfulMem, LentOperation, LentValue};
@@ -14,6 +14,14 @@ use pm_world::{Lane, LawfulMem, LentOperation, LentValue};
 /// is an entry of the history, and the lane is between two calls then. No code runs.
 pub fn actions_may_be_told()
     ensures { ActionsMayBeTold }
+{}
+
+/// A law: a publish outside a transaction that is refused, for an id without a place, for no object
+/// under a lock, or for the sizes that its lane looked at, may be told so, whatever locks the lane got
+/// and whatever number the call takes; what is pending stays, and the call is over then. No code runs.
+pub fn refused_publications_end()
+    ensures ended { RefusedPublicationsEnd }
+    ensures tried { TriedLocksLeaveOpen }
 {}
 
 /// Tells the operation that is a call of its own, with its reply, and draws the call's number: how
