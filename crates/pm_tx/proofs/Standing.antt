@@ -21,7 +21,7 @@ use Rattle.pm_call.specs.Between.{IsLaneBetween, MayOpen}
 use Rattle.pm_call.specs.Commits.{WasCommitted}
 use Rattle.pm_call.specs.Did.{Cut, Did, DidSo, Ends, GaveUp, IsAt, IsOver, next, stage_refusal, work_refusal}
 use Rattle.pm_call.specs.GivenUp.{WasGivenUp}
-use Rattle.pm_call.specs.Plans.{commits, commits_inner, gives_up, tells}
+use Rattle.pm_call.specs.Plans.{commits, commits_inner, gives_up}
 use Rattle.pm_call.specs.Stages.{Ended, EndedAs, EndedBy, EndedSo, IsLanePast, IsPastAt, Leaves, at_level, closed, end_refusal, fields_past, next_stage, stage_end_refusal, unlisted}
 use Rattle.pm_call.proofs.OpenedCalls.{between_may_open}
 use Rattle.pm_tx.specs.Commits.{InnerEnds, LevelCommitted, LevelCommittedSo, LevelEnds, OutermostEnds, PassedSo, Processed, ProcessedFrom}
