@@ -1,6 +1,7 @@
 -- A LANE STANDS, as its fields say: what each call of a transaction asks of its lane, and leaves;
 -- as laws.
 use Rattle.std.specs.Prelude.{◌≡◌, ℕ, false, List, None, Result}
+use Rattle.pm_objects.specs.declared.calls.Operation.{Operation}
 use Rattle.pm_objects.specs.declared.calls.Operation.TheVariants.{AddRange, Read, Write}
 use Rattle.pm_objects.specs.declared.calls.Want.{Want}
 use Rattle.pm_objects.specs.declared.history.TxErr.{TxErr}
