@@ -1,4 +1,4 @@
--- WHAT A PUBLISH, OR A CANCEL, CAME TO at a lane.
+-- WHAT A PUBLISH CAME TO at a lane.
 use Rattle.std.proofs.Common.{◌≡◌, ℕ, zero, suc, ◌+◌, ◌<◌, ◌≤◌, inl, Bool, true, false, nat_lt, Contains, List, [], ◌∷◌, ◌++◌, length, refl, sym, ap, ◌∙◌, subst, arith, None, Some, Result, Ok, Err}
 use Rattle.std.specs.List.{AllByRecursion, list_any}
 use Rattle.std.specs.Option.{option_map_or}
@@ -6,7 +6,7 @@ use Rattle.std.proofs.lemmas.Bool.{lt-ltb, or_left, or_right}
 use Rattle.pm_memory.specs.Runs.{Made}
 use Rattle.pm_model.specs.Pending.{SetWord}
 use Rattle.pm_model.specs.Refusals.{first_of, max_entries}
-use Rattle.pm_objects.specs.declared.calls.Operation.TheVariants.{Cancel, Publish}
+use Rattle.pm_objects.specs.declared.calls.Operation.TheVariants.{Publish}
 use Rattle.pm_objects.specs.declared.history.Value.TheVariants.{Refused}
 use Rattle.pm_objects.specs.declared.refusal.Refusal.{Refusal}
 use Rattle.pm_objects.specs.declared.refusal.Refusal.TheVariants as refusal
@@ -23,8 +23,8 @@ use Rattle.pm_call.specs.Did.{Checked, Found, GaveUp, IsAt, IsAtSo, IsRefused, u
 use Rattle.pm_call.specs.GivenUp.{GivesUp, GivesUpFor, IsAtBut, Refuses}
 use Rattle.pm_call.specs.Publishing.{CanPublish, IsWordSized, is_past_end, is_unheld, words_entered, words_pending}
 use Rattle.pm_call.proofs.Calls.{after_so, no_stop}
-use Rattle.pm_call.proofs.PublishedWords.{leads_cancel, leads_publish, none_past_end, none_unheld, pending_words_are_looked_at, publish_refusals}
-use Rattle.pm_action.specs.Inside.{AreChecked, Cancelled, CancelledSo, HasPlace, PassesEnd, Published, PublishedAs, PublishedSo, WordsChecked, WordsPublished, entries_of}
+use Rattle.pm_call.proofs.PublishedWords.{leads_publish, none_past_end, none_unheld, pending_words_are_looked_at, publish_refusals}
+use Rattle.pm_action.specs.Inside.{AreChecked, HasPlace, PassesEnd, Published, PublishedAs, PublishedSo, WordsChecked, WordsPublished, entries_of}
 use Rattle.pm_action.proofs.CheckedWords.{many_words, words_listed}
 use Rattle.pm_action.proofs.EnteredWords.{entries_are, have_places}
 
@@ -125,7 +125,7 @@ module _ {M : Type 0} (at : M → View → Type 0) (old new : Lane M) where
     is,
   ))
 
--- ---- THE WORDS ARE PUBLISHED, or cancelled
+-- ---- THE WORDS ARE PUBLISHED
 
 module _ {M : Type 0} (at : M → View → Type 0) (old : Lane M) where
   pub publish_places : IsAtSo at old CanPublish → AllByRecursion HasPlace old.pending.items
@@ -136,10 +136,6 @@ module _ {M : Type 0} (at : M → View → Type 0) (old : Lane M) where
   pub published_nothing : (r : Refusal) → Some r ≡ work_refusal old → Published at old old (Err r)
   unfolding Published
   published_nothing r e = subst (λ o. PublishedSo o at old old (Err r)) e (refl, refl)
-
-  pub cancelled_nothing : (r : Refusal) → Some r ≡ work_refusal old → Cancelled at old old (Err r)
-  unfolding Cancelled
-  cancelled_nothing r e = subst (λ o. CancelledSo o at old old (Err r)) e (refl, refl)
 
   module _ (may : View → Step → Type 0) (grants : (v : View) (s : Step) → Allowed v s → may v s)
       (new : Lane M) where
@@ -174,24 +170,6 @@ module _ {M : Type 0} (at : M → View → Type 0) (old : Lane M) where
           };
           stands = l.stands;
         }
-
-    pub was_cancelled : None ≡ work_refusal old
-        → Made may (at old.memory) (at new.memory) (Tell Cancel None)
-        → fields_of new ≡ record (fields_of old) { pending = [] } → Cancelled at old new (Ok tt)
-    unfolding Cancelled Ready one after_all
-    was_cancelled none made same = subst (λ o. CancelledSo o at old new (Ok tt)) none (λ s works is.
-        let l = leads_cancel s is in (
-          refl,
-          record {
-            unrefused = l.unrefused;
-            ready = (l.allowed, tt, tt);
-            works = record {
-              memory = (made s.view works.memory (grants s.view (Tell Cancel None) l.allowed)).0;
-              fields = same ∙ (λ i. record (works.fields i) { pending = [] });
-            };
-            stands = l.stands;
-          },
-        ))
 
 -- ---- THE PUBLISH, from its check on
 

@@ -17,7 +17,7 @@ use Rattle.pm_crash.specs.Looked.{size_seen}
 use Rattle.pm_plan.specs.Plans.{Ready}
 use Rattle.pm_call.specs.At.{At, set_entry}
 use Rattle.pm_call.specs.Did.{After, Cut, Done, GaveUp, IsRefused, IsUnrefused, work_refusal}
-use Rattle.pm_call.specs.Plans.{gives_up, tells}
+use Rattle.pm_call.specs.Plans.{cancels, gives_up, tells}
 use Rattle.pm_call.specs.Publishing.{CanPublish, HasWord, IsWordSized, is_unheld, words_entered}
 use Rattle.pm_call.specs.Waiting.{listed_set}
 
@@ -120,12 +120,19 @@ unfoldable pub WordsPublished : {M : Type 0} → (M → View → Type 0) → Lan
 WordsPublished at old new = (s : Standing) → Works at old s → At s → CanPublish s
     → WasPublished at new s
 
--- ---- CANCEL: none is pending, and the lane is at work; refused for its stage it changes nothing
+-- ---- CANCEL: all that was undrained is persistent, none is pending, and the lane is at work; or the
+-- lane stopped on the way. Its stage alone refuses it, and then it changes nothing
+abbrev pub CancelledAs : {M : Type 0} → (M → View → Type 0) → Lane M → Result (Unit {0}) Refusal
+    → Standing → Type 0
+CancelledAs at lane (Ok done) s = Done at lane s Cancel cancels
+CancelledAs at lane (Err refusal.Stopped) s = IsUnrefused s Cancel × Cut at lane s cancels true
+CancelledAs at lane (Err r) s = ⊥
+
 abbrev pub CancelledSo : {M : Type 0} → Option Refusal → (M → View → Type 0) → Lane M → Lane M
     → Result (Unit {0}) Refusal → Type 0
 CancelledSo (Some r) at old new result = (result ≡ Err r) × (new ≡ old)
 CancelledSo None at old new result = (s : Standing) → Works at old s → At s
-    → (result ≡ Ok tt) × Done at new s Cancel (tells Cancel None)
+    → CancelledAs at new result s
 
 unfoldable pub Cancelled : {M : Type 0} → (M → View → Type 0) → Lane M → Lane M
     → Result (Unit {0}) Refusal → Type 0

@@ -46,12 +46,15 @@ pub fn set_value<M: LawfulMem>(
 }
 
 /// Cancels all that is pending: pmemobj_cancel(3). Inside a transaction it is an operation of that, which
-/// stays at work with the words that it published before; outside one it is a call of its own, which takes a
-/// commit number. No counted memory call is made.
+/// stays at work with the words that it published before: all that is undrained is made persistent first,
+/// and exactly the memory calls of `cancels` are made. Outside one it is a call of its own, which takes a
+/// commit number; nothing is undrained there, and no counted memory call is made.
 ///
 /// # Errors
 ///
-/// - `Stopped`: the lane had stopped; nothing is done.
+/// - `Stopped`: the lane had stopped, and nothing is done; or it comes to its stop inside a
+///   transaction: the first of the calls are made, what is pending stays, and the lane says that it
+///   stopped.
 /// - `NotWork`: the transaction is past its work; nothing is done.
 /// - `Spent`: outside a transaction, no commit number is left; nothing is done but a look at how
 ///   many were drawn.

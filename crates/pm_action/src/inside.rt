@@ -7,9 +7,11 @@ ghost use Rattle.pm_call.specs.Publishing.{CanPublish, words_pending};
 ghost use Rattle.pm_action.specs.Inside.{ActionChecked, Cancelled, HasPlace, Published, WordsChecked, WordsPublished, earlier, entries_of};
 
 use arrayvec::ArrayVec;
-use pm_call::{check_range, holds, refuse, work_refusal};
+use pm_call::{check_range, holds, refuse, stop, work_refusal};
 use pm_layout::{REDO_ENTRIES, WORD_BYTES};
+use pm_memory::Stopped;
 use pm_objects::{Operation, Refusal};
+use pm_plan::persist_all;
 use pm_record::{Op, Redo};
 use pm_world::{Lane, LawfulMem, LentOperation, PendingAction};
 
@@ -145,12 +147,14 @@ pub fn publish<M: LawfulMem>(lane: &mut Lane<M>) -> Result<(), Refusal>
     }
 }
 
-/// Cancels all that is pending, in the transaction that is at work. It stays so, with the words that it
-/// published before. No counted memory call is made.
+/// Cancels all that is pending, in the transaction that is at work: pmemobj_cancel(3). First all that
+/// is undrained is made persistent. The transaction stays at work, with the words that it published
+/// before. Makes exactly the memory calls of `cancels`.
 ///
 /// # Errors
 ///
-/// - `Stopped`: the lane had stopped; nothing is done.
+/// - `Stopped`: the lane had stopped, and nothing is done; or it comes to its stop: the first of the
+///   calls are made, what is pending stays, and the lane says that it stopped.
 /// - `NoTx`: no transaction is open; nothing is done.
 /// - `NotWork`: the transaction is past its work; nothing is done.
 pub(crate) fn cancel_inside<M: LawfulMem>(lane: &mut Lane<M>) -> Result<(), Refusal>
@@ -159,6 +163,9 @@ pub(crate) fn cancel_inside<M: LawfulMem>(lane: &mut Lane<M>) -> Result<(), Refu
 {
     if let Some(why) = work_refusal(lane) {
         return Err(why);
+    }
+    if let Err(Stopped) = persist_all(&mut lane.memory) {
+        return Err(stop(lane));
     }
     lane.pending.clear();
     let operation = Operation::Cancel;

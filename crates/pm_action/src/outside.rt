@@ -67,6 +67,7 @@ fn do_cancel<M: LawfulMem>(lane: &mut Lane<M>)
     requires { IsLaneOpened M.at lane.old Cancel None }
     ensures { ActionEnded M.at lane.old lane.new Cancel None }
 {
+    // Nothing is undrained between two calls.
     lane.pending.clear();
     let operation = Operation::Cancel;
     end_outside(lane, LentOperation::Whole(&operation), None);
@@ -99,6 +100,7 @@ pub fn finish<M: LawfulMem>(lane: &mut Lane<M>) -> Result<(), Refusal>
     if lane.stopped {
         return Err(Refusal::Stopped);
     }
+    // Nothing is undrained between two calls.
     lane.pending.clear();
     Ok(())
 }

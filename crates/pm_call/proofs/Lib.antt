@@ -67,3 +67,4 @@ pub mod LoneCalls
 pub mod LoneActions
 pub mod RefusedPublications
 pub mod PublishedWords
+pub mod CancelledWords

@@ -30,7 +30,7 @@ use Rattle.pm_crash.proofs.SimOps.{sim_extends}
 use Rattle.pm_crash.proofs.Telling.{no_root_is_asked, tells_grow}
 use Rattle.pm_call.specs.At.{At, AreLists, MaySet, entries_so_far, set_entry}
 use Rattle.pm_call.specs.Did.{IsUnrefused, unseen}
-use Rattle.pm_call.specs.Publishing.{CancelsMayBeTold, CanPublish, HasWord, IsWordSized, LeadsCancel, LeadsPublish, PendingWordsAreLookedAt, PublishRefusals, WordsMayBePublished, is_past_end, is_unheld, publishing_tests}
+use Rattle.pm_call.specs.Publishing.{CanPublish, HasWord, IsWordSized, LeadsPublish, PendingWordsAreLookedAt, PublishRefusals, WordsMayBePublished, is_past_end, is_unheld, publishing_tests}
 use Rattle.pm_call.specs.RangeLaws.{IsSizedIfHeld}
 use Rattle.pm_call.specs.Waiting.{HasPending, IsWord, listed_set, pending_now}
 use Rattle.pm_call.proofs.Noting.{all_map, data_told, held_told, sizes_told, sound_told, working_told}
@@ -217,7 +217,7 @@ module _ (s : Standing) (at : At s) where
   abbrev emptied : View
   emptied = u cancelled s.view.published s.entries
 
-  cancel_unrefused : IsUnrefused s Cancel
+  pub cancel_unrefused : IsUnrefused s Cancel
   unfolding first_of
   cancel_unrefused = record {
     looks = record {
@@ -270,13 +270,9 @@ module _ (s : Standing) (at : At s) where
         same = λ p b. inl refl;
       })
 
-  pub leads_cancel : LeadsCancel s
-  leads_cancel = record {
-    unrefused = cancel_unrefused;
-    allowed = at.working.is_open;
-    stands = told_with cancelled v.published s.entries at.room cancel_are
-        (none_left cancelled v.published s.entries cancel_now) cancel_sim;
-  }
+  pub cancel_stands : At (then cancelled s.view.published s.entries)
+  cancel_stands = told_with cancelled v.published s.entries at.room cancel_are
+      (none_left cancelled v.published s.entries cancel_now) cancel_sim
 
   -- ---- PUBLISH
 
@@ -421,6 +417,3 @@ pending_words_are_looked_at s at sized = looked s at sized
 
 pub pending_words_may_be_published : WordsMayBePublished
 pending_words_may_be_published s at can = leads_publish s at can
-
-pub pending_words_may_be_cancelled : CancelsMayBeTold
-pending_words_may_be_cancelled s at = leads_cancel s at

@@ -1,7 +1,7 @@
 -- THE PLANS OF A TRANSACTION'S OPERATIONS on objects that it found, as functions of the lane's view before them: docs/FORMAT.md, "Sequences".
 use Rattle.std.specs.Prelude.{ℕ, ◌+◌, ◌/◌, if◌then◌else◌, ◌==◌, List, [], ◌∷◌, length, Option, Some, None}
 use Rattle.pm_objects.specs.declared.calls.Operation.{Operation}
-use Rattle.pm_objects.specs.declared.calls.Operation.TheVariants.{AddRange, Write, Read, Commit}
+use Rattle.pm_objects.specs.declared.calls.Operation.TheVariants.{AddRange, Cancel, Write, Read, Commit}
 use Rattle.pm_objects.specs.declared.history.Value.{Value}
 use Rattle.pm_objects.specs.declared.history.Value.TheVariants.{Bytes}
 use Rattle.pm_objects.specs.declared.ids.Oid.{Oid}
@@ -45,6 +45,10 @@ ends_call op reply n = in_turn (tells op reply) (one (Draw n))
 
 abbrev pub gives_up : Operation → Option Value → ℕ → Plan
 gives_up op reply n = in_turn takes_back (ends_call op reply n)
+
+-- ---- WHAT IS PENDING IS CANCELLED: all that is undrained is made persistent, and the operation is told
+abbrev pub cancels : Plan
+cancels = in_turn persists_all (tells Cancel None)
 
 -- ---- A LEVEL IS COMMITTED: an inner one is only told
 abbrev pub commits_inner : Plan

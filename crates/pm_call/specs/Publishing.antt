@@ -10,12 +10,14 @@ use Rattle.pm_objects.specs.declared.calls.Operation.TheVariants.{Cancel, Publis
 use Rattle.pm_objects.specs.declared.refusal.Refusal.TheVariants as refusal
 use Rattle.pm_view.specs.Steps.Step.{Tell}
 use Rattle.pm_view.specs.Views.{after}
-use Rattle.pm_world.specs.LaneFields.{Standing, moved}
+use Rattle.pm_world.specs.LaneFields.{Standing}
 use Rattle.pm_world.specs.Lawful.{Allowed}
 use Rattle.pm_crash.specs.Looked.{refusal_by}
 use Rattle.pm_crash.specs.SimOps.{LookedAt}
+use Rattle.pm_plan.specs.Plans.{Ready}
 use Rattle.pm_call.specs.At.{At, entries_so_far, set_entry}
-use Rattle.pm_call.specs.Did.{IsUnrefused, unseen}
+use Rattle.pm_call.specs.Did.{IsUnrefused, next, unseen}
+use Rattle.pm_call.specs.Plans.{cancels}
 use Rattle.pm_call.specs.RangeLaws.{IsSizedIfHeld}
 use Rattle.pm_call.specs.Ranges.{HasRange, is_held_so, size_or_none}
 use Rattle.pm_call.specs.Waiting.{pending_now}
@@ -94,9 +96,10 @@ WordsMayBePublished = (s : Standing) → At s → CanPublish s → LeadsPublish 
 
 pub record LeadsCancel (s : Standing) : Type 0 where
   pub unrefused : IsUnrefused s Cancel
-  pub allowed : Allowed s.view (Tell Cancel None)
-  pub stands : At (moved s (after s.view (Tell Cancel None)))
+  pub ready : Ready s.view (cancels s.view)
+  pub stands : At (next s cancels)
 
--- THE LAW: what is pending may be dropped at any time, by telling it alone
+-- THE LAW: what is pending may be cancelled at any time; the lane is at work then, and nothing is
+-- undrained
 abbrev pub CancelsMayBeTold : Type 0
 CancelsMayBeTold = (s : Standing) → At s → LeadsCancel s

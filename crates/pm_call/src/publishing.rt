@@ -7,8 +7,8 @@ pub fn pending_words_may_be_published()
     ensures { WordsMayBePublished }
 {}
 
-/// A law: a lane at work may cancel what is pending, by telling it alone; none is pending then.
-/// No code runs.
+/// A law: a lane at work may cancel what is pending, by telling it once all that is undrained is
+/// persistent; none is pending then. No code runs.
 pub fn pending_words_may_be_cancelled()
     ensures { CancelsMayBeTold }
 {}

@@ -1,4 +1,4 @@
-use Rattle.pm_call.proofs.PublishedWords as words
+use Rattle.pm_call.proofs.CancelledWords as words
 use Rattle.pm_call.proofs.publishing.pending_words_may_be_cancelled.Goals as goal
 
 pub returns : goal.returns
