@@ -1,3 +1,4 @@
 mod Names
 mod Recovered
+mod Causes
 mod SoloOpened

@@ -1,6 +1,8 @@
-ghost use Rattle.std.specs.Prelude.{◌≡◌, ◌^◌, ◌<◌, ℕ, List, IfErr, IfOk, OnOk, slice_index, string_bytes};
+ghost use Rattle.std.specs.Prelude.{◌≡◌, ◌^◌, ◌<◌, ℕ, List, IfErr, IfOk, OnOk, slice_index};
+ghost use Rattle.std.specs.Prelude.{string_bytes};
 ghost use Rattle.pm_image.specs.Means.{IsMeaning};
-ghost use Rattle.pm_lanes.specs.Opens.{IsOpenCause, IsOpened, MayRun};
+ghost use Rattle.pm_lanes.specs.declared.fault.OpenFault.{OpenFault};
+ghost use Rattle.pm_lanes.specs.Opens.{IsOpenCause, IsOpened, IsRefusedFor, MayRun};
 ghost use Rattle.pm_objects.specs.declared.pool.PoolView.{PoolView};
 ghost use Rattle.pm_recover.specs.Recovery.{HasMeaning, IsRecovered};
 ghost use Rattle.pm_shared.specs.Openings.{CanBegin};
@@ -16,8 +18,8 @@ use pm_shared::{Beginning, Occupancy};
 use std::alloc::{AllocError, Global};
 
 /// Opens a pool for lanes: its image is recovered, and the words that lanes begin on are made.
-/// `lanes` run, 1 to the pool's, and each stops after its number of counted calls in `stops`, if it
-/// has one. A copy of the image is recovered: all memory is taken before a word of it changes.
+/// `lanes` run, 1 to the pool's, and each stops after its number of counted calls in `stops`, if
+/// it has one. A copy of the image is recovered, so that no word of it changes where it comes back.
 ///
 /// # Errors
 ///
@@ -40,6 +42,8 @@ pub fn open<'a>(
     ensures stops { IfOk result (λ b. b.stops ≡ stops) }
     ensures unchanged { IfErr result (λ e. e.0 ≡ image) }
     ensures cause { IfErr result (λ e. IsOpenCause image layout.now lanes e.1) }
+    ensures refused { (fault : OpenFault) → IsOpenCause image layout.now lanes fault
+        → IsRefusedFor fault result }
 {
     match begin(alloc, &image, layout, lanes, stops) {
         Ok(beginning) => Ok(beginning),
@@ -56,7 +60,8 @@ pub(crate) fn begin<'a>(
     stops: Stops,
 ) -> Result<Beginning, OpenFault<'a>>
     ensures begins { IfOk result CanBegin }
-    ensures opened { IfOk result (λ b. IsOpened image.now layout.now b.words.items b.shape b.pool) }
+    ensures opened { IfOk result
+        (λ b. IsOpened image.now layout.now b.words.items b.shape b.pool) }
     ensures lanes { IfOk result (λ b. b.lanes ≡ lanes) }
     ensures stops { IfOk result (λ b. b.stops ≡ stops) }
     ensures cause { IfErr result (IsOpenCause image.now layout.now lanes) }
@@ -81,7 +86,8 @@ pub(crate) fn begin<'a>(
 /// What the image means.
 fn meaning(alloc: Global, image: &RawImage) -> Result<PoolView, OpenFault<'static>>
     ensures means { IfOk result (IsMeaning image.now) }
-    ensures cause { IfErr result (λ e. (layout : List ℕ) (lanes : ℕ) → IsOpenCause image.now layout lanes e) }
+    ensures cause { IfErr result
+        (λ e. (layout : List ℕ) (lanes : ℕ) → IsOpenCause image.now layout lanes e) }
 {
     match means(alloc, image) {
         Ok(pool) => Ok(pool),
@@ -95,7 +101,8 @@ fn of_layout(pool: PoolView, layout: &str) -> Result<PoolView, OpenFault<'_>>
     requires { IsUtf8 pool.name }
     ensures same { IfOk result (λ named. named ≡ pool) }
     ensures named { OnOk result (pool.name ≡ layout.now) }
-    ensures cause { IfErr result (λ e. (image : List ℕ) (lanes : ℕ) → IsMeaning image pool → IsOpenCause image layout.entry.now lanes e) }
+    ensures cause { IfErr result (λ e. (image : List ℕ) (lanes : ℕ) → IsMeaning image pool
+        → IsOpenCause image layout.entry.now lanes e) }
 {
     if pool.name.as_slice() == layout.as_bytes() {
         Ok(pool)
@@ -121,7 +128,8 @@ fn text_of(name: Sequence<u8>) -> String
 /// Whether so many lanes may run on the pool.
 fn check_lanes(pool: &PoolView, lanes: u64) -> Result<(), OpenFault<'static>>
     ensures run { OnOk result (MayRun pool.now lanes) }
-    ensures cause { IfErr result (λ e. (image : List ℕ) → IsMeaning image pool.now → IsOpenCause image pool.now.name lanes e) }
+    ensures cause { IfErr result (λ e. (image : List ℕ) → IsMeaning image pool.now
+        → IsOpenCause image pool.now.name lanes e) }
 {
     if 1 <= lanes && lanes <= pool.lanes {
         Ok(())
@@ -148,7 +156,8 @@ fn shape_of(pool: &PoolView) -> Shape
 /// The words that recovery makes of an image that means a pool.
 fn recovered(alloc: Global, image: &RawImage) -> Result<Vec<u64>, AllocError>
     requires { HasMeaning image.now }
-    ensures words { IfOk result (λ words. (pool : PoolView) → IsMeaning image.now pool → IsRecovered image.now words.items pool.lanes) }
+    ensures words { IfOk result (λ words. (pool : PoolView) → IsMeaning image.now pool
+        → IsRecovered image.now words.items pool.lanes) }
     ensures small { IfOk result (λ words. (w : ℕ) → slice_index words.items w < 2 ^ 64) }
 {
     let mut copy = image.copy(alloc)?;

@@ -1,5 +1,6 @@
 ghost use Rattle.std.specs.Prelude.{◌≡◌, ◌≤◌, ◌-◌, ◌++◌, IfErr, IfOk, length, replicate};
-ghost use Rattle.pm_lanes.specs.Opens.{IsOpenCause, IsOpened, StandsOpened};
+ghost use Rattle.pm_lanes.specs.declared.fault.OpenFault.{OpenFault};
+ghost use Rattle.pm_lanes.specs.Opens.{IsOpenCause, IsOpened, IsRefusedFor, StandsOpened};
 
 use crate::fault::OpenFault;
 use crate::opening::begin;
@@ -13,8 +14,8 @@ use std::alloc::{AllocError, Global};
 
 /// Opens a pool for lane 0 with no other lane beside it, over a memory of its own: its image is
 /// recovered, and the lane is that of the recovered words before its first call, with the pool's
-/// shape and id. It stops after `stop` counted calls, if there is a number. All memory is taken
-/// before a word of the image changes.
+/// shape and id. It stops after `stop` counted calls, if there is a number. A copy of the image is
+/// recovered, so that no word of it changes where it comes back.
 ///
 /// # Errors
 ///
@@ -33,6 +34,8 @@ pub fn open_solo<'a>(
     ensures stands { IfOk result (λ made. StandsOpened made.0 made.1 made.2 stop) }
     ensures unchanged { IfErr result (λ e. e.0 ≡ image) }
     ensures cause { IfErr result (λ e. IsOpenCause image layout.now 1 e.1) }
+    ensures refused { (fault : OpenFault) → IsOpenCause image layout.now 1 fault
+        → IsRefusedFor fault result }
 {
     match begin_solo(alloc, &image, layout, stop) {
         Ok(made) => Ok(made),
@@ -47,7 +50,8 @@ fn begin_solo<'a>(
     layout: &'a str,
     stop: Option<u64>,
 ) -> Result<(SoloLane, Shape, u64), OpenFault<'a>>
-    ensures opened { IfOk result (λ made. IsOpened image.now layout.now made.0.words made.1 made.2) }
+    ensures opened { IfOk result
+        (λ made. IsOpened image.now layout.now made.0.words made.1 made.2) }
     ensures stands { IfOk result (λ made. StandsOpened made.0 made.1 made.2 stop) }
     ensures cause { IfErr result (IsOpenCause image.now layout.now 1) }
 {

@@ -17,8 +17,8 @@ use std::test::Fail;
 /// The first word of lane 0's first undo slot.
 const SLOT_WORD: u64 = 648;
 
-/// A new pool of two lanes and one zone with a root of 64 bytes, whose word with this number is then
-/// this value.
+/// A new pool of two lanes and one zone with a root of 64 bytes, whose word with this number then
+/// becomes this value.
 fn pool(alloc: Global, word: u64, value: u64) -> Result<RawImage, Fail> {
     let mut image = create(alloc, Shape::new(2, 1)?, 7, "demo", 64)?;
     if word < image.len() {
