@@ -1,13 +1,13 @@
 -- A CALL OPENS as its lane, between two calls, sees a number; and a lane whose call is open takes the locks that are wanted and begins the outermost level.
 use Rattle.std.proofs.Common.{◌≡◌, ℕ, ◌<◌, List, [], ◌∷◌, refl, sym, ap, subst, arith, None, inl, ◌+◌, ◌≤◌, nat_le, true, false, not, ◌==◌, ◌++◌, ◌∙◌}
-use Rattle.std.specs.List.{AllByRecursion}
-use Rattle.std.proofs.lemmas.List.Elements.{Contains-push}
+use Rattle.std.specs.List.{AllByRecursion, Contains}
 use Rattle.pm_layout.specs.Areas.{greatest_generation}
 use Rattle.pm_view.specs.Changes.{Undrained}
 use Rattle.pm_view.specs.Log.{Log, Open, Phase, new_log}
 use Rattle.pm_view.specs.Places.{Small, Big, Root, Place}
+use Rattle.pm_view.specs.Steps.{Step}
 use Rattle.pm_view.specs.Steps.Step.{NumberSeen}
-use Rattle.pm_view.specs.View.{View, Told}
+use Rattle.pm_view.specs.View.{Constants, View, Told}
 use Rattle.pm_view.specs.Views.{after, begun, with_seen}
 use Rattle.pm_world.specs.InWorld.{SizesFit}
 use Rattle.pm_world.specs.LaneFields.{Standing, moved, kept_of}
@@ -17,6 +17,7 @@ use Rattle.pm_call.specs.Did.{IsOver}
 use Rattle.pm_call.specs.Held.{HoldsAll, AreHeld, has_line, is_in_locks}
 use Rattle.pm_call.specs.Locking.{CallsMayOpen, IsOpened, AgreesOn, CanLock, OpenedLanesMayLock, TransactionsMayBegin, LeadsLocks, TakesLocks, to_take}
 use Rattle.pm_call.specs.Stages.{IsBetween}
+use Rattle.pm_call.specs.Between.{LookedCallsMayOpen, MayOpen, saw_number, saw_numbers}
 use Rattle.pm_call.proofs.Staying.{holds_with, pending_opened}
 use Rattle.std.specs.Prelude.{length, map}
 use Rattle.std.proofs.lemmas.Bool.{and_left, and_right, both_ways}
@@ -34,15 +35,19 @@ use Rattle.pm_call.proofs.LockedObjects.{all_placed_there, leads, no_first, none
 use Rattle.pm_model.specs.declared.stage.Stage.TheVariants as stage
 use Rattle.pm_undo.specs.Spans as spans
 
-module _ (s : Standing) (n : ℕ) (is : IsBetween s) (more : s.view.log.generation < greatest_generation s.view.fixed.shape) (below : n < greatest_generation s.view.fixed.shape) where
+first_seen : (x : Step) (seen : List Step) → Contains (x ∷ seen) x
+first_seen x seen = (0, omega arith, refl)
+
+-- the view once the call is open, having seen these
+abbrev open_view : Standing → List Step → View
+open_view s seen = record s.view { log = new_log Open s.view.log.generation; seen = seen; call = []; number = None; published = [] }
+
+module _ (s : Standing) (n : ℕ) (earlier : List Step) (is : IsBetween s) (more : s.view.log.generation < greatest_generation s.view.fixed.shape) (below : n < greatest_generation s.view.fixed.shape) where
   abbrev over : IsOver s
   over = is.over
 
   abbrev next : View
-  next = record s.view { log = new_log Open s.view.log.generation; seen = NumberSeen n ∷ []; call = []; number = None; published = [] }
-
-  opens : after s.view (NumberSeen n) ≡ next
-  opens = ap (λ (ph : Phase). with_seen (NumberSeen n) (begun ph s.view)) (ap (λ (l : Log). l.phase) over.log)
+  next = open_view s (NumberSeen n ∷ earlier)
 
   sizes : SizesFit next
   sizes (Small c i) = over.sizes (Small c i)
@@ -70,7 +75,7 @@ module _ (s : Standing) (n : ℕ) (is : IsBetween s) (more : s.view.log.generati
     sound = record { small = over.sound.small; some = over.sound.some; zone = over.sound.zone; huge = over.sound.huge };
     sizes = sizes;
     sealed = over.sealed;
-    number = record { seen = n; told = Contains-push [] (NumberSeen n); below = below; none = refl };
+    number = record { seen = n; told = first_seen (NumberSeen n) earlier; below = below; none = refl };
     call = refl;
     records = refl;
     locks = is.unlocked;
@@ -81,11 +86,48 @@ module _ (s : Standing) (n : ℕ) (is : IsBetween s) (more : s.view.log.generati
     facts = over.facts;
   }
 
-  pub opens_call : IsOpened (moved s (after s.view (NumberSeen n)))
-  opens_call = subst (λ (y : View). IsOpened (moved s y)) (sym opens) opened
+-- it opens as the lane looks for the first time, and stays so as it looks again
+abbrev numbers_seen : List ℕ → List Step
+numbers_seen [] = []
+numbers_seen (n ∷ ns) = NumberSeen n ∷ numbers_seen ns
+
+saw_open : (s : Standing) → IsBetween s → (n : ℕ) (ns : List ℕ) → after (saw_numbers s ns).view (NumberSeen n) ≡ open_view s (NumberSeen n ∷ numbers_seen ns)
+saw_open s is n [] = ap (λ (ph : Phase). with_seen (NumberSeen n) (begun ph s.view)) (ap (λ (l : Log). l.phase) is.over.log)
+saw_open s is n (m ∷ ms) = ap (λ (v : View). after v (NumberSeen n)) (saw_open s is m ms)
 
 pub calls_may_open : CallsMayOpen
-calls_may_open s n is more below = opens_call s n is more below
+calls_may_open s n is more below = subst (λ (y : View). IsOpened (moved s y)) (sym (saw_open s is n [])) (opened s n [] is more below)
+
+looks_keep : (s : Standing) → IsBetween s → (ns : List ℕ) → ((saw_numbers s ns).view.log.generation ≡ s.view.log.generation) × (saw_numbers s ns ≡ moved s (saw_numbers s ns).view) × ((saw_numbers s ns).view.fixed ≡ s.view.fixed)
+looks_keep s is [] = (refl, refl, refl)
+looks_keep s is (n ∷ ns) = (
+  ap (λ (v : View). v.log.generation) (saw_open s is n ns),
+  ap (λ (t : Standing). moved t (after (saw_numbers s ns).view (NumberSeen n))) (looks_keep s is ns).1,
+  ap (λ (v : View). v.fixed) (saw_open s is n ns),
+)
+
+pub between_may_open : (s : Standing) → IsBetween s → MayOpen s
+between_may_open s is = record { before = s; between = is; saw = []; since = refl }
+
+pub look_may_open : (s : Standing) (n : ℕ) → MayOpen s → MayOpen (saw_number s n)
+look_may_open s n may = record { before = may.before; between = may.between; saw = n ∷ may.saw; since = ap (λ (t : Standing). saw_number t n) may.since }
+
+pub looked_calls_may_open : LookedCallsMayOpen
+looked_calls_may_open s n may more below = subst Opens (sym may.since) opens more below where
+  Opens : Standing → Type 0
+  Opens t = t.view.log.generation < greatest_generation t.view.fixed.shape → n < greatest_generation t.view.fixed.shape → IsOpened (saw_number t n)
+
+  same : saw_number (saw_numbers may.before may.saw) n ≡ moved may.before (open_view may.before (NumberSeen n ∷ numbers_seen may.saw))
+  same = ap (λ (t : Standing). moved t (after (saw_numbers may.before may.saw).view (NumberSeen n))) (looks_keep may.before may.between may.saw).1
+      ∙ ap (moved may.before) (saw_open may.before may.between n may.saw)
+
+  opens : Opens (saw_numbers may.before may.saw)
+  opens more_then below_then =
+      let k = looks_keep may.before may.between may.saw in
+      let fewer = subst (λ g. g < greatest_generation (saw_numbers may.before may.saw).view.fixed.shape) k.0 more_then in
+      subst IsOpened (sym same) (opened may.before n (numbers_seen may.saw) may.between
+      (subst (λ (f : Constants). may.before.view.log.generation < greatest_generation f.shape) k.2 fewer)
+      (subst (λ (f : Constants). n < greatest_generation f.shape) k.2 below_then))
 
 -- ---- THE OUTERMOST LEVEL BEGINS in an open call
 module _ (s : Standing) (op : IsOpened s) where

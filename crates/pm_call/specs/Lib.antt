@@ -12,6 +12,7 @@ pub mod RangeLaws
 pub mod Writing
 pub mod Adding
 pub mod Locking
+pub mod Between
 pub mod LockRefusals
 pub mod LocksGot
 pub mod WantedTried

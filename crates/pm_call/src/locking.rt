@@ -1,3 +1,4 @@
+ghost use Rattle.pm_call.specs.Between.{LookedCallsMayOpen};
 ghost use Rattle.pm_call.specs.LockRefusals.{
   DeepBeginsGiveUp,
   LockRefusals,
@@ -72,9 +73,10 @@ pub fn transactions_may_begin()
 {}
 
 /// A law: a lane between two calls opens its call as it sees a number that is not the last, and
-/// may lock then. No code runs.
+/// may lock then; also where it looked before, and found none left. No code runs.
 pub fn calls_may_open()
-    ensures { CallsMayOpen }
+    ensures first { CallsMayOpen }
+    ensures looked { LookedCallsMayOpen }
 {}
 
 /// A law: a lane at work may lock, and so may one whose call is open. No code runs.

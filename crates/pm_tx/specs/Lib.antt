@@ -3,3 +3,4 @@ pub mod Outcome
 pub mod Ending
 pub mod Actions
 pub mod Commits
+pub mod Standing

@@ -11,6 +11,7 @@
 mod actions;
 mod commits;
 mod ending;
+mod laws;
 mod outcome;
 mod ranges;
 mod stages;
@@ -18,6 +19,7 @@ mod stages;
 pub use actions::set_value;
 pub use commits::{commit, process};
 pub use ending::end;
+pub use laws::lanes_stand;
 pub use outcome::abort;
 pub use ranges::{add_range, read, write};
 pub use stages::{errno, level, stage};

@@ -1,0 +1,39 @@
+-- A LANE BETWEEN TWO CALLS may open one, by a look at how many numbers were drawn. Where none is left
+-- the call is open, and the lane does no more: it may look again.
+use Rattle.std.specs.Prelude.{◌≡◌, ℕ, ◌<◌, List, [], ◌∷◌}
+use Rattle.pm_layout.specs.Areas.{greatest_generation}
+use Rattle.pm_view.specs.Steps.Step.{NumberSeen}
+use Rattle.pm_view.specs.View.{View}
+use Rattle.pm_view.specs.Views.{after}
+use Rattle.pm_world.specs.LaneFields.{Rests, Standing, moved}
+use Rattle.pm_world.specs.declared.lane.Lane.{Lane}
+use Rattle.pm_call.specs.Locking.{IsOpened}
+use Rattle.pm_call.specs.Stages.{IsBetween}
+
+-- the lane's data as it saw that so many numbers were drawn; and as it looked more than once, the
+-- last time first
+abbrev pub saw_number : Standing → ℕ → Standing
+saw_number s n = moved s (after s.view (NumberSeen n))
+
+abbrev pub saw_numbers : Standing → List ℕ → Standing
+saw_numbers s [] = s
+saw_numbers s (n ∷ ns) = saw_number (saw_numbers s ns) n
+
+-- IT MAY OPEN A CALL: since it was between two calls it only looked at how many numbers were drawn
+pub record MayOpen (s : Standing) : Type 0 where
+  pub before : Standing
+  pub between : IsBetween before
+  pub saw : List ℕ
+  pub since : s ≡ saw_numbers before saw
+
+pub record IsLaneBetween {M : Type 0} (at : M → View → Type 0) (lane : Lane M) : Type 0 where
+  pub standing : Standing
+  pub rests : Rests at lane standing
+  pub between : MayOpen standing
+
+-- THE LAW: its call opens as it sees a number that is not the last, whatever it saw before
+abbrev pub LookedCallsMayOpen : Type 0
+LookedCallsMayOpen = (s : Standing) (n : ℕ) → MayOpen s
+    → s.view.log.generation < greatest_generation s.view.fixed.shape
+    → n < greatest_generation s.view.fixed.shape
+    → IsOpened (saw_number s n)
