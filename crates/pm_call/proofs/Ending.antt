@@ -15,14 +15,14 @@ use Rattle.pm_crash.specs.Calls.{pending_with}
 use Rattle.pm_crash.specs.SimFacts.{is_begun}
 
 -- ---- the first refusal of tests that leave a trace where they apply
-abbrev IsTraced : Test → Type 0
+abbrev pub IsTraced : Test → Type 0
 IsTraced t = t.1 ≡ true → is_untraced t.0 ≡ false
 
-abbrev AreTraced : List Test → Type 0
+abbrev pub AreTraced : List Test → Type 0
 AreTraced [] = Unit {0}
 AreTraced (t ∷ rest) = IsTraced t × AreTraced rest
 
-first_traced : (list : List Test) (r : Refusal) → AreTraced list → first_of list ≡ Some r → is_untraced r ≡ false
+pub first_traced : (list : List Test) (r : Refusal) → AreTraced list → first_of list ≡ Some r → is_untraced r ≡ false
 unfolding first_of
 first_traced [] r all e = absurd cc
 first_traced (t ∷ rest) r all e = at t.1 refl (first_traced rest r all.1) where

@@ -39,6 +39,7 @@ pub mod LockLists
 pub mod WorldFacts
 pub mod HeldLines
 pub mod TakenLocks
+pub mod FirstLocks
 pub mod LockedObjects
 pub mod LocksGot
 pub mod WantedTried
@@ -46,6 +47,7 @@ pub mod LockRefusals
 pub mod RefusedWants
 pub mod TriedLocks
 pub mod WantedTaken
+pub mod LockOps
 pub mod InnerLevels
 pub mod Persisted
 pub mod Outermost
@@ -56,3 +58,5 @@ pub mod SetChanges
 pub mod LoggedCalls
 pub mod LoggedCommits
 pub mod OpenedCalls
+pub mod RefusedBegins
+pub mod Begins

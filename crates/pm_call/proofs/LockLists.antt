@@ -21,7 +21,7 @@ use Rattle.pm_lock.proofs.Planned.{planned_rises}
 use Rattle.pm_call.specs.Held.{has_line, is_in_locks, line_of}
 
 -- ---- truth values
-none_then : (a : Bool) → (a || false) ≡ a
+pub none_then : (a : Bool) → (a || false) ≡ a
 none_then true = refl
 none_then false = refl
 
@@ -129,7 +129,7 @@ module _ (sh : Shape) (pool : ℕ) (listed : ℕ → Bool) where
       by false e true f = planned_is line w plan n write ∙ ap (λ x. any_at plan n write || (x && (w || not write))) (f ∙ sym (and_from (line == n) (not (listed n)) f (ap not (ap listed (sym (eqb-true line n f)) ∙ e))))
       by false e false f = planned_is line w plan n write ∙ ap (λ x. any_at plan n write || (x && (w || not write))) (f ∙ sym (and_left (line == n) (not (listed n)) f))
 
-  all_planned_is : (wants : List Want) (plan : List HeldLock) (n : ℕ) (write : Bool) → any_at (planned_all sh pool listed wants plan) n write ≡ (any_at plan n write || list_any (goes_at n write) wants)
+  pub all_planned_is : (wants : List Want) (plan : List HeldLock) (n : ℕ) (write : Bool) → any_at (planned_all sh pool listed wants plan) n write ≡ (any_at plan n write || list_any (goes_at n write) wants)
   unfolding planned_all
   all_planned_is [] plan n write = sym (none_then (any_at plan n write))
   all_planned_is (want ∷ wants) plan n write = all_planned_is wants (planned_for listed (objects.line_of sh pool want.id) want.write plan) n write
@@ -148,7 +148,7 @@ listed_is locks n = by locks ∙ sym (none_then (list_any (λ (l : HeldLock). l.
   by (l ∷ locks) = (λ i. f_all (l.line == n) l.write i || by locks i)
 
 -- a lock for writing is one
-any_of : (locks : List HeldLock) (n : ℕ) (write : Bool) → any_at locks n false ≡ false → any_at locks n write ≡ false
+pub any_of : (locks : List HeldLock) (n : ℕ) (write : Bool) → any_at locks n false ≡ false → any_at locks n write ≡ false
 any_of [] n write e = refl
 any_of (l ∷ locks) n write e = by (l.line == n) l.write (any_at locks n false) (any_of locks n write) e where
   by : (a p f : Bool) → (f ≡ false → any_at locks n write ≡ false) → ((a && (p || true)) || f) ≡ false → ((a && (p || not write)) || any_at locks n write) ≡ false
@@ -301,7 +301,7 @@ locked_count o w (l ∷ locks) = at (l.off == o) refl (locked_count o w locks) w
   at true e rest = let z : one_unless ((l.off == o && (l.write || true)) || is_locked locks o false) ≡ 0 = ap (λ b. one_unless (b || is_locked locks o false)) (f_all (l.off == o) l.write ∙ e) in omega (arith, z)
   at false e rest = let z : one_unless ((l.off == o && (l.write || true)) || is_locked locks o false) ≡ one_unless (is_locked locks o false) = ap (λ b. one_unless (b || is_locked locks o false)) (f_all (l.off == o) l.write ∙ e) in omega (arith, rest, z)
 
-none_above : (line low : ℕ) (plan : List HeldLock) → line ≤ low → AllByRecursion (λ (k : HeldLock). low < k.line) plan → any_at plan line false ≡ false
+pub none_above : (line low : ℕ) (plan : List HeldLock) → line ≤ low → AllByRecursion (λ (k : HeldLock). low < k.line) plan → any_at plan line false ≡ false
 none_above line low [] le above = refl
 none_above line low (l ∷ plan) le above = let first = above.0 in ap (λ b. b || any_at plan line false) (f_all (l.line == line) l.write ∙ ne_eqb l.line line (λ e. omega (arith, e, le, first))) ∙ none_above line low plan le above.1
 

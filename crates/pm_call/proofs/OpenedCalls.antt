@@ -39,7 +39,7 @@ first_seen : (x : Step) (seen : List Step) → Contains (x ∷ seen) x
 first_seen x seen = (0, omega arith, refl)
 
 -- the view once the call is open, having seen these
-abbrev open_view : Standing → List Step → View
+abbrev pub open_view : Standing → List Step → View
 open_view s seen = record s.view { log = new_log Open s.view.log.generation; seen = seen; call = []; number = None; published = [] }
 
 module _ (s : Standing) (n : ℕ) (earlier : List Step) (is : IsBetween s) (more : s.view.log.generation < greatest_generation s.view.fixed.shape) (below : n < greatest_generation s.view.fixed.shape) where
@@ -78,6 +78,7 @@ module _ (s : Standing) (n : ℕ) (earlier : List Step) (is : IsBetween s) (more
     number = record { seen = n; told = first_seen (NumberSeen n) earlier; below = below; none = refl };
     call = refl;
     records = refl;
+    drained = over.drained;
     locks = is.unlocked;
     holds = holds_with s.view next [] refl refl (subst (λ (ls : List HeldLock). HoldsAll s.view ls) is.unlocked over.holds);
     own = over.own;
@@ -87,18 +88,18 @@ module _ (s : Standing) (n : ℕ) (earlier : List Step) (is : IsBetween s) (more
   }
 
 -- it opens as the lane looks for the first time, and stays so as it looks again
-abbrev numbers_seen : List ℕ → List Step
+abbrev pub numbers_seen : List ℕ → List Step
 numbers_seen [] = []
 numbers_seen (n ∷ ns) = NumberSeen n ∷ numbers_seen ns
 
-saw_open : (s : Standing) → IsBetween s → (n : ℕ) (ns : List ℕ) → after (saw_numbers s ns).view (NumberSeen n) ≡ open_view s (NumberSeen n ∷ numbers_seen ns)
+pub saw_open : (s : Standing) → IsBetween s → (n : ℕ) (ns : List ℕ) → after (saw_numbers s ns).view (NumberSeen n) ≡ open_view s (NumberSeen n ∷ numbers_seen ns)
 saw_open s is n [] = ap (λ (ph : Phase). with_seen (NumberSeen n) (begun ph s.view)) (ap (λ (l : Log). l.phase) is.over.log)
 saw_open s is n (m ∷ ms) = ap (λ (v : View). after v (NumberSeen n)) (saw_open s is m ms)
 
 pub calls_may_open : CallsMayOpen
 calls_may_open s n is more below = subst (λ (y : View). IsOpened (moved s y)) (sym (saw_open s is n [])) (opened s n [] is more below)
 
-looks_keep : (s : Standing) → IsBetween s → (ns : List ℕ) → ((saw_numbers s ns).view.log.generation ≡ s.view.log.generation) × (saw_numbers s ns ≡ moved s (saw_numbers s ns).view) × ((saw_numbers s ns).view.fixed ≡ s.view.fixed)
+pub looks_keep : (s : Standing) → IsBetween s → (ns : List ℕ) → ((saw_numbers s ns).view.log.generation ≡ s.view.log.generation) × (saw_numbers s ns ≡ moved s (saw_numbers s ns).view) × ((saw_numbers s ns).view.fixed ≡ s.view.fixed)
 looks_keep s is [] = (refl, refl, refl)
 looks_keep s is (n ∷ ns) = (
   ap (λ (v : View). v.log.generation) (saw_open s is n ns),

@@ -16,10 +16,9 @@ use Rattle.pm_lock.specs.Locking.{lock_at}
 use Rattle.pm_lock.specs.Objects as objects
 use Rattle.pm_lock.specs.Wants.{has_unplaced, is_at_line, wants_to_write}
 use Rattle.pm_lock.proofs.CanBegin.{has_header}
-use Rattle.pm_call.specs.At.{At}
 use Rattle.pm_call.specs.Held.{has_line, is_in_locks, line_of}
 use Rattle.pm_call.specs.LockRefusals.{locking_tests}
-use Rattle.pm_call.specs.Locking.{locks_with, to_take, to_write}
+use Rattle.pm_call.specs.Locking.{AgreesOn, locks_with, to_take, to_write}
 use Rattle.pm_call.specs.WantedTried.{AreFew, IsPlaced}
 use Rattle.pm_call.proofs.HeldLines.{has_lock, has_raised, has_right}
 use Rattle.pm_call.proofs.LockLists.{all_locked_is, any_at, listed_is, locks_are, more_any, wants_off}
@@ -114,7 +113,7 @@ module _ (s : Standing) (wants : List Want) where
   tests_at seen x fixed = ap (λ (f : Constants). locking_tests seen (moved s (record s.view { fixed = f })) wants) fixed
 
   -- ---- each lock that it is to take is wanted, and not in the list
-  module _ (at : At s) (placed : IsPlaced s wants) (once : AreOnce (s.locks ++ to_take s wants)) (k : ℕ) (low : k < length (to_take s wants)) (high : 1 ≤ (lock_at (to_take s wants) k).line) where
+  module _ (lists : AgreesOn s (lists_of s.view)) (placed : IsPlaced s wants) (once : AreOnce (s.locks ++ to_take s wants)) (k : ℕ) (low : k < length (to_take s wants)) (high : 1 ≤ (lock_at (to_take s wants) k).line) where
     abbrev line : ℕ
     line = (lock_at (to_take s wants) k).line
 
@@ -131,5 +130,5 @@ module _ (s : Standing) (wants : List Want) where
         ∙ or_left (has_lock (locks_with s wants) line) false (has_raised (to_write s wants) (s.locks ++ to_take s wants) line ∙ has_right s.locks (to_take s wants) line (has_at (to_take s wants) k low))))
 
     pub is_wanted : wants_off wants off false ≡ true
-    is_wanted = ap (λ b. b || wants_off wants off false) (sym (at.lists.locks off false ∙ unlisted false)) ∙ (sym (all_locked_is wants (lists_of s.view).locks off false)
-        ∙ (locks_are s.view.fixed.shape s.view.fixed.pool s.locks wants placed (lists_of s.view).locks at.lists.locks off false ∙ listed_then))
+    is_wanted = ap (λ b. b || wants_off wants off false) (sym (lists.locks off false ∙ unlisted false)) ∙ (sym (all_locked_is wants (lists_of s.view).locks off false)
+        ∙ (locks_are s.view.fixed.shape s.view.fixed.pool s.locks wants placed (lists_of s.view).locks lists.locks off false ∙ listed_then))

@@ -30,7 +30,8 @@ use Rattle.pm_lock.proofs.Acquired.{may_lock_wanted}
 use Rattle.pm_lock.proofs.HeldLocks.{held_are_raised, held_grow, held_stay}
 use Rattle.pm_lock.proofs.KeptBlocks.{raised_keep, taken_keep}
 use Rattle.pm_lock.proofs.RaisedClaims.{are_raised}
-use Rattle.pm_call.specs.Locking.{CanLock, LanesAtWorkMayLock, LocksMayBeWanted, TakesLocks, locks_with, to_take, to_write}
+use Rattle.pm_call.specs.At.{IsAtWith}
+use Rattle.pm_call.specs.Locking.{CanLock, CanLockWith, LanesAtWorkMayLock, LocksMayBeWanted, TakesLocks, locks_with, to_take, to_write}
 use Rattle.pm_call.proofs.HeldLines.{has_filter, has_left, has_lock, has_raised, has_right, holds_rose, holds_taken, listed_has}
 use Rattle.pm_call.proofs.KeptByLooks.{keeps_looked}
 use Rattle.pm_call.proofs.KeptClaims.{IsFree, KeepsAll, claiming, keeps_more, keeps_rose, keeps_taken}
@@ -47,8 +48,8 @@ pub locks_may_be_wanted : LocksMayBeWanted
 locks_may_be_wanted s at = record { shape = refl; area = at.working.lane; early = ap is_early at.working.is_open; unmaking = at.working.unmaking; listed = at.holds.only }
 
 -- a lane at work may lock
-pub can_lock : LanesAtWorkMayLock
-can_lock s at = record {
+pub work_may_lock : (s : Standing) (level : ℕ) (all : List HeldLock) → IsAtWith s level all → CanLockWith s all
+work_may_lock s level all at = record {
   working = at.working;
   unbumped = at.unbumped;
   sound = at.sound;
@@ -66,6 +67,9 @@ can_lock s at = record {
   facts = at.facts;
   tells = inr at.lists.works;
 }
+
+pub can_lock : LanesAtWorkMayLock
+can_lock s at = work_may_lock s s.level s.locks at
 
 -- what was seen, was seen
 pub seen_raises : (locks : List HeldLock) (v : View) (n : Step) → Contains v.seen n → Contains (after_all v (map (λ (l : HeldLock). Raise l.line true) locks)).seen n

@@ -34,7 +34,7 @@ use Rattle.pm_lock.proofs.KeptBlocks.{raised_keep, taken_keep}
 use Rattle.pm_lock.proofs.RaisedClaims.{are_raised}
 use Rattle.pm_call.specs.At.{At, IsAtWith, MaySet}
 use Rattle.pm_call.specs.Held.{AreHeld, HasObject, HoldsAll, IsHeld, IsHeldFor}
-use Rattle.pm_call.specs.Locking.{to_take, to_write}
+use Rattle.pm_call.specs.Locking.{CanLock, CanLockWith, to_take, to_write}
 use Rattle.pm_call.specs.LockRefusals.{TriedLocks, TriedLocksLeaveWork}
 use Rattle.pm_call.proofs.HeldLines.{all_take, has_filter, has_left, has_lock, has_right, has_take, has_to, held_to, holds_rose, holds_taken, lines_to, listed_has, locked_rose, once_to, raised_to}
 use Rattle.pm_call.proofs.KeptByLooks.{keeps_looked}
@@ -92,9 +92,9 @@ sound_seen : (v : View) (t : List Claim) (seen other : List Step) → IsSound (l
 sound_seen v t seen other s = record { small = s.small; some = s.some; zone = s.zone; huge = s.huge }
 
 -- ---- the lines of the locks that are wanted
-module _ (s : Standing) (wants : List Want) (at : At s) where
+module _ (s : Standing) (wants : List Want) (at : CanLock s) where
   may : MayWant s.view s.view.fixed.shape s.locks []
-  may = locks_may_be_wanted s (can_lock s at)
+  may = locks_may_be_wanted s at
 
   lines : AllByRecursion (λ (l : HeldLock). is_chunk_line s.view.fixed.shape l.line ≡ true) (to_take s wants)
   lines = all_map (λ (l : HeldLock). CanLook (after_all s.view (tries (to_take s wants))) s.view.fixed.shape l.line) (λ (l : HeldLock). is_chunk_line s.view.fixed.shape l.line ≡ true) (to_take s wants) (λ l c. c.chunk)
@@ -108,7 +108,7 @@ module _ (s : Standing) (wants : List Want) (at : At s) where
   free = all_with (λ (l : HeldLock). MayTake s.view l.line) (λ (l : HeldLock). l.line ≢ 0) (IsFree s.view.claims) (to_take s wants) (λ l m ne. (ne, m.free))
       (may_lock_wanted s.view s.view.fixed.shape s.view.fixed.pool s.locks [] wants may).takes.each some
 
-module _ (s : Standing) (wants : List Want) (all : List HeldLock) (x : View) (at : At s) (tk : TriedLocks s wants all x) where
+module _ (s : Standing) (wants : List Want) (all : List HeldLock) (x : View) (at : CanLock s) (tk : TriedLocks s wants all x) where
   abbrev v : View
   v = s.view
 
@@ -210,7 +210,7 @@ module _ (s : Standing) (wants : List Want) (all : List HeldLock) (x : View) (at
   held : AreHeld next s.locks
   held = all_map (IsHeld s.view) (IsHeld next) s.locks (λ l o. record {
     held = held_on l o.held;
-    object = ⊎_elim (λ (z : l.line ≡ 0). inl z) (λ (b : HasObject s.view l.line). inr (object_on s (can_lock s at) claims x.seen keeps at.own sound pics l.line b)) o.object;
+    object = ⊎_elim (λ (z : l.line ≡ 0). inl z) (λ (b : HasObject s.view l.line). inr (object_on s at claims x.seen keeps at.own sound pics l.line b)) o.object;
   }) at.held
 
   each : HoldsEach next (raised_to (to_write s wants) tk.rose_ both)
@@ -233,27 +233,21 @@ module _ (s : Standing) (wants : List Want) (all : List HeldLock) (x : View) (at
       looked_locks : (line : ℕ) → holds looked_here.0 line ≡ holds first line
       looked_locks line = λ i. here.locked line i || here.reads line i
 
-  at_work : IsAtWith (moved s next) s.level all
-  at_work = record {
-    working = working_on s (can_lock s at) claims x.seen keeps at.own sound pics;
+  -- SO IT MAY LOCK still, with these
+  may_lock : CanLockWith (moved s next) all
+  may_lock = record {
+    working = working_on s at claims x.seen keeps at.own sound pics;
     unbumped = at.unbumped;
-    begun = at.begun;
-    some = at.some;
-    most = at.most;
     sound = sound;
     sizes = fit;
-    sealed = seal_on s (can_lock s at) claims x.seen keeps at.own sound pics;
+    sealed = seal_on s at claims x.seen keeps at.own sound pics;
     number = record { seen = at.number.seen; told = tk.told (NumberSeen at.number.seen) at.number.told; below = at.number.below; none = at.number.none };
     held = held;
-    lines = at.lines;
-    few = at.few;
     holds = subst (HoldsAll next) (sym tk.lists) (record { each = each; only = only });
     own = own_on s.view claims x.seen keeps at.own;
     room = at.room;
-    recorded = λ p e. data_on s (can_lock s at) claims x.seen keeps at.own sound pics p (at.recorded p e);
+    recorded = λ p e. data_on s at claims x.seen keeps at.own sound pics p (at.recorded p e);
     lists = record {
-      level_is = at.lists.level_is;
-      works = at.lists.works;
       locks = at.lists.locks;
       count = at.lists.count;
       recorded = at.lists.recorded;
@@ -265,23 +259,73 @@ module _ (s : Standing) (wants : List Want) (all : List HeldLock) (x : View) (at
         locked = m.locked;
         aligned = m.aligned;
         size = m.size;
-        sized = held_size_on s (can_lock s at) claims x.seen keeps at.own sound pics a.id.off o.0 o.1 ∙ m.sized;
+        sized = held_size_on s at claims x.seen keeps at.own sound pics a.id.off o.0 o.1 ∙ m.sized;
         inside = m.inside;
         small = m.small;
       }) at.lists.may_set;
       error_is = at.lists.error_is;
     };
     pending = has_pending s.view next refl refl at.pending;
-    sim = sim_on s (can_lock s at) claims x.seen keeps at.own sound pics;
+    sim = sim_on s at claims x.seen keeps at.own sound pics;
     facts = at.facts;
+    tells = at.tells;
   }
 
-  pub leaves_work : IsAtWith (moved s x) s.level all
-  leaves_work = subst (λ (y : View). IsAtWith (moved s y) s.level all) (sym next_is) at_work
+  pub leaves_open : CanLockWith (moved s x) all
+  leaves_open = subst (λ (y : View). CanLockWith (moved s y) all) (sym next_is) may_lock
+
+  -- and one at work is at work
+  at_work : At s → IsAtWith (moved s next) s.level all
+  at_work is = let m = may_lock in record {
+    working = m.working;
+    unbumped = m.unbumped;
+    begun = is.begun;
+    some = is.some;
+    most = is.most;
+    sound = m.sound;
+    sizes = m.sizes;
+    sealed = m.sealed;
+    number = m.number;
+    held = m.held;
+    lines = is.lines;
+    few = is.few;
+    holds = m.holds;
+    own = m.own;
+    room = m.room;
+    recorded = m.recorded;
+    lists = record {
+      level_is = is.lists.level_is;
+      works = is.lists.works;
+      locks = m.lists.locks;
+      count = m.lists.count;
+      recorded = m.lists.recorded;
+      records = m.lists.records;
+      blocks = m.lists.blocks;
+      pending = m.lists.pending;
+      sets = m.lists.sets;
+      may_set = m.lists.may_set;
+      error_is = m.lists.error_is;
+    };
+    pending = m.pending;
+    sim = m.sim;
+    facts = m.facts;
+  }
+
+  pub leaves_work : At s → IsAtWith (moved s x) s.level all
+  leaves_work is = subst (λ (y : View). IsAtWith (moved s y) s.level all) (sym next_is) (at_work is)
 
 -- what never changes is as it was
 pub fixed_on : (s : Standing) (wants : List Want) (all : List HeldLock) (x : View) → TriedLocks s wants all x → x.fixed ≡ s.view.fixed
 fixed_on s wants all x tk = ap (λ (y : View). y.fixed) tk.raises_.same ∙ (ap (λ (y : View). y.fixed) tk.stays.same ∙ ap (λ (y : View). y.fixed) tk.takes)
 
 pub tried_locks_leave_work : TriedLocksLeaveWork
-tried_locks_leave_work s wants all x at tk = leaves_work s wants all x at tk
+tried_locks_leave_work s wants all x at tk = leaves_work s wants all x (can_lock s at) tk at
+
+-- the view is as it was but for its claims, and for what the tries told
+pub view_on : (s : Standing) (wants : List Want) (all : List HeldLock) (x : View) → TriedLocks s wants all x → x ≡ locking s.view x.claims x.seen
+view_on s wants all x tk = same ∙ ap (λ (t : List Claim). locking s.view t x.seen) (sym (ap (λ (y : View). y.claims) same)) where
+  t : List Claim
+  t = rose (filter (is_raised (to_write s wants)) (take tk.rose_ (s.locks ++ take tk.count (to_take s wants)))) (after_all tk.taken tk.looks).claims
+
+  same : x ≡ locking s.view t x.seen
+  same = tk.raises_.same ∙ (ap (λ (y : View). locking y t x.seen) tk.stays.same ∙ ap (λ (y : View). locking y t x.seen) tk.takes)

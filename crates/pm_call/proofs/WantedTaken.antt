@@ -17,7 +17,7 @@ use Rattle.pm_world.specs.declared.lane.HeldLock.{HeldLock}
 use Rattle.pm_world.specs.declared.lane.Lane.{Lane}
 use Rattle.pm_lock.specs.Acquiring.{FindsAll, FindsNone}
 use Rattle.pm_lock.specs.Held.{HoldsEach}
-use Rattle.pm_lock.specs.Holding.{AreOnce, took}
+use Rattle.pm_lock.specs.Holding.{AreOnce, IsTaken, took}
 use Rattle.pm_lock.specs.Locking.{Stands, lock_at}
 use Rattle.pm_lock.specs.Objects.{MissesAt, ToldNoRun}
 use Rattle.pm_lock.specs.Raising.{AreRaised, MayRaiseAll, RaisedAll, RaisedAllAs, is_raised, raised, raises}
@@ -60,11 +60,11 @@ raise_refused v writes locks line = subst (λ (y : View). was_refused line y.see
     (or_left (line == line && true) (was_refused line (after_all v (raises writes locks)).seen) (and_from (line == line) true (eq-eqb line line refl) refl))
 
 -- none is missed as locks are taken
-missed_before : (v : View) (plan : List HeldLock) (line : ℕ) (w : View) → MissesAt (after_all v (tries plan)) line w → MissesAt v line w
-missed_before v plan line w m =
-    let u : View = record v { claims = took plan v.claims; seen = (after_all v (tries plan)).seen } in
-    let n : MissesAt u line w = subst (λ (y : View). MissesAt y line w) (tries_taken v plan) m in
-    λ classes same B has head. subst (λ k. k < times_missed v.fixed.shape B w.claims) ((taken_keep v u plan refl).missed B) (n classes same B has head)
+pub missed_before : (v u : View) (plan : List HeldLock) → IsTaken v plan u → (line : ℕ) (w : View) → MissesAt u line w → MissesAt v line w
+missed_before v u plan taken line w m =
+    let then : View = record v { claims = took plan v.claims; seen = u.seen } in
+    let n : MissesAt then line w = subst (λ (y : View). MissesAt y line w) taken m in
+    λ classes same B has head. subst (λ k. k < times_missed v.fixed.shape B w.claims) ((taken_keep v then plan refl).missed B) (n classes same B has head)
 
 module _ (s : Standing) (wants : List Want) (at : At s) where
   each_got : HoldsEach (got_all s wants) (s.locks ++ to_take s wants)
@@ -74,7 +74,7 @@ module _ (s : Standing) (wants : List Want) (at : At s) where
   once_all = each_got.once
 
   high : (k : ℕ) → k < length (to_take s wants) → 1 ≤ (lock_at (to_take s wants) k).line
-  high k low = let ne = all_at (λ (l : HeldLock). l.line ≢ 0) (to_take s wants) k (some s wants at) low in by (lock_at (to_take s wants) k).line ne
+  high k low = let ne = all_at (λ (l : HeldLock). l.line ≢ 0) (to_take s wants) k (some s wants (can_lock s at)) low in by (lock_at (to_take s wants) k).line ne
     where
       by : (n : ℕ) → n ≢ 0 → 1 ≤ n
       by n ne = omega (arith, ne)
@@ -85,17 +85,19 @@ module _ (s : Standing) (wants : List Want) (at : At s) where
   module _ {M : Type 0} (m : M → View → Type 0) (lane : Lane M) where
     -- nothing is done
     refused_first : (r : Refusal) → r ≢ refusal.Stopped → first_of (locking_tests unseen s wants) ≡ Some r → Works m lane s → WantsRefused m lane s wants r
-    refused_first r un first works = record {
-      view = s.view;
-      all = s.locks;
-      tried = nothing;
-      works = works;
-      seen = unseen;
-      first = first;
-      unstopped = un;
-      busy = λ e. absurd (both_ways false refl e);
-      missing = λ off e. absurd (both_ways false refl e);
-    }
+    refused_first r un first works = (
+      record {
+        view = s.view;
+        all = s.locks;
+        tried = nothing;
+        seen = unseen;
+        first = first;
+        unstopped = un;
+        busy = λ e. absurd (both_ways false refl e);
+        missing = λ off e. absurd (both_ways false refl e);
+      },
+      works,
+    )
       where
         nil : (locks : List HeldLock) → locks ++ [] ≡ locks
         nil [] = refl
@@ -112,18 +114,20 @@ module _ (s : Standing) (wants : List Want) (at : At s) where
         let l : HeldLock = lock_at (to_take s wants) k in
         let got : List HeldLock = take k (to_take s wants) in
         let x : View = after_all s.view (tries got ++ takes l.line l.write false ∷ []) in
-        let tried : TriedLocks s wants (s.locks ++ got) x = busy_locks_are_tried s wants k l.line l.write in record {
-          view = x;
-          all = s.locks ++ got;
-          tried = tried;
-          works = works;
-          seen = saw_busy;
-          first = first_at saw_busy (s.locks ++ got) x refusal.Busy tried (busy_first s wants saw_busy refl few placed
-              (is_tried s wants (64 * l.line + 64) false (λ w _. unlisted s wants at placed once_all k low (high k low) w) (is_wanted s wants at placed once_all k low (high k low))));
-          unstopped = other;
-          busy = λ _. (l.line, try_refused s.view got l.line l.write);
-          missing = λ off e. absurd (both_ways false refl e);
-        }
+        let tried : TriedLocks s wants (s.locks ++ got) x = busy_locks_are_tried s wants k l.line l.write in (
+          record {
+            view = x;
+            all = s.locks ++ got;
+            tried = tried;
+            seen = saw_busy;
+            first = first_at saw_busy (s.locks ++ got) x refusal.Busy tried (busy_first s wants saw_busy refl few placed
+                (is_tried s wants (64 * l.line + 64) false (λ w _. unlisted s wants (can_lock s at).lists placed once_all k low (high k low) w) (is_wanted s wants (can_lock s at).lists placed once_all k low (high k low))));
+            unstopped = other;
+            busy = λ _. (l.line, try_refused s.view got l.line l.write);
+            missing = λ off e. absurd (both_ways false refl e);
+          },
+          works,
+        )
       where
         other : refusal.Busy ≢ refusal.Stopped
         other e = search Rattle.std.proofs.Common.rules
@@ -135,22 +139,24 @@ module _ (s : Standing) (wants : List Want) (at : At s) where
         let k : ℕ = missed.before in
         let line : ℕ = (lock_at (to_take s wants) k).line in
         let x : View = after_all (got_all s wants) missed.steps in
-        let tried : TriedLocks s wants (s.locks ++ to_take s wants) x = missed_locks_are_tried mem s wants (tries (to_take s wants)) (inl refl) missed in record {
-          view = x;
-          all = s.locks ++ to_take s wants;
-          tried = tried;
-          works = works;
-          seen = saw_missing (64 * line + 64);
-          first = first_at (saw_missing (64 * line + 64)) (s.locks ++ to_take s wants) x refusal.NoObject tried (missing_first s wants (saw_missing (64 * line + 64)) refl few placed
-              (is_missing s wants (64 * line + 64) (unlisted s wants at placed once_all k missed.low (high k missed.low) false) (is_wanted s wants at placed once_all k missed.low (high k missed.low))));
-          unstopped = other;
-          busy = λ e. absurd (both_ways false refl e);
-          missing = λ off e. (
-            line,
-            sym (eqb-true (64 * line + 64) off (one (64 * line + 64 == off) e)),
-            ⊎_elim (λ (a : MissesAt (got_all s wants) line x). inl (missed_before s.view (to_take s wants) line x a)) (λ (a : ToldNoRun x line). inr a) missed.misses,
-          );
-        }
+        let tried : TriedLocks s wants (s.locks ++ to_take s wants) x = missed_locks_are_tried mem s wants (tries (to_take s wants)) (inl refl) missed in (
+          record {
+            view = x;
+            all = s.locks ++ to_take s wants;
+            tried = tried;
+            seen = saw_missing (64 * line + 64);
+            first = first_at (saw_missing (64 * line + 64)) (s.locks ++ to_take s wants) x refusal.NoObject tried (missing_first s wants (saw_missing (64 * line + 64)) refl few placed
+                (is_missing s wants (64 * line + 64) (unlisted s wants (can_lock s at).lists placed once_all k missed.low (high k missed.low) false) (is_wanted s wants (can_lock s at).lists placed once_all k missed.low (high k missed.low))));
+            unstopped = other;
+            busy = λ e. absurd (both_ways false refl e);
+            missing = λ off e. (
+              line,
+              sym (eqb-true (64 * line + 64) off (one (64 * line + 64 == off) e)),
+              ⊎_elim (λ (a : MissesAt (got_all s wants) line x). inl (missed_before s.view (got_all s wants) (to_take s wants) (tries_taken s.view (to_take s wants)) line x a)) (λ (a : ToldNoRun x line). inr a) missed.misses,
+            );
+          },
+          works,
+        )
       where
         other : refusal.NoObject ≢ refusal.Stopped
         other e = search Rattle.std.proofs.Common.rules
@@ -173,19 +179,21 @@ module _ (s : Standing) (wants : List Want) (at : At s) where
         let y : View = after_all (got_all s wants) found.steps in
         let x : View = after_all y (raises (to_write s wants) (take k all) ++ Raise l.line false ∷ []) in
         let now : List HeldLock = raised (to_write s wants) (take k all) ++ drop k all in
-        let tried : TriedLocks s wants now x = refused_raises_are_tried mem s wants (tries (to_take s wants)) k l.line (inl refl) found in record {
-          view = x;
-          all = now;
-          tried = tried;
-          works = works;
-          seen = saw_busy;
-          first = first_at saw_busy now x refusal.Busy tried (busy_first s wants saw_busy refl few placed
-              (is_tried s wants (64 * l.line + 64) true (to_read l.line (not_in s.locks l.line true (none_writes s.locks (to_take s wants) k once_all low (reader l.write t.0))))
-              (written_wanted s.view.fixed.shape s.view.fixed.pool wants l.line t.1)));
-          unstopped = other;
-          busy = λ _. (l.line, raise_refused y (to_write s wants) (take k all) l.line);
-          missing = λ off e. absurd (both_ways false refl e);
-        }
+        let tried : TriedLocks s wants now x = refused_raises_are_tried mem s wants (tries (to_take s wants)) k l.line (inl refl) found in (
+          record {
+            view = x;
+            all = now;
+            tried = tried;
+            seen = saw_busy;
+            first = first_at saw_busy now x refusal.Busy tried (busy_first s wants saw_busy refl few placed
+                (is_tried s wants (64 * l.line + 64) true (to_read l.line (not_in s.locks l.line true (none_writes s.locks (to_take s wants) k once_all low (reader l.write t.0))))
+                (written_wanted s.view.fixed.shape s.view.fixed.pool wants l.line t.1)));
+            unstopped = other;
+            busy = λ _. (l.line, raise_refused y (to_write s wants) (take k all) l.line);
+            missing = λ off e. absurd (both_ways false refl e);
+          },
+          works,
+        )
       where
         other : refusal.Busy ≢ refusal.Stopped
         other e = search Rattle.std.proofs.Common.rules

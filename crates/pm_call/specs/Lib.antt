@@ -15,6 +15,9 @@ pub mod Locking
 pub mod Between
 pub mod LockRefusals
 pub mod LocksGot
+pub mod Beginning
+pub mod Opening
 pub mod WantedTried
 pub mod WantedTaken
+pub mod LockOps
 pub mod Commits

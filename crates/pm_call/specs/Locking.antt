@@ -79,7 +79,8 @@ pub record AgreesOn (s : Standing) (tx : Transaction) : Type 0 where
   pub may_set : AllByRecursion (MaySet s) tx.sets
   pub error_is : tx.error ≡ error.None
 
-pub record CanLock (s : Standing) : Type 0 where
+-- these are all locks that it holds
+pub record CanLockWith (s : Standing) (all : List HeldLock) : Type 0 where
   pub working : IsWorking s.view
   pub unbumped : s.view.log.bumped ≡ false
   pub sound : IsSound s.view
@@ -87,7 +88,7 @@ pub record CanLock (s : Standing) : Type 0 where
   pub sealed : value_in s.view (word_of_seal s.view.fixed.shape s.view.fixed.lane) ≡ Some 0
   pub number : MayTakeNumber s.view
   pub held : AreHeld s.view s.locks
-  pub holds : HoldsAll s.view s.locks
+  pub holds : HoldsAll s.view all
   pub own : KnowsOwn s.view
   pub room : length s.entries < redo_entries s.view.fixed.shape
   pub recorded : (p : Place) → is_recorded s.view.log.records p ≡ true → IsDataOf s.view p
@@ -96,6 +97,10 @@ pub record CanLock (s : Standing) : Type 0 where
   pub sim : Sim s.view (entries_so_far s)
   pub facts : HaveFacts s.view
   pub tells : MayTell s.view
+
+-- those of its list alone
+abbrev pub CanLock : Standing → Type 0
+CanLock s = CanLockWith s s.locks
 
 -- the operation that wants them, and the level then
 abbrev pub IsLocking : Operation → List Want → ℕ → ℕ → Type 0
@@ -150,6 +155,7 @@ pub record IsOpened (s : Standing) : Type 0 where
   pub number : MayTakeNumber s.view
   pub call : s.view.call ≡ []
   pub records : s.view.log.records ≡ []
+  pub drained : s.view.changes ≡ []
   pub locks : s.locks ≡ []
   pub holds : HoldsAll s.view []
   pub own : KnowsOwn s.view

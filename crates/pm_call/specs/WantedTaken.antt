@@ -21,21 +21,25 @@ use Rattle.pm_call.specs.WantedTried.{AreFew, IsPlaced}
 abbrev pub IsMissed : View → ℕ → View → Type 0
 IsMissed v line w = MissesAt v line w ⊎ ToldNoRun w line
 
--- REFUSED: the locks that it holds by then, what it saw, and the first test that applies. A lock
--- that was another lane's was refused at a try; under that of an object that is missing none was
--- found
-pub record WantsRefused {M : Type 0} (at : M → View → Type 0) (lane : Lane M) (s : Standing)
-    (wants : List Want) (r : Refusal) : Type 0 where
+-- REFUSED: the locks that the lane holds by then, what it saw, and the first test that applies. A
+-- lock that was another lane's was refused at a try; under that of an object that is missing none
+-- was found
+pub record RefusesWants (s : Standing) (wants : List Want) (r : Refusal) : Type 0 where
   pub view : View
   pub all : List HeldLock
   pub tried : TriedLocks s wants all view
-  pub works : Works at lane (record s { view = view; locks = all })
   pub seen : Seen
   pub first : first_of (locking_tests seen (moved s view) wants) ≡ Some r
   pub unstopped : r ≢ refusal.Stopped
   pub busy : seen.busy ≡ true → (line : ℕ) × (was_refused line view.seen ≡ true)
   pub missing : (off : ℕ) → is_among seen.missing off ≡ true
       → (line : ℕ) × (off ≡ 64 * line + 64) × IsMissed s.view line view
+
+-- and the lane works with these locks
+abbrev pub WantsRefused : {M : Type 0} → (M → View → Type 0) → Lane M → Standing → List Want
+    → Refusal → Type 0
+WantsRefused at lane s wants r = (why : RefusesWants s wants r)
+    × Works at lane (record s { view = why.view; locks = why.all })
 
 -- ALL ARE TAKEN, and the lane works with the longer list, each lock raised that is to be written
 abbrev pub WantedTakenAs : {M : Type 0} → (M → View → Type 0) → Lane M → Standing → List Want

@@ -4,11 +4,13 @@
 //! Promises, over any lawful memory and whatever other lanes do, that a transaction that is given up
 //! makes exactly the memory calls of its plan, or the first of them up to the lane's stop; and laws
 //! of data: from which views it may be given up or committed, and that the call is over then; and that
-//! a lane at work may lock objects, whose locks it tries and under which it looks for them. Of a range
-//! of an object: that its checks find the plain model's first reason or what the operation asks, and
-//! that it is recorded, written and read by the calls of its plan. It stands on `pm_undo` for putting words back, on `pm_redo` for logs of published words, on
-//! `pm_lock` for objects under their locks, on `pm_crash` for what the call owes the plain model;
-//! docs/FORMAT.md, "Sequences".
+//! a lane at work may lock objects, whose locks it tries and under which it looks for them. Of the
+//! begin of an outermost level: that the call opens, and its locks are waited for; and that one that
+//! is refused for them is told, and ends its call. Of a range of an object: that its checks find the
+//! plain model's first reason or what the operation asks, and that it is recorded, written and read
+//! by the calls of its plan. It stands on `pm_undo` for putting words back, on `pm_redo` for logs of
+//! published words, on `pm_lock` for objects under their locks, on `pm_crash` for what the call owes
+//! the plain model; docs/FORMAT.md, "Sequences".
 #![tactic(auto)]
 
 mod adding;
@@ -17,7 +19,9 @@ mod committing;
 mod finishing;
 mod holding;
 mod laws;
+mod lock_ops;
 mod locking;
+mod opening;
 mod ranges;
 mod reading;
 mod rollback;
@@ -34,10 +38,14 @@ pub use laws::{
     calls_given_up_are_past_work, committed_calls_are_past_work, inner_levels_may_be_committed,
     outermost_levels_may_be_committed, transactions_may_be_given_up,
 };
+pub use lock_ops::{begin_inner, lock_wanted};
 pub use locking::{
     calls_may_open, deep_begins_give_up, lanes_at_work_may_lock, locks_are_got,
     locks_may_be_wanted, objects_may_be_locked, refusals_of_locks_are_the_models,
     refused_locks_give_up, transactions_may_begin, tried_locks_leave_work,
+};
+pub use opening::{
+    begin_outermost, open_call, refusals_of_begins_are_the_models, refused_begins_end,
 };
 pub use ranges::{ranges_are_looked_at, refusals_of_ranges_are_the_models};
 pub use reading::{do_read, ranges_may_be_read};

@@ -76,7 +76,7 @@ fn draw_number<M: LawfulMem>(lane: &mut Lane<M>, error: TxErr) -> u64
 }
 
 /// Tells the operation that ends the open call, and draws the call's number.
-fn end_call<M: LawfulMem>(
+pub fn end_call<M: LawfulMem>(
     lane: &mut Lane<M>,
     told: LentOperation<'_>,
     reply: Option<LentValue<'_>>,

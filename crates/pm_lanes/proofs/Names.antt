@@ -1,4 +1,4 @@
--- Of a pool that an image means: its layout name is a text, and its lanes and zones are those of a shape.
+-- The layout name of a pool that an image means is a text.
 use Rattle.std.proofs.Common.{ℕ, ◌<◌, ◌≤◌, ⊎_elim, List, length, sym, ap, subst, arith}
 use Rattle.std.proofs.lemmas.Bool.{cases_lt}
 use Rattle.std.proofs.lemmas.List.{get_or_past}
@@ -7,7 +7,6 @@ use Rattle.std.proofs.lemmas.Str.{IsUtf8-from_ascii}
 use Rattle.std.specs.Str.{IsAscii, IsUtf8}
 use Rattle.pm_header.specs.Name.{IsName, IsNameByte}
 use Rattle.pm_image.specs.Means.{IsMeaning}
-use Rattle.pm_layout.specs.Layout.{IsShape}
 use Rattle.pm_objects.specs.declared.pool.PoolView.{PoolView}
 
 ascii : (name : List ℕ) → IsName name → IsAscii name
@@ -22,9 +21,3 @@ pub name_is_text : (image : List ℕ) (pool : PoolView) → IsMeaning image pool
 name_is_text image pool is =
     subst IsUtf8 (sym (ap (λ (p : PoolView). p.name) is.is_pool))
     (IsUtf8-from_ascii is.header.name (ascii is.header.name is.has_header.header_in.main.is_name))
-
-pub lanes_and_zones : (image : List ℕ) (pool : PoolView) → IsMeaning image pool
-    → IsShape pool.lanes pool.zones
-lanes_and_zones image pool is =
-    subst (λ (n : ℕ). IsShape n pool.zones) (sym (ap (λ (p : PoolView). p.lanes) is.is_pool))
-    (subst (IsShape is.lanes) (sym (ap (λ (p : PoolView). p.zones) is.is_pool)) is.has_header.has_shape.shape)

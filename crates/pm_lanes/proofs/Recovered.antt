@@ -1,4 +1,5 @@
--- What recovery leaves of an image that means a pool: nothing of the heap is wrong, each log is retired, and lanes may begin.
+-- What recovery leaves of an image that means a pool: nothing of the heap is wrong, each log is
+-- retired, and lanes may begin.
 use Rattle.std.specs.Prelude.{List, length, slice_index}
 use Rattle.std.proofs.Common.{◌≡◌, ℕ, ◌^◌, ◌<◌, inl, inr, ⊎_elim, None}
 use Rattle.std.proofs.Common.{sym, ap, ◌∙◌, subst, arith}
@@ -29,7 +30,8 @@ module _ (image layout : List ℕ) (b : Beginning)
 
   size : length b.words.items ≡ words_of b.shape
   size = let long = is.recovered.as_long in let whole = is.means.has_header.has_shape.size in
-      let l = is.of_lanes ∙ of_lanes in let z = is.of_zones ∙ of_zones in omega (arith, long, whole, l, z)
+      let l = is.of_lanes ∙ of_lanes in let z = is.of_zones ∙ of_zones in
+      omega (arith, long, whole, l, z)
 
   -- the heap's words are the recovered ones, of which none is wrong
   same : (i : ℕ) → IsHeapWord is.means.lanes is.means.zones i
@@ -43,11 +45,14 @@ module _ (image layout : List ℕ) (b : Beginning)
   whole : heap_fault (slice_index b.words.items) b.shape.lanes b.shape.zones ≡ None
   whole =
       let none = (neither (log_fault image is.means.lanes is.means.zones)
-      (heap_fault (recovered_at image is.means.lanes) is.means.lanes is.means.zones) is.means.no_fault).1 in
-      let here = heap_local (recovered_at image is.means.lanes) (slice_index b.words.items) is.means.lanes is.means.zones
+      (heap_fault (recovered_at image is.means.lanes) is.means.lanes is.means.zones)
+      is.means.no_fault).1 in
+      let here = heap_local (recovered_at image is.means.lanes) (slice_index b.words.items)
+      is.means.lanes is.means.zones
       record {
         same = λ i reads. same i
-            (reads_heap (recovered_at image is.means.lanes) is.means.lanes is.means.zones i none reads);
+            (reads_heap (recovered_at image is.means.lanes) is.means.lanes is.means.zones i none
+            reads);
       } in
       ap (λ n. heap_fault (slice_index b.words.items) n b.shape.zones) (is.of_lanes ∙ of_lanes)
       ∙ ap (heap_fault (slice_index b.words.items) is.means.lanes) (is.of_zones ∙ of_zones)
@@ -55,9 +60,11 @@ module _ (image layout : List ℕ) (b : Beginning)
 
   log : (lane : ℕ) → lane < b.shape.lanes → IsRetired (opening_of b) lane (generation_of b lane)
   log lane inside =
-      let l = clean image b.words.items is.pool.lanes lane (sound_if_meaning image is.pool is.means) is.recovered
+      let l = clean image b.words.items is.pool.lanes lane
+      (sound_if_meaning image is.pool is.means) is.recovered
       (subst (λ n. lane < n) is.of_lanes inside) in
-      retired (opening_of b) lane size inside l.unsealed l.first_generation l.last_generation l.stale
+      retired (opening_of b) lane size inside l.unsealed l.first_generation l.last_generation
+      l.stale
 
   pub can_begin : ((w : ℕ) → slice_index b.words.items w < 2 ^ 64) → MayRun is.pool b.lanes
       → OccupancyFits (opening_of b) b.runs.items b.zones.items → CanBegin b

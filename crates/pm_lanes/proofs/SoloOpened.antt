@@ -1,4 +1,5 @@
--- The memory of lane 0 over the words that lanes begin on, before its first call, stands in the world that they open.
+-- The memory of lane 0 over the words that lanes begin on, before its first call, stands in the
+-- world that they open.
 use Rattle.std.proofs.Common.{◌≡◌, ℕ, ◌-◌, ◌/◌, ◌%◌, ◌<◌, ◌≤◌, ⊎_elim, List, ◌++◌, length, replicate, slice_index, Option, refl, sym, ap, ◌∙◌, subst, arith}
 use Rattle.std.proofs.lemmas.Bool.{cases_lt}
 use Rattle.std.proofs.lemmas.List.{get_or_append_left, get_or-append_right, get_or-replicate, get_or_past, length-append, length-replicate}
@@ -39,7 +40,8 @@ module _ (b : Beginning) (can : CanBegin b) (one : b.lanes ≡ 1) (stop : Option
 
   zero_ : (n i : ℕ) → slice_index (replicate n 0) i ≡ 0
   zero_ n i = ⊎_elim (λ (l : i < n). get_or-replicate n i 0 0 l)
-      (λ (l : n ≤ i). get_or_past (replicate n 0) i 0 (let q = length-replicate {A = ℕ} n 0 in omega (arith, q, l))) (cases_lt i n)
+      (λ (l : n ≤ i). get_or_past (replicate n 0) i 0
+      (let q = length-replicate {A = ℕ} n 0 in omega (arith, q, l))) (cases_lt i n)
 
   -- a zone that the pool does not have has no bit, as before
   padded : (z : ℕ) → slice_index zones z ≡ slice_index b.zones.items z
@@ -47,7 +49,8 @@ module _ (b : Beginning) (can : CanBegin b) (one : b.lanes ≡ 1) (stop : Option
       (λ (l : z < length b.zones.items). get_or_append_left b.zones.items others 0 z l)
       (λ (l : length b.zones.items ≤ z).
       get_or-append_right b.zones.items others (length b.zones.items) z 0 refl l
-      ∙ (zero_ (32 - length b.zones.items) (z - length b.zones.items) ∙ sym (get_or_past b.zones.items z 0 l)))
+      ∙ (zero_ (32 - length b.zones.items) (z - length b.zones.items)
+      ∙ sym (get_or_past b.zones.items z 0 l)))
       (cases_lt z (length b.zones.items))
 
   taken : IsTaken (opening_of b) (memory_of memory)
@@ -70,4 +73,6 @@ module _ (b : Beginning) (can : CanBegin b) (one : b.lanes ≡ 1) (stop : Option
   pub solo_stands : (all : List ℕ) → all ≡ zones
       → StandsOpened (opened_with b.words.items stop b.runs.items all) b.shape b.pool stop
   solo_stands all e =
-      subst (λ (z : List ℕ). StandsOpened (opened_with b.words.items stop b.runs.items z) b.shape b.pool stop) (sym e) stands_with
+      subst (λ (z : List ℕ).
+      StandsOpened (opened_with b.words.items stop b.runs.items z) b.shape b.pool stop)
+      (sym e) stands_with

@@ -67,14 +67,14 @@ pub(crate) fn begin<'a>(
     ensures cause { IfErr result (IsOpenCause image.now layout.now lanes) }
 {
     let pool = meaning(alloc, image)?;
-    let pool = of_layout(pool, layout)?;
-    check_lanes(&pool, lanes)?;
+    let named = of_layout(pool, layout)?;
+    check_lanes(&named, lanes)?;
     let words = recovered(alloc, image)?;
-    let shape = shape_of(&pool);
+    let shape = shape_of(&named);
     let Occupancy { runs, zones } = Occupancy::of_words(alloc, shape, &words)?;
     Ok(Beginning {
         shape,
-        pool: pool.id,
+        pool: named.id,
         lanes,
         stops,
         words,

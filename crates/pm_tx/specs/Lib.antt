@@ -4,3 +4,4 @@ pub mod Ending
 pub mod Actions
 pub mod Commits
 pub mod Standing
+pub mod Locks

@@ -7,7 +7,7 @@ use arrayvec::ArrayVec;
 use pm_layout::Shape;
 use pm_memory::SoloMem;
 use pm_model::Stage;
-use pm_objects::{Oid, Refusal, TxErr};
+use pm_objects::{Oid, Refusal, TxErr, Want};
 use pm_world::{Lane, OwnedBits, SoloLane, UndoLog};
 use std::alloc::Global;
 use std::test::Fail;
@@ -47,6 +47,22 @@ fn aborts_are_refused(rt: HostRuntime) -> Result<(), Fail> {
     assert_eq!(rt; abort(&mut idle, 3), Err(Refusal::NoTx));
     let mut late = lane_at(rt.alloc(), 1, Stage::OnAbort)?;
     assert_eq!(rt; abort(&mut late, 3), Err(Refusal::NotWork));
+    assert_eq!(rt; late.error, TxErr::None);
+    Ok(())
+}
+
+/// Where no transaction is open, and past its work, a lock is refused, and none is held.
+#[test]
+fn locks_are_refused(rt: HostRuntime) -> Result<(), Fail> {
+    let want = Want {
+        id: Oid { pool: 7, off: 4224 },
+        write: true,
+    };
+    let mut idle = lane_at(rt.alloc(), 0, Stage::None)?;
+    assert_eq!(rt; lock(&mut idle, want), Err(Refusal::NoTx));
+    let mut late = lane_at(rt.alloc(), 1, Stage::OnAbort)?;
+    assert_eq!(rt; lock(&mut late, want), Err(Refusal::NotWork));
+    assert!(rt; late.locks.is_empty());
     assert_eq!(rt; late.error, TxErr::None);
     Ok(())
 }

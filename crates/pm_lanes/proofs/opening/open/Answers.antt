@@ -7,10 +7,12 @@ pub returns-in-Ok-clause-refused : goal.returns-in-Ok-clause-refused
 returns-in-Ok-clause-refused c =
     let b : Beginning = c.in-Ok.beginning in
     let can = c.in-Ok.ensures.begins in let asked = c.in-Ok.ensures.lanes in
-    no_cause c.args.image c.args.layout.now c.args.lanes Beginning b b.words.items b.shape b.pool c.in-Ok.ensures.opened
+    no_cause c.args.image c.args.layout.now c.args.lanes Beginning b b.words.items b.shape b.pool
+    c.in-Ok.ensures.opened
     (let some = can.some_lanes in omega (arith, some, asked))
     (let most = can.most_lanes in omega (arith, most, asked))
 
 pub returns-clause-refused : goal.returns-clause-refused
 returns-clause-refused c fault cause =
-    told_for c.args.image c.args.layout.now c.args.lanes Beginning fault c.in-Err.fault cause c.in-Err.ensures.cause
+    told_for c.args.image c.args.layout.now c.args.lanes Beginning fault c.in-Err.fault cause
+    c.in-Err.ensures.cause

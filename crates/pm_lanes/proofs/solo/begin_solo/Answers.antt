@@ -8,8 +8,10 @@ use Rattle.pm_lanes.proofs.solo.begin_solo.Goals as goal
 pub returns-clause-stands : goal.returns-clause-stands
 returns-clause-stands c =
     let b : Beginning = c.in_ok-beginning.beginning in
+    let zones : List ℕ = c.in_ok-zones.zones.items in
     subst (λ (m : Solo). StandsOpened m b.shape b.pool c.args.stop)
     (sym (c.new-2.ensures ∙ (c.with_occupancy-memory.ensures
-    ∙ ap (λ (m : Solo). record m { runs = b.runs.items; zones = c.in_ok-zones.zones.items }) c.in_ok-new.ensures)))
-    (solo_stands b c.in_ok-beginning.ensures.begins c.in_ok-beginning.ensures.lanes c.args.stop c.in_ok-zones.zones.items
-    (c.in_ok-zones.ensures ∙ ap (λ (z : List ℕ). z ++ replicate (32 - length z) 0) c.deref.ensures.value))
+    ∙ ap (λ (m : Solo). record m { runs = b.runs.items; zones = zones }) c.in_ok-new.ensures)))
+    (solo_stands b c.in_ok-beginning.ensures.begins c.in_ok-beginning.ensures.lanes c.args.stop zones
+    (c.in_ok-zones.ensures
+    ∙ ap (λ (z : List ℕ). z ++ replicate (32 - length z) 0) c.deref.ensures.value))
