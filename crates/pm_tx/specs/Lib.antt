@@ -3,5 +3,6 @@ pub mod Outcome
 pub mod Ending
 pub mod Actions
 pub mod Commits
-pub mod Standing
 pub mod Locks
+pub mod Begins
+pub mod Standing

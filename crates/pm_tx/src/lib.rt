@@ -9,6 +9,7 @@
 #![tactic(auto)]
 
 mod actions;
+mod begins;
 mod commits;
 mod ending;
 mod laws;
@@ -18,6 +19,7 @@ mod ranges;
 mod stages;
 
 pub use actions::set_value;
+pub use begins::begin;
 pub use commits::{commit, process};
 pub use ending::end;
 pub use laws::lanes_stand;

@@ -16,6 +16,7 @@ use std::test::Fail;
 fn lane_at(alloc: Global, level: u64, stage: Stage) -> Result<Lane<SoloLane>, Fail>
     ensures works { IfOk result (λ lane. work_refusal lane ≡ stage_refusal stage level) }
     ensures ends { IfOk result (λ lane. end_refusal lane ≡ stage_end_refusal stage level) }
+    ensures level { IfOk result (λ lane. lane.level ≡ level) }
 {
     let words = vec![in alloc; 0; 34816]?;
     Ok(Lane {
@@ -64,6 +65,17 @@ fn locks_are_refused(rt: HostRuntime) -> Result<(), Fail> {
     assert_eq!(rt; lock(&mut late, want), Err(Refusal::NotWork));
     assert!(rt; late.locks.is_empty());
     assert_eq!(rt; late.error, TxErr::None);
+    Ok(())
+}
+
+/// Past its work, and where it stopped, a lane begins no level.
+#[test]
+fn begins_are_refused(rt: HostRuntime) -> Result<(), Fail> {
+    let mut late = lane_at(rt.alloc(), 1, Stage::OnAbort)?;
+    assert_eq!(rt; begin(&rt, &mut late, &[]), Err(Refusal::NotWork));
+    assert_eq!(rt; late.level, 1);
+    late.stopped = true;
+    assert_eq!(rt; begin(&rt, &mut late, &[]), Err(Refusal::Stopped));
     Ok(())
 }
 
