@@ -28,7 +28,7 @@ no_other : (s : Stage) → other_stage s ≡ Some refusal.NoTx → ⊥
 no_other stage.Work e = absurd cc
 no_other s e = absurd cc
 
-outside : (stopped : Bool) (s : Stage) (level : ℕ) → cond stopped (Some refusal.Stopped) (stage_refusal s level) ≡ Some refusal.NoTx → (stopped ≡ false) × (level ≡ 0)
+pub outside : (stopped : Bool) (s : Stage) (level : ℕ) → cond stopped (Some refusal.Stopped) (stage_refusal s level) ≡ Some refusal.NoTx → (stopped ≡ false) × (level ≡ 0)
 outside true s level e = absurd cc
 outside false s level e = (refl, eqb-true level 0 (by (level == 0) refl (sym (stage_so s level) ∙ e))) where
   by : (b : Bool) → (level == 0) ≡ b → cond b (Some refusal.NoTx) (other_stage s) ≡ Some refusal.NoTx → (level == 0) ≡ true

@@ -165,7 +165,7 @@ module _ {M : Type 0} {at : M → View → Type 0} {lane : Lane M} where
 -- ---- AFTER EACH CALL
 
 module _ {M : Type 0} (at : M → View → Type 0) (old new : Lane M) where
-  same_stands : Stands at old → new ≡ old → Stands at new
+  pub same_stands : Stands at old → new ≡ old → Stands at new
   same_stands stands same = subst (Stands at) (sym same) stands
 
   -- ---- an operation that is done, aborts the transaction, or stops
