@@ -1,0 +1,16 @@
+//! Whole transactions over the engine of `pm_tx`, on a single lane. The crate has tests alone.
+//!
+//! Each test makes a pool, opens it, and walks through transactions call by call: it says what each
+//! call returns, in which stage, level and error it leaves the lane, and what a later transaction
+//! reads. A walk is generic over the lane's memory, and asks of its lane only that it stands:
+//! between two calls, at work, or past the work of a level. Each call asks no more, and leaves it so.
+#![tactic(auto)]
+
+#[cfg(test)]
+mod pools;
+#[cfg(test)]
+mod solo;
+#[cfg(test)]
+mod standing;
+#[cfg(test)]
+mod walks;

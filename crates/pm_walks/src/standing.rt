@@ -1,0 +1,75 @@
+//! The calls of a transaction, as steps of a lane that stands: it does so after each of them,
+//! whatever it returns.
+
+ghost use Rattle.pm_tx.specs.Standing.{Stands};
+
+use pm_objects::{Oid, Refusal, TxErr, Want};
+use pm_world::{Lane, LawfulMem};
+use std::sync::Wait;
+
+#[tactic(auto, using(pm_tx::proofs::Standing::did_stands, pm_tx::proofs::Standing::stands_work))]
+pub fn add_range<M: LawfulMem>(
+    lane: &mut Lane<M>,
+    id: Oid,
+    off: u64,
+    len: u64,
+) -> Result<u64, Refusal>
+    requires { Stands M.at lane.old }
+    ensures { Stands M.at lane.new }
+{
+    pm_tx::add_range(lane, id, off, len)
+}
+
+#[tactic(auto, using(pm_tx::proofs::Standing::did_stands, pm_tx::proofs::Standing::stands_work))]
+pub fn write<M: LawfulMem>(
+    lane: &mut Lane<M>,
+    id: Oid,
+    off: u64,
+    bytes: &[u8],
+) -> Result<(), Refusal>
+    requires { Stands M.at lane.old }
+    ensures { Stands M.at lane.new }
+{
+    pm_tx::write(lane, id, off, bytes)
+}
+
+#[tactic(auto, using(pm_tx::proofs::Standing::did_stands, pm_tx::proofs::Standing::stands_work))]
+pub fn read<M: LawfulMem>(
+    lane: &mut Lane<M>,
+    id: Oid,
+    off: u64,
+    into: &mut [u8],
+) -> Result<(), Refusal>
+    requires { Stands M.at lane.old }
+    ensures { Stands M.at lane.new }
+{
+    pm_tx::read(lane, id, off, into)
+}
+
+#[tactic(auto, using(pm_tx::proofs::Standing::committed_stands, pm_tx::proofs::Standing::stands_work))]
+pub fn commit<M: LawfulMem>(lane: &mut Lane<M>) -> Result<(), Refusal>
+    requires { Stands M.at lane.old }
+    ensures { Stands M.at lane.new }
+{
+    pm_tx::commit(lane)
+}
+
+#[tactic(auto, using(pm_tx::proofs::Standing::ended_stands, pm_tx::proofs::Standing::stands_past))]
+pub fn end<M: LawfulMem>(lane: &mut Lane<M>) -> Result<TxErr, Refusal>
+    requires { Stands M.at lane.old }
+    ensures { Stands M.at lane.new }
+{
+    pm_tx::end(lane)
+}
+
+#[tactic(auto, using(pm_tx::proofs::LockStanding::begun_level_stands, pm_tx::proofs::Standing::stands_work, pm_tx::proofs::Standing::stands_between))]
+pub fn begin<M: LawfulMem, R: Wait>(
+    rt: &R,
+    lane: &mut Lane<M>,
+    wants: &[Want],
+) -> Result<(), Refusal>
+    requires { Stands M.at lane.old }
+    ensures { Stands M.at lane.new }
+{
+    pm_tx::begin(rt, lane, wants)
+}
