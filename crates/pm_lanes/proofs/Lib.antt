@@ -1,3 +1,4 @@
+mod Closed
 mod Names
 mod Recovered
 mod Causes

@@ -16,12 +16,16 @@ use Rattle.pm_world.specs.Moves.{Moves}
 use Rattle.pm_world.specs.Sizes.{ObjectsFit}
 use Rattle.pm_world.specs.World.{Opening, Views, Past, World}
 use Rattle.pm_world.proofs.EveryStep.{every_step}
-use Rattle.pm_world.proofs.SizesKept as sizes
 use Rattle.pm_shared.specs.Placing.{table_size, memory_of}
-use Rattle.pm_shared.specs.Rule.{Knowledge, Pool, Lane, Spent, Bound, BoundFits, Owned, SeatFits, Sound, Ruled, Made}
+use Rattle.pm_shared.specs.TableRun.{moment}
+use Rattle.pm_shared.specs.Rule.{Knowledge, Pool, Lane, Spent, Bound, BoundFits, Owned, SeatFits, Sound, Made}
+use Rattle.pm_shared.specs.declared.rule.Beginning.{Beginning}
+use Rattle.pm_shared.specs.Openings.{idle_view, opening_of}
+use Rattle.pm_shared.specs.TableRule.{Ruled}
 use Rattle.pm_shared.proofs.Bounds.{bound_kept}
 use Rattle.pm_shared.proofs.Constant.{fixed-after}
 use Rattle.pm_shared.proofs.Sound.{sound_kept}
+use Rattle.pm_shared.proofs.TableRuns.{run_fits, run_goes_on}
 
 -- the views with lane k's changed
 abbrev pub views_with : Views → ℕ → View → Views
@@ -57,16 +61,17 @@ module _ (o : Opening) (mem mem' : Memory) (views : Views) (owner : ℕ → ℕ)
   seat_kept id j mine ne kept Spent h = tt
 
 -- THE STEP: `step r` is the step with its reply, where r was found
-pub allows : (o : Opening) (id : ℕ) (v : View) (b : Option Bound) (i : ℕ) (f : ℕ → ℕ) (step : ℕ → Step)
+pub allows : (key : Beginning) (id : ℕ) (v : View) (b : Option Bound) (i : ℕ) (f : ℕ → ℕ) (step : ℕ → Step)
     → ((r : ℕ) → IsLawful v (step r))
-    → ((words : List ℕ) → Before o words v b → slice_index words i < 18446744073709551616 → Moves v.fixed.lane (step (slice_index words i)) (memory_of o.shape words) (memory_of o.shape (set words i (f (slice_index words i)))))
-    → Allows (Ruled o) 0 id (Lane v b, []) i f (Made step v)
-allows o id v b i f step lawful moves st r _ here fits =
+    → ((words : List ℕ) → Before (opening_of key) words v b → slice_index words i < 18446744073709551616 → Moves v.fixed.lane (step (slice_index words i)) (memory_of key.shape words) (memory_of key.shape (set words i (f (slice_index words i)))))
+    → Allows (Ruled key) 0 id (Lane v b, []) i f (Made step v)
+allows key id v b i f step lawful moves st r _ here fits =
+    let o : Opening = opening_of key in let first : Views = idle_view key in
     let fit = r.seats id (Lane v b) here in let own = fit.0 in let k : ℕ = v.fixed.lane in let words : List ℕ = st.words in let x : ℕ = slice_index words i in let words' : List ℕ = set words i (f x) in
     let s : Step = step x in let v' : View = after v s in let views' : Views = views_with r.views k v' in let same : v'.fixed ≡ v.fixed = fixed-after v s in let lane' : v'.fixed.lane ≡ k = ap (λ (c : Constants). c.lane) same in
     let old : Memory = memory_of o.shape words in let new : Memory = memory_of o.shape words' in
     let law : IsLawful (r.views k) s = subst (λ w. IsLawful w s) (sym own.view) (lawful x) in
-    let move : Moves k s old new = moves words (record { views = r.views; past = r.past; size = r.size; world = r.world; sizes = r.sizes; sound = r.sound; inside = own.inside; view = own.view; bound = fit.1 }) fits in
+    let move : Moves k s old new = moves words (record { views = r.views; past = r.past; size = r.size; world = r.world; sizes = run_fits o first (moment old r.views r.past) r.run; sound = r.sound; inside = own.inside; view = own.view; bound = fit.1 }) fits in
     let turn : Turn r.views views' k (after (r.views k) s) = subst (λ w. Turn r.views views' k (after w s)) (sym own.view) (views_turn r.views k v') in
     let got = every_step s o old new r.views views' r.past k r.world own.inside law move turn in
     let mine : SeatFits o new views' r.owner id (Lane v' None) = (
@@ -86,7 +91,8 @@ allows o id v b i f step lawful moves st r _ here fits =
         past = past_after r.past (r.views k) s;
         size = length-set words i (f x) ∙ r.size;
         world = got.0;
-        sizes = sizes.keeps s o old new r.views r.past k r.world own.inside law move r.sizes;
+        run = run_goes_on o first (moment old r.views r.past) (moment new views' (past_after r.past (r.views k) s)) (record { lane = k; step = s }) r.run
+            (record { runs = own.inside; lawful = law; moves = move; view = turn; past = refl });
         sound = sound_kept o old r.views r.past r.world k own.inside new views' s r.sound law move turn;
         seats = λ j w q. ⊎_elim (λ (t : (j ≡ id) × (Lane v' None ≡ w)). let Q : ℕ → Knowledge → Type 0 = λ j w. SeatFits o new views' r.owner j w in subst (Q j) t.1 (subst (λ z. Q z (Lane v' None)) (sym t.0) mine))
             (λ (t : (j ≢ id) × (get_elem? st.views j ≡ some w)). seat_kept o old new r.views r.owner k v' id j own.owner_is t.0

@@ -15,10 +15,12 @@ use Rattle.pm_world.specs.Memory.{Location, PoolWord, RunWord, CommitCounter}
 use Rattle.pm_world.specs.Moves.{Moves}
 use Rattle.pm_world.specs.World.{Opening}
 use Rattle.pm_shared.specs.declared.mem.SharedMem.{SharedMem}
-use Rattle.pm_shared.specs.Openings.{opening_of, TableAllows}
+use Rattle.pm_shared.specs.declared.rule.Beginning.{Beginning}
+use Rattle.pm_shared.specs.Openings.{opening_of}
 use Rattle.pm_shared.specs.Placing.{sort_of, number_of, count_of, start_of, table_size, place, run_place, memory_of}
 use Rattle.pm_shared.specs.Plays.{tells}
-use Rattle.pm_shared.specs.Rule.{Knowledge, Pool, Lane, Spent, Bound, Made, Ruled, lane_of, SeatAsks, SeatMade}
+use Rattle.pm_shared.specs.TableRule.{Ruled, TableAllows}
+use Rattle.pm_shared.specs.Rule.{Knowledge, Pool, Lane, Spent, Bound, Made, lane_of, SeatAsks, SeatMade}
 use Rattle.pm_shared.proofs.Allows.{Before, allows}
 use Rattle.pm_shared.proofs.Injective.{below_size}
 use Rattle.pm_shared.proofs.Moving.{At, found_at}
@@ -73,7 +75,7 @@ module _ (m : SharedMem) (lane : ℕ) (me : Me ℕ Knowledge) (step : View → T
       let moved : (words : List ℕ) → Before o words ask.view None → slice_index words i < 18446744073709551616 → Moves ask.view.fixed.lane (actual (slice_index words i)) (memory_of o.shape words) (memory_of o.shape (set words i (f (slice_index words i)))) = λ words B l.
       subst (λ k. Moves k (actual (slice_index words i)) (memory_of o.shape words) (memory_of o.shape (set words i (f (slice_index words i))))) (sym ask.lane_is)
       (subst (λ z. Moves lane (actual (slice_index words i)) (memory_of z words) (memory_of z (set words i (f (slice_index words i))))) (sym shape_is) (moves words (B.size ∙ ap table_size shape_is) B l)) in
-      let q = subst (λ (n : Me ℕ Knowledge). Allows (Ruled o) 0 id n i f (Made actual ask.view)) (sym ask.sees) (allows o id ask.view None i f actual ask.lawful moved) s rule homes here fits in (
+      let q = subst (λ (n : Me ℕ Knowledge). Allows (Ruled m.table.shared.key) 0 id n i f (Made actual ask.view)) (sym ask.sees) (allows m.table.shared.key id ask.view None i f actual ask.lawful moved) s rule homes here fits in (
         q.0,
         q.1,
         q.2,
@@ -87,6 +89,14 @@ module _ (m : SharedMem) (lane : ℕ) (me : Me ℕ Knowledge) (step : View → T
   pub gave : (r : ℕ) (new : Me ℕ Knowledge) → tells step st me r new → SeatMade me new (actual r)
   gave r new told w e = let v_is : w ≡ ask.view = one_view w ask.view None None me e ask.sees in let t = told w e in
       (t.0 ∙ ap lane_of (ap (after w) (read_off w v_is r)), subst (λ z. Found w z) (read_off w v_is r) t.1)
+
+-- what a call of the words asks: the table has no slots
+pub no_slots : (b : Beginning) (slots id word : ℕ) (me : Me ℕ Knowledge) (becomes : ℕ → ℕ)
+    (told : ℕ → ℕ → Me ℕ Knowledge → Type 0) → slots ≡ 0
+    → TableAllows b id me word becomes (told 0)
+    → Allows (Ruled b) slots id me word becomes (told slots)
+no_slots b slots id word me becomes told none asks =
+    subst (λ n. Allows (Ruled b) n id me word becomes (told n)) (sym none) asks
 
 -- what the seat asks, of the memory's shape
 module _ (sh : Shape) (lane : ℕ) (me : Me ℕ Knowledge) (actual : ℕ → Step) (ask : SeatAsks sh lane me actual) where

@@ -14,10 +14,13 @@ use Rattle.pm_world.proofs.StepMark.{some_class}
 use Rattle.pm_world.specs.Memory.{Location, PoolWord, LockWord, RunWord, ZoneWord, ZoneLock, CommitCounter, StopWord, bit}
 use Rattle.pm_world.specs.Opens.{IsOpening, IsTaken, OpensIdle, descriptor}
 use Rattle.pm_shared.proofs.Asked.{place_is}
+use Rattle.pm_shared.proofs.TableRuns.{run_begins}
 use Rattle.pm_shared.specs.declared.rule.Beginning.{Beginning}
 use Rattle.pm_shared.specs.Openings.{CanBegin, opening_of, fixed_of, generation_of, idle_view, idle_from, first_known, table_words, pool_of}
 use Rattle.pm_shared.specs.Placing.{sort_of, number_of, count_of, start_of, table_size, place, said, memory_of}
-use Rattle.pm_shared.specs.Rule.{Knowledge, Pool, DescriptorsFit, Sound, Crew, SeatFits, Ruled}
+use Rattle.pm_shared.specs.Rule.{Knowledge, Pool, DescriptorsFit, Sound, Crew, SeatFits}
+use Rattle.pm_shared.specs.TableRule.{Ruled}
+use Rattle.pm_shared.specs.TableRun.{Begins, moment}
 
 -- ---- THE VIEWS of lanes one after another
 at_idle : (b : Beginning) (k m n : ℕ) (v : View) → get_elem? (idle_from b k m) n ≡ some v → (n < m) × (idle_view b (k + n) ≡ v)
@@ -164,15 +167,27 @@ module _ (b : Beginning) (can : CanBegin b) where
         let p : 0 + n ≡ v.fixed.lane = ap (λ (x : View). x.fixed.lane) t.1 in let q : 0 + m ≡ w.fixed.lane = ap (λ (x : View). x.fixed.lane) s.1 in omega (arith, p, q, same);
   }
 
+  first_moment : Begins (opening_of b) (idle_view b)
+      (moment (memory_of b.shape (table_words b)) (idle_view b) world.0)
+  first_moment = record {
+    world = world.1;
+    views_are = refl;
+    no_call = world.2;
+    words_are = pool_word;
+    taken = taken;
+    whole = can.whole;
+    sizes = world.3;
+  }
+
   -- THE RULE HOLDS AT THE BEGINNING
-  pub ruled : Ruled (opening_of b) (opening (table_words b) [] (first_known b))
+  pub ruled : Ruled b (opening (table_words b) [] (first_known b))
   ruled = record {
     views = idle_view b;
     owner = λ _. 0;
     past = world.0;
     size = all_long;
     world = world.1;
-    sizes = world.3;
+    run = run_begins (opening_of b) (idle_view b) (moment (memory_of b.shape (table_words b)) (idle_view b) world.0) first_moment;
     sound = sound;
     seats = first_seat;
   }

@@ -8,7 +8,10 @@ use Rattle.pm_view.specs.View.{View}
 use Rattle.pm_world.specs.Memory.{Memory}
 use Rattle.pm_world.specs.World.{Opening, Views}
 use Rattle.pm_shared.specs.Placing.{memory_of}
-use Rattle.pm_shared.specs.Rule.{Knowledge, Pool, Lane, Spent, Bound, Owned, SeatFits, Ruled}
+use Rattle.pm_shared.specs.Rule.{Knowledge, Pool, Lane, Spent, Bound, Owned, SeatFits}
+use Rattle.pm_shared.specs.declared.rule.Beginning.{Beginning}
+use Rattle.pm_shared.specs.Openings.{opening_of}
+use Rattle.pm_shared.specs.TableRule.{Ruled}
 
 -- the owners with lane k's changed
 abbrev owner_with : (ℕ → ℕ) → ℕ → ℕ → ℕ → ℕ
@@ -43,9 +46,12 @@ module _ (o : Opening) (mem : Memory) (views : Views) (owner : ℕ → ℕ) (k n
   seat_else id ne (Lane w b) h = (owned_else id w (λ e. ne (ap owner (sym e) ∙ h.0.owner_is)) h.0, h.1)
   seat_else id ne Spent h = tt
 
-module _ (o : Opening) where
+module _ (key : Beginning) where
+  abbrev o : Opening
+  o = opening_of key
+
   -- the pool's first lane is handed out
-  pub splits : (id : ℕ) (v : View) (vs : List View) → Splits (Ruled o) id (Pool (v ∷ vs)) (Pool vs) (Lane v None)
+  pub splits : (id : ℕ) (v : View) (vs : List View) → Splits (Ruled key) id (Pool (v ∷ vs)) (Pool vs) (Lane v None)
   splits id v vs s r at = let mem : Memory = memory_of o.shape s.words in let h = r.seats id (Pool (v ∷ vs)) at in let own = h.each 0 v refl in let k : ℕ = v.fixed.lane in let new : ℕ = length s.views in let owner' : ℕ → ℕ = owner_with r.owner k new in
       let old_id : id < new = inside s.views (Pool (v ∷ vs)) id at in let long = length-set s.views id (Pool vs) in record {
         views = r.views;
@@ -53,7 +59,7 @@ module _ (o : Opening) where
         past = r.past;
         size = r.size;
         world = r.world;
-        sizes = r.sizes;
+        run = r.run;
         sound = r.sound;
         seats = λ j w e. ⊎_elim
             (λ (before : get_elem? (set s.views id (Pool vs)) j ≡ some w). ⊎_elim
@@ -76,7 +82,7 @@ module _ (o : Opening) where
       }
 
   -- a lane comes back
-  pub joins : (id : ℕ) (vs : List View) (other : ℕ) (v : View) (bound : Option Bound) → Joins (Ruled o) id (Pool vs) other (Lane v bound) (Pool (vs ++ v ∷ [])) Spent
+  pub joins : (id : ℕ) (vs : List View) (other : ℕ) (v : View) (bound : Option Bound) → Joins (Ruled key) id (Pool vs) other (Lane v bound) (Pool (vs ++ v ∷ [])) Spent
   joins id vs other v bound s r at ne at' = let mem : Memory = memory_of o.shape s.words in let both : Knowledge = Pool (vs ++ v ∷ []) in let h = r.seats id (Pool vs) at in let k : ℕ = v.fixed.lane in let owner' : ℕ → ℕ = owner_with r.owner k id in
       let own = ⊎_elim (λ (t : (other ≡ id) × (both ≡ Lane v bound)). absurd (ne t.0)) (λ (t : (other ≢ id) × (get_elem? s.views other ≡ some (Lane v bound))). (r.seats other (Lane v bound) t.1).0) (at_set s.views id other both (Lane v bound) at') in
       let away : (n : ℕ) (w : View) → get_elem? vs n ≡ some w → w.fixed.lane ≢ k = λ n w here same. ne (sym own.owner_is ∙ (ap r.owner (sym same) ∙ (h.each n w here).owner_is)) in record {
@@ -85,7 +91,7 @@ module _ (o : Opening) where
         past = r.past;
         size = r.size;
         world = r.world;
-        sizes = r.sizes;
+        run = r.run;
         sound = r.sound;
         seats = λ j w e. ⊎_elim
             (λ (t : (j ≡ other) × (Spent ≡ w)). subst (SeatFits o mem r.views owner' j) t.1 tt)

@@ -3,6 +3,7 @@ pub mod LockSaid
 pub mod Tables
 pub mod Bounds
 pub mod Constant
+pub mod TableRuns
 pub mod Allows
 pub mod Moving
 pub mod Asked

@@ -13,8 +13,9 @@ use Rattle.pm_shared.proofs.Asked.{one_view, below_place, word_is}
 use Rattle.pm_shared.proofs.Looks.{before}
 use Rattle.pm_shared.proofs.Moving.{found_at}
 use Rattle.pm_shared.specs.declared.mem.SharedMem.{SharedMem}
-use Rattle.pm_shared.specs.Openings.{opening_of, TableAllows}
+use Rattle.pm_shared.specs.Openings.{opening_of}
 use Rattle.pm_shared.specs.Placing.{place, table_size, memory_of}
+use Rattle.pm_shared.specs.TableRule.{TableAllows}
 use Rattle.pm_shared.specs.Plays.{tells, loads}
 use Rattle.pm_shared.specs.Rule.{Knowledge, SeatAsks}
 
@@ -41,7 +42,7 @@ module _ (m : SharedMem) (lane : ℕ) (me : Me ℕ Knowledge) (id i w : ℕ) (as
 
   pub loads_asked : TableAllows m.table.shared.key id me i (λ n. n) (tells (λ v st r. Load st.word r) (step 0 i 0 0 none) me) → TableAllows m.table.shared.key id me i (λ n. n) (loads (step 0 i 0 0 none) me)
   loads_asked q s rule homes here fits = let t = q s rule homes here fits in
-      let B = before (opening_of m.table.shared.key) s rule id ask.view None (here ∙ ap (λ (n : Me ℕ Knowledge). some n.0) ask.sees) in (
+      let B = before m.table.shared.key s rule id ask.view None (here ∙ ap (λ (n : Me ℕ Knowledge). some n.0) ask.sees) in (
         t.0,
         t.1,
         t.2,

@@ -20,13 +20,17 @@ use Rattle.pm_world.specs.Memory.{LockWord, ZoneWord, bit}
 use Rattle.pm_world.specs.Moves.{Moves}
 use Rattle.pm_world.specs.World.{Opening}
 use Rattle.pm_shared.specs.declared.mem.SharedMem.{SharedMem}
-use Rattle.pm_shared.specs.Openings.{opening_of, TableAllows}
+use Rattle.pm_shared.specs.declared.rule.Beginning.{Beginning}
+use Rattle.pm_shared.specs.Openings.{idle_view, opening_of}
 use Rattle.pm_shared.specs.Placing.{start_of, table_size, place, memory_of}
 use Rattle.pm_shared.specs.Plays.{gives_or_looks, GivenOrSeen, looks_at_zone, Looked, occupies_zone}
-use Rattle.pm_shared.specs.Rule.{Knowledge, Pool, Lane, Spent, Bound, BoundHolds, Made, Ruled, lane_of, SeatAsks, SeatMade, SeatFits, Owned}
+use Rattle.pm_shared.specs.Rule.{Knowledge, Pool, Lane, Spent, Bound, BoundHolds, Made, lane_of, SeatAsks, SeatMade, SeatFits, Owned}
+use Rattle.pm_shared.specs.TableRule.{Ruled, TableAllows}
+use Rattle.pm_shared.specs.TableRun.{HasRun, moment}
 use Rattle.pm_shared.proofs.Allows.{Before, allows}
 use Rattle.pm_shared.proofs.Asked.{asked, one_view, number_is, below_place, few_lanes}
 use Rattle.pm_shared.proofs.LockSaid.{writer_left, high_writer}
+use Rattle.pm_shared.proofs.TableRuns.{run_fits}
 use Rattle.pm_shared.proofs.Moving.{At, found_at, mode_known, write_gives, read_gives, write_frees, occupy_won, occupy_lost, clear_still}
 
 pub set_same : (l : List ℕ) (i : ℕ) → set l i (slice_index l i) ≡ l
@@ -39,8 +43,8 @@ words_same : (l : List ℕ) (i x : ℕ) → x ≡ slice_index l i → set l i x 
 words_same l i x e = ap (set l i) e ∙ set_same l i
 
 -- a seat's lane, in a state that meets the rule
-pub before : (o : Opening) (s : State ℕ Knowledge) (r : Ruled o s) (id : ℕ) (v : View) (b : Option Bound) → get_elem? s.views id ≡ some (Lane v b) → Before o s.words v b
-before o s r id v b here = let fit = r.seats id (Lane v b) here in record { views = r.views; past = r.past; size = r.size; world = r.world; sizes = r.sizes; sound = r.sound; inside = fit.0.inside; view = fit.0.view; bound = fit.1 }
+pub before : (key : Beginning) (s : State ℕ Knowledge) (r : Ruled key s) (id : ℕ) (v : View) (b : Option Bound) → get_elem? s.views id ≡ some (Lane v b) → Before (opening_of key) s.words v b
+before key s r id v b here = let fit = r.seats id (Lane v b) here in record { views = r.views; past = r.past; size = r.size; world = r.world; sizes = run_fits (opening_of key) (idle_view key) (moment (memory_of key.shape s.words) r.views r.past) r.run; sound = r.sound; inside = fit.0.inside; view = fit.0.view; bound = fit.1 }
 
 -- ---- HOW THE LANE HOLDS A LINE
 module _ (m : SharedMem) (lane : ℕ) (me : Me ℕ Knowledge) (line i : ℕ) (ask : SeatAsks m.shape lane me (λ r. Give line)) (few : lane < m.shape.lanes) (inside : line < words_of m.shape / 8) (is : i ≡ place m.shape (LockWord line)) where
@@ -83,21 +87,21 @@ module _ (m : SharedMem) (lane : ℕ) (me : Me ℕ Knowledge) (line i : ℕ) (as
 
   -- one that writes, and finds no bit that a reader left, clears the word at once; else it looks
   pub gives_or_sees : (id : ℕ) → TableAllows m.table.shared.key id me i (λ n. either (eqb n (writer_bit lane)) 0 n) (gives_or_looks tried me)
-  gives_or_sees id s r homes here fits = let here' : get_elem? s.views id ≡ some (Lane ask.view None) = here ∙ ap (λ (n : Me ℕ Knowledge). some n.0) ask.sees in let x : ℕ = slice_index s.words i in let B = before o s r id ask.view None here' in ⊎_elim
+  gives_or_sees id s r homes here fits = let here' : get_elem? s.views id ≡ some (Lane ask.view None) = here ∙ ap (λ (n : Me ℕ Knowledge). some n.0) ask.sees in let x : ℕ = slice_index s.words i in let B = before m.table.shared.key s r id ask.view None here' in ⊎_elim
       (λ (same : x ≡ writer_bit lane).
       let writes : locked ask.view.claims line ≡ true = mode s.words B ∙ ap not (ne_eqb (x / 2 ^ 32) 0 (λ z. high_writer lane (ap (λ y. y / 2 ^ 32) (sym same) ∙ z))) in
       let q = asked m lane me given tried actual ask (λ v sh l n. ap Give (number_is m.shape (LockWord line) i is inside v.fixed.shape sh)) id i (λ n. 0) (λ words size C small. writer_moves words size writes C small) s r homes here fits in (
         q.0,
         q.1,
         q.2,
-        subst (λ y. Ruled o (stepped s i y id me.1 q.0 q.1)) (sym (ap (λ b. either b 0 x) (eq-eqb x (writer_bit lane) same))) q.3,
+        subst (λ y. Ruled m.table.shared.key (stepped s i y id me.1 q.0 q.1)) (sym (ap (λ b. either b 0 x) (eq-eqb x (writer_bit lane) same))) q.3,
         λ w e. subst (GivenOrSeen w tried me x (q.0, carried_after me.1 q.1)) (sym (eq-eqb x (writer_bit lane) same)) (q.4 w e),
       ))
       (λ (other : x ≢ writer_bit lane). let no = ne_eqb x (writer_bit lane) other in (
         me.0,
         keeps,
         tt,
-        subst (λ y. Ruled o (stepped s i y id me.1 me.0 keeps)) (sym (ap (λ b. either b 0 x) no)) (subst (Ruled o) (λ j. record { words = sym (set_same s.words i) j; homes = s.homes; views = sym (set_again s.views id me.0 here) j }) r),
+        subst (λ y. Ruled m.table.shared.key (stepped s i y id me.1 me.0 keeps)) (sym (ap (λ b. either b 0 x) no)) (subst (Ruled m.table.shared.key) (λ j. record { words = sym (set_same s.words i) j; homes = s.homes; views = sym (set_again s.views id me.0 here) j }) r),
         λ w e. subst (GivenOrSeen w tried me x (me.0, me.1)) (sym no) (let v_is : w ≡ ask.view = one_view w ask.view None None me e ask.sees in
             let n_is : i - start_of w.fixed.shape 1 ≡ line = number_is m.shape (LockWord line) i is inside w.fixed.shape (ap (λ (u : View). u.fixed.shape) v_is ∙ ask.shape) in
             (λ j. (me.0, no_slots j), ap (locked w.claims) n_is ∙ (ap (λ (u : View). locked u.claims line) v_is ∙ mode s.words B))),
@@ -154,7 +158,7 @@ module _ (m : SharedMem) (lane : ℕ) (me : Me ℕ Knowledge) (zone bits i : ℕ
       b = record { zone = zone; bits = x }
 
       Goal : Type 0
-      Goal = (w : Knowledge) × (a : Rattle.atomic_table.specs.Table.Act ℕ) × Rattle.atomic_table.specs.Table.Valid s.homes me.1 a × Ruled o (Rattle.atomic_table.specs.Table.stepped s i (either (eqb x bits) bits x) id me.1 w a) × looks_at_zone st me x (w, Rattle.atomic_table.specs.Table.carried_after me.1 a)
+      Goal = (w : Knowledge) × (a : Rattle.atomic_table.specs.Table.Act ℕ) × Rattle.atomic_table.specs.Table.Valid s.homes me.1 a × Ruled m.table.shared.key (Rattle.atomic_table.specs.Table.stepped s i (either (eqb x bits) bits x) id me.1 w a) × looks_at_zone st me x (w, Rattle.atomic_table.specs.Table.carried_after me.1 a)
 
       free : bit_and x bits ≡ 0 → Goal
       free clear = (
@@ -167,7 +171,7 @@ module _ (m : SharedMem) (lane : ℕ) (me : Me ℕ Knowledge) (zone bits i : ℕ
           past = r.past;
           size = ap length kept ∙ r.size;
           world = subst (λ ws. Rattle.pm_world.specs.World.World o (memory_of o.shape ws) r.views r.past) (sym kept) r.world;
-          sizes = r.sizes;
+          run = subst (λ ws. HasRun o (idle_view m.table.shared.key) (moment (memory_of o.shape ws) r.views r.past)) (sym kept) r.run;
           sound = subst (λ ws. Rattle.pm_shared.specs.Rule.Sound o (memory_of o.shape ws) r.views) (sym kept) r.sound;
           seats = λ j w q. subst (λ ws. SeatFits o (memory_of o.shape ws) r.views r.owner j w) (sym kept) (⊎_elim
               (λ (t : (j ≡ id) × (Lane ask.view (Some b) ≡ w)). subst (λ z. SeatFits o (memory_of o.shape s.words) r.views r.owner z w) (sym t.0) (subst (SeatFits o (memory_of o.shape s.words) r.views r.owner id) t.1 mine))
@@ -182,19 +186,19 @@ module _ (m : SharedMem) (lane : ℕ) (me : Me ℕ Knowledge) (zone bits i : ℕ
             (r.seats id (Lane ask.view None) here').0,
             record {
               held = (ask.lawful 0).allowed.open_;
-              within = λ n t. let f = found_at o.shape s.words i (ZoneWord zone) (here_at s.words ask.view None (before o s r id ask.view None here')) in ap (λ y. bit y n) (sym f) ∙ t;
+              within = λ n t. let f = found_at o.shape s.words i (ZoneWord zone) (here_at s.words ask.view None (before m.table.shared.key s r id ask.view None here')) in ap (λ y. bit y n) (sym f) ∙ t;
             },
           )
 
       taken : bit_and x bits ≢ 0 → Goal
       taken set_ = let no : eqb (bit_and x bits) 0 ≡ false = ne_eqb (bit_and x bits) 0 set_ in
           let would_is : would x ≡ either (eqb x bits) bits x = ap (λ t. cond t (bit_or x bits) x) no ∙ sym (pulsed x) in
-          let q = subst (λ (n : Me ℕ Knowledge). Allows (Ruled o) 0 id n i would (Made (λ r. Occupy (Zone zone) bits (eqb (bit_and r bits) 0)) ask.view)) (sym ask.sees)
-          (allows o id ask.view None i would (λ r. Occupy (Zone zone) bits (eqb (bit_and r bits) 0)) ask.lawful (λ words B l. would_move words B)) s r homes here fits in (
+          let q = subst (λ (n : Me ℕ Knowledge). Allows (Ruled m.table.shared.key) 0 id n i would (Made (λ r. Occupy (Zone zone) bits (eqb (bit_and r bits) 0)) ask.view)) (sym ask.sees)
+          (allows m.table.shared.key id ask.view None i would (λ r. Occupy (Zone zone) bits (eqb (bit_and r bits) 0)) ask.lawful (λ words B l. would_move words B)) s r homes here fits in (
             q.0,
             q.1,
             q.2,
-            subst (λ y. Ruled o (Rattle.atomic_table.specs.Table.stepped s i y id me.1 q.0 q.1)) would_is q.3,
+            subst (λ y. Ruled m.table.shared.key (Rattle.atomic_table.specs.Table.stepped s i y id me.1 q.0 q.1)) would_is q.3,
             λ w e. let v_is : w ≡ ask.view = one_view w ask.view None None me e ask.sees in
                 let told : Made (λ _. Occupy (Zone zone) bits false) ask.view x (q.0, Rattle.atomic_table.specs.Table.carried_after me.1 q.1) = subst (λ t. Made (λ _. Occupy (Zone zone) bits t) ask.view x (q.0, Rattle.atomic_table.specs.Table.carried_after me.1 q.1)) no q.4 in
                 subst (λ t. Looked w st t x (q.0, Rattle.atomic_table.specs.Table.carried_after me.1 q.1)) (sym no)
@@ -211,7 +215,7 @@ module _ (m : SharedMem) (lane : ℕ) (me : Me ℕ Knowledge) (zone bits i : ℕ
       let moves : (words : List ℕ) → Before o words v (Some b) → slice_index words i < 18446744073709551616 → Moves v.fixed.lane (Occupy (Zone zone) bits true) (memory_of o.shape words) (memory_of o.shape (set words i (bit_or (slice_index words i) bits))) = λ words B l.
       let A = here_at words v (Some b) B in let f = found_at o.shape words i (ZoneWord zone) A in
       occupy_won o.shape words i v.fixed.lane (Zone zone) bits (clear_still (slice_index words i) r bits (λ n t. B.bound.within n (ap (λ z. bit (memory_of o.shape words (ZoneWord z)) n) (number_here v refl) ∙ (ap (λ y. bit y n) f ∙ t))) clear) A in
-      let q = subst (λ (n : Me ℕ Knowledge). Allows (Ruled o) 0 id n i (λ n. bit_or n bits) (Made (λ _. Occupy (Zone zone) bits true) v)) (sym saw) (allows o id v (Some b) i (λ n. bit_or n bits) (λ _. Occupy (Zone zone) bits true) sure moves) s rule homes here fits in (
+      let q = subst (λ (n : Me ℕ Knowledge). Allows (Ruled m.table.shared.key) 0 id n i (λ n. bit_or n bits) (Made (λ _. Occupy (Zone zone) bits true) v)) (sym saw) (allows m.table.shared.key id v (Some b) i (λ n. bit_or n bits) (λ _. Occupy (Zone zone) bits true) sure moves) s rule homes here fits in (
         q.0,
         q.1,
         q.2,

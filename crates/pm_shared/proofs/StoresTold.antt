@@ -14,8 +14,9 @@ use Rattle.pm_shared.proofs.Looks.{before}
 use Rattle.pm_shared.proofs.Moving.{At, found_at}
 use Rattle.pm_shared.proofs.StoresFind.{finds_was}
 use Rattle.pm_shared.specs.declared.mem.SharedMem.{SharedMem}
-use Rattle.pm_shared.specs.Openings.{opening_of, TableAllows}
+use Rattle.pm_shared.specs.Openings.{opening_of}
 use Rattle.pm_shared.specs.Placing.{place, table_size, memory_of}
+use Rattle.pm_shared.specs.TableRule.{TableAllows}
 use Rattle.pm_shared.specs.Plays.{tells, stores, FindsWas}
 use Rattle.pm_shared.specs.Rule.{Knowledge, SeatAsks}
 
@@ -40,7 +41,7 @@ module _ (m : SharedMem) (lane : ℕ) (me : Me ℕ Knowledge) (id i w value : �
 
   pub stores_asked : TableAllows m.table.shared.key id me i (λ _. value) (tells (λ v st r. Store st.word st.first) (step 0 i value 0 none) me) → TableAllows m.table.shared.key id me i (λ _. value) (stores (step 0 i value 0 none) me)
   stores_asked q s rule homes here fits = let t = q s rule homes here fits in
-      let B = before (opening_of m.table.shared.key) s rule id ask.view None (here ∙ ap (λ (n : Me ℕ Knowledge). some n.0) ask.sees) in (
+      let B = before m.table.shared.key s rule id ask.view None (here ∙ ap (λ (n : Me ℕ Knowledge). some n.0) ask.sees) in (
         t.0,
         t.1,
         t.2,

@@ -1,17 +1,22 @@
--- WHAT IS KNOWN AT THE END: the words are those of a world, and each lane that came back has its view in it.
+-- WHAT IS KNOWN AT THE END: the words are those of a world, to which the lanes' steps led from the
+-- moment in which they began, and each lane that came back has its view in it.
 use Rattle.std.specs.Prelude.{◌≡◌, ℕ, ◌<◌, List, length, slice_index}
 use mathlib.Core.Option.{some}
 use lib.ListN.{get_elem?}
 use Rattle.pm_layout.specs.Chunks.{words_of}
 use Rattle.pm_view.specs.View.{View}
-use Rattle.pm_world.specs.Memory.{Memory, PoolWord}
-use Rattle.pm_world.specs.World.{Opening, Views, Past, World}
+use Rattle.pm_world.specs.Memory.{PoolWord}
+use Rattle.pm_world.specs.Runs.{IsWorld, Moment}
+use Rattle.pm_shared.specs.declared.rule.Beginning.{Beginning}
+use Rattle.pm_shared.specs.Openings.{idle_view, opening_of}
+use Rattle.pm_shared.specs.TableRun.{HasRun}
 
-pub record Closes (o : Opening) (back : List View) (words : List ℕ) : Type 0 where
-  pub mem : Memory
-  pub views : Views
-  pub past : Past
-  pub world : World o mem views past
-  pub size : length words ≡ words_of o.shape
-  pub words_are : (w : ℕ) → w < words_of o.shape → slice_index words w ≡ mem (PoolWord w)
-  pub lanes : (n : ℕ) (v : View) → get_elem? back n ≡ some v → (v.fixed.lane < o.lanes) × (views v.fixed.lane ≡ v)
+-- A TABLE THAT BEGAN SO CLOSED with these words, and with the views of the lanes that came back
+pub record Closes (b : Beginning) (back : List View) (words : List ℕ) : Type 0 where
+  pub last : Moment
+  pub world : IsWorld (opening_of b) last
+  pub run : HasRun (opening_of b) (idle_view b) last
+  pub size : length words ≡ words_of b.shape
+  pub words_are : (w : ℕ) → w < words_of b.shape → slice_index words w ≡ last.mem (PoolWord w)
+  pub lanes : (n : ℕ) (v : View) → get_elem? back n ≡ some v
+      → (v.fixed.lane < b.lanes) × (last.views v.fixed.lane ≡ v)

@@ -1,7 +1,9 @@
 pub mod Placing
+pub mod TableRun
 pub mod Rule
 pub mod Plays
 pub mod Openings
+pub mod TableRule
 pub mod Closings
 pub mod Tallies
 pub mod Seats

@@ -10,8 +10,8 @@ use Rattle.pm_world.specs.Lanes.{is_occupancy}
 use Rattle.pm_world.specs.Memory.{occupancy_bit}
 use Rattle.pm_world.specs.Opens.{IsRetired, takes}
 use Rattle.pm_world.specs.World.{Opening}
-use Rattle.atomic_table.specs.Table.{Me, Allows}
-use Rattle.pm_shared.specs.Rule.{Knowledge, Pool, Lane, Spent, Ruled}
+use Rattle.atomic_table.specs.Table.{Me}
+use Rattle.pm_shared.specs.Rule.{Knowledge, Pool, Lane, Spent}
 use Rattle.pm_shared.specs.declared.rule.Beginning.{Beginning}
 
 -- the pool's recovered words, on which so many lanes run
@@ -20,10 +20,6 @@ pool_opening shape lanes words = record { shape = shape; lanes = lanes; words = 
 
 abbrev pub opening_of : Beginning → Opening
 opening_of b = pool_opening b.shape b.lanes b.words.items
-
--- what a call of the table asks: whatever the table is, the rule is kept, and what the call tells is so
-abbrev pub TableAllows : Beginning → ℕ → Me ℕ Knowledge → ℕ → (ℕ → ℕ) → (ℕ → Me ℕ Knowledge → Type 0) → Type 0
-TableAllows b id me word becomes told = Allows (Ruled (opening_of b)) 0 id me word becomes told
 
 -- what stays of a lane, and the generation that its log goes on with
 abbrev pub fixed_of : Beginning → ℕ → Constants

@@ -1,10 +1,10 @@
--- THE RULE OF THE TABLE: there is a world whose memory its words are, and what each seat knows is a lane's view of that world, views that the pool has
--- to hand out or has taken back, or nothing any more.
-use Rattle.std.specs.Prelude.{◌≡◌, ◌≢◌, ℕ, ◌<◌, nat_le, Bool, true, ◌==◌, List, [], length, slice_get, Option, None, Some}
+-- WHAT SEATS OF THE TABLE KNOW of the world whose memory its words are: a lane's view of that world, views that the pool has to hand out or has taken
+-- back, or nothing any more.
+use Rattle.std.specs.Prelude.{◌≡◌, ◌≢◌, ℕ, ◌<◌, nat_le, Bool, true, ◌==◌, List, [], slice_get, Option, None, Some}
 use Rattle.std.specs.List.{list_any}
 use mathlib.Core.Option.{some}
 use lib.ListN.{get_elem?}
-use Rattle.atomic_table.specs.Table.{State, Me}
+use Rattle.atomic_table.specs.Table.{Me}
 use Rattle.pm_layout.specs.declared.shape.Shape.{Shape}
 use Rattle.pm_layout.specs.Chunks.{chunks_of, word_of_descriptor}
 use Rattle.pm_record.specs.declared.redo.Op.TheVariants as op
@@ -16,9 +16,7 @@ use Rattle.pm_view.specs.View.{View}
 use Rattle.pm_view.specs.Views.{after}
 use Rattle.pm_world.specs.Lawful.{IsLawful}
 use Rattle.pm_world.specs.Memory.{Memory, PoolWord, ZoneWord, bit}
-use Rattle.pm_world.specs.Sizes.{ObjectsFit}
-use Rattle.pm_world.specs.World.{Opening, Views, Past, World}
-use Rattle.pm_shared.specs.Placing.{table_size, memory_of}
+use Rattle.pm_world.specs.World.{Opening, Views}
 
 -- what a lane found in the occupancy word of a zone whose lock it holds: no bit beyond these is set, since other lanes only clear bits there
 pub record Bound : Type 0 where
@@ -73,17 +71,6 @@ SetsFit entries = (i : ℕ) (e : Entry) (p : Place) → slice_get entries i ≡ 
 pub record Sound (o : Opening) (mem : Memory) (views : Views) : Type 0 where
   pub descriptors : DescriptorsFit o.shape mem
   pub sets : (k : ℕ) → SetsFit (views k).log.entries
-
--- THE RULE. A lane's seat is named by `owner`, so that seats that come and go change nothing of the others
-pub record Ruled (o : Opening) (s : State ℕ Knowledge) : Type 0 where
-  pub views : Views
-  pub owner : ℕ → ℕ
-  pub past : Past
-  pub size : length s.words ≡ table_size o.shape
-  pub world : World o (memory_of o.shape s.words) views past
-  pub sizes : ObjectsFit o past
-  pub sound : Sound o (memory_of o.shape s.words) views
-  pub seats : (id : ℕ) (w : Knowledge) → get_elem? s.views id ≡ some w → SeatFits o (memory_of o.shape s.words) views owner id w
 
 -- ---- WHAT A CALL TELLS: one form for every kind of step
 

@@ -1,8 +1,9 @@
 -- A lane's own tally of its memory calls, and the views that it is the tally of.
-use Rattle.std.specs.Prelude.{◌≡◌, ℕ, ◌+◌, ◌%◌, ◌^◌, List, ◌∷◌, ◌++◌, [], Option}
+use Rattle.std.specs.Prelude.{◌≡◌, ℕ, ◌+◌, ◌%◌, ◌^◌, All, List, ◌∷◌, ◌++◌, [], Option}
 use Rattle.pm_memory.specs.Changes.{AreUndrained}
 use Rattle.pm_memory.specs.Solo.{IsCount}
 use Rattle.pm_view.specs.declared.change.Change.{Change}
+use Rattle.pm_view.specs.Changes.{IsFormed}
 use Rattle.pm_view.specs.View.{View}
 
 -- after how many counted calls the lane stops, how many it made, modulo 2 ^ 64, and its undrained
@@ -24,8 +25,9 @@ tallied changes t = record t { calls = (t.calls + 1) % 2 ^ 64; changes = changes
 abbrev pub with_change : Change → Tallied → Tallied
 with_change c t = tallied (t.changes ++ c ∷ []) t
 
--- THE TALLY IS THE VIEW'S
+-- THE TALLY IS THE VIEW'S, and its changes have masks of words and no bit outside of them
 pub record IsTally (t : Tallied) (v : View) : Type 0 where
   pub stop : v.fixed.stop ≡ t.stop
   pub calls : IsCount t.stop t.calls v.calls
   pub changes : AreUndrained t.changes v.changes
+  pub formed : All IsFormed t.changes

@@ -3,8 +3,8 @@ ghost use mathlib.Core.Option.{none};
 ghost use prog.Atomic.{either};
 ghost use Rattle.atomic_table.specs.Table.{step};
 ghost use Rattle.pm_layout.specs.Chunks.{words_of};
-ghost use Rattle.pm_shared.specs.Openings.{TableAllows};
 ghost use Rattle.pm_shared.specs.Placing.{table_size};
+ghost use Rattle.pm_shared.specs.TableRule.{TableAllows};
 
 use crate::rule::{Beginning, Knows, WorldRule};
 use atomic_table::{Play, Seat, Table};

@@ -1,12 +1,13 @@
-ghost use Rattle.std.specs.Prelude.{◌≡◌, ℕ, ◌+◌, ◌<◌, ◌≤◌, List, [], ◌∷◌, ◌++◌, length, slice_index, replicate, IfOk};
+ghost use Rattle.std.specs.Prelude.{◌≡◌, ℕ, ◌+◌, ◌<◌, ◌≤◌, List, [], ◌∷◌, ◌++◌, length, slice_index, replicate, All, IfOk};
 ghost use Rattle.std.specs.Result.{OnOk, OnErr};
 ghost use Rattle.std.specs.Mem.Slots.{slots_items, slots_len, IsFull};
 ghost use mathlib.Core.Option.{some};
 ghost use lib.ListN.{get_elem?};
 ghost use Rattle.pm_memory.specs.Changes.{AreUndrained};
 ghost use Rattle.pm_shared.specs.Closings.{Closes};
-ghost use Rattle.pm_shared.specs.Openings.{CanBegin, opening_of, idle_view, table_words, pool_with, pool_of, rest_of, handed_out, taken_back, no_one};
+ghost use Rattle.pm_shared.specs.Openings.{CanBegin, idle_view, table_words, pool_with, pool_of, rest_of, handed_out, taken_back, no_one};
 ghost use Rattle.pm_shared.specs.Seats.{IsSeen};
+ghost use Rattle.pm_view.specs.Changes.{IsFormed};
 ghost use Rattle.pm_view.specs.View.{View};
 
 use crate::rule::{Beginning, Knows};
@@ -158,7 +159,7 @@ impl SharedMem {
     /// the lanes that came back.
     pub fn close(self, pool: PoolSeat) -> Vec<u64>
         requires { pool.table_id ≡ self.table.shared.table_id }
-        ensures { (back : List View) → pool.me ≡ pool_with back → Closes (opening_of self.table.shared.key) back result.items }
+        ensures { (back : List View) → pool.me ≡ pool_with back → Closes self.table.shared.key back result.items }
     {
         let SharedMem {
             table,
@@ -183,6 +184,7 @@ impl<'a, N: TableName> SharedLane<'a, N> {
         ensures table { pool.new.table_id ≡ pool.old.table_id }
         ensures pool { (back : List View) (v : View) → pool.old.me ≡ pool_with back → IsSeen self.entry v → pool.new.me ≡ pool_with (back ++ v ∷ []) }
         ensures changes { (v : View) → IsSeen self.entry v → AreUndrained result.items v.changes }
+        ensures formed { All IsFormed result.items }
     {
         let SharedLane {
             seat,

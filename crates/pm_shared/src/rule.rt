@@ -1,5 +1,5 @@
-ghost use Rattle.pm_shared.specs.Openings.{opening_of, first_known};
-ghost use Rattle.pm_shared.specs.Rule.{Ruled};
+ghost use Rattle.pm_shared.specs.Openings.{first_known};
+ghost use Rattle.pm_shared.specs.TableRule.{Ruled};
 
 use atomic_table::TableRule;
 use pm_layout::Shape;
@@ -34,11 +34,12 @@ pub struct Beginning {
     pub zones: Vec<u64>,
 }
 
-/// The rule of the table: its words are the memory of a world.
+/// The rule of the table: its words are the memory of a world, to which lawful steps of its lanes
+/// led.
 pub struct WorldRule;
 
 impl TableRule<u8, Knows, Beginning> for WorldRule {
-    ghost holds = { λ b. Ruled (opening_of b) };
+    ghost holds = { Ruled };
 
     ghost first = { first_known };
 }

@@ -1,4 +1,4 @@
-use Rattle.std.proofs.Common.{sym, subst}
+use Rattle.std.proofs.Common.{sym, subst, arith}
 use Rattle.pm_view.specs.Steps.Step.{Store}
 use Rattle.pm_view.specs.Views.{after}
 use Rattle.pm_shared.specs.Tallies.{Tallied, IsTally}
@@ -14,7 +14,7 @@ stored-requires g c = let may = c.requires in room_for c.args.self.now _ c.self.
 
 pub returns : goal.returns
 returns g c = made_counted c.args.self.now _ c.self.view_is c.stores-found.new.seat.me (Store c.args.word c.args.value) c.stores-found.ensures.made c.stored.new.self c.if-not-goes_on.ensures.more
-    (λ v may is knows. subst (λ (t : Tallied). IsTally t (after v (Store c.args.word c.args.value))) (sym c.stored.ensures) (stored_tally c.self.inside.tally v may is c.args.word c.args.value c.stores-found.result c.stores-found.type_inv (c.stores-found.ensures.found v knows)))
+    (λ v may is knows. subst (λ (t : Tallied). IsTally t (after v (Store c.args.word c.args.value))) (sym c.stored.ensures) (stored_tally c.self.inside.tally v may is c.args.word c.args.value c.stores-found.result (omega arith) c.stores-found.type_inv (c.stores-found.ensures.found v knows)))
 
 pub stop-requires : goal.stop-requires
 stop-requires g c = let may = c.requires in (may.view, may.seen, c.if-not-goes_on.ensures.stop may.view (seen_now c.args.self.now _ c.self.view_is may.view may.seen).tally)

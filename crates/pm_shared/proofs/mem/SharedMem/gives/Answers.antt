@@ -3,7 +3,7 @@ use Rattle.std.specs.Int.{bit_not, w64}
 use Rattle.pm_view.specs.LockWords.{reader_bit}
 use mathlib.Core.Option.{none}
 use prog.Atomic.{either}
-use Rattle.pm_shared.specs.Openings.{TableAllows}
+use Rattle.pm_shared.specs.TableRule.{TableAllows}
 use Rattle.pm_shared.specs.Plays.{gives_or_looks, GivenOrSeen}
 use Rattle.atomic_table.specs.Table.{step}
 use Rattle.pm_layout.specs.declared.shape.Shape.{Shape}

@@ -1,0 +1,11 @@
+use Rattle.pm_lanes.proofs.Closed as closed
+use Rattle.pm_lanes.proofs.laws.closed_pools_mean_their_histories.Goals as goal
+
+pub returns-clause-means : goal.returns-clause-means
+returns-clause-means _ = closed.means
+
+pub returns-clause-answered : goal.returns-clause-answered
+returns-clause-answered _ = closed.answered
+
+pub returns-clause-kept : goal.returns-clause-kept
+returns-clause-kept _ = closed.kept

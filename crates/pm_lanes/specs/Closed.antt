@@ -1,0 +1,94 @@
+-- WHAT A POOL IS LEFT AS by lanes that ran, came back, and whose table closed, where power fails
+-- then: docs/MODEL.md, "Crash".
+use Rattle.std.specs.Prelude.{◌≡◌, ℕ, ◌<◌, ◌≤◌, All, Bool, true, List, [], length, slice_index_or}
+use mathlib.Core.Option.{some}
+use lib.ListN.{get_elem?}
+use Rattle.pm_crash.specs.Facts.{HaveFacts}
+use Rattle.pm_crash.specs.Images.{MeansReplay}
+use Rattle.pm_crash.specs.Replayed.{kept_calls, kept_pending}
+use Rattle.pm_memory.specs.Changes.{AreUndrained}
+use Rattle.pm_memory.specs.Keep.{IsKeptImage}
+use Rattle.pm_objects.specs.declared.pool.PoolView.{PoolView}
+use Rattle.pm_shared.specs.Closings.{Closes}
+use Rattle.pm_shared.specs.declared.rule.Beginning.{Beginning}
+use Rattle.pm_shared.specs.Openings.{opening_of}
+use Rattle.pm_view.specs.Changes.{IsFormed}
+use Rattle.pm_view.specs.declared.change.Change.{Change}
+use Rattle.pm_view.specs.Log.{is_early}
+use Rattle.pm_view.specs.View.{View}
+use Rattle.pm_world.specs.Crash.{NoneTorn, Survives, is_kept}
+use Rattle.pm_world.specs.Runs.{Moment}
+use Rattle.pm_lanes.specs.Opens.{IsOpened}
+
+-- ---- LANES CAME BACK
+
+-- lane k did: its view is among these
+pub record IsBack (back : List View) (k : ℕ) : Type 0 where
+  pub place : ℕ
+  pub view : View
+  pub there : get_elem? back place ≡ some view
+  pub lane_is : view.fixed.lane ≡ k
+
+abbrev pub AllAreBack : ℕ → List View → Type 0
+AllAreBack lanes back = (k : ℕ) → k < lanes → IsBack back k
+
+-- each call of each of these lanes has its fact
+abbrev pub AllHaveFacts : List View → Type 0
+AllHaveFacts back = (n : ℕ) (v : View) → get_elem? back n ≡ some v → HaveFacts v
+
+-- each lane came back with these changes undrained, the oldest first; lanes go by their number
+pub record BackWith (back : List View) (undrained : List (List Change)) : Type 0 where
+  pub all : AllAreBack (length undrained) back
+  pub each : (n : ℕ) (v : View) → get_elem? back n ≡ some v
+      → AreUndrained (slice_index_or undrained v.fixed.lane []) v.changes
+  pub formed : All (All IsFormed) undrained
+
+-- ---- POWER FAILS as the table is closed
+
+-- what may survive of its words
+abbrev pub MaySurvive : Beginning → Moment → List ℕ → Type 0
+MaySurvive b last image = Survives (opening_of b) last.mem last.views image
+
+-- a slot that was being written is whole, or no record
+abbrev pub NoRecordTorn : Beginning → Moment → List ℕ → Type 0
+NoRecordTorn b last image = NoneTorn (opening_of b) last.views image
+
+-- the image does not lose this call of the history
+abbrev pub keeps_call : Beginning → Moment → List ℕ → ℕ → Bool
+keeps_call b last image n = is_kept (opening_of b) last.views last.past image n
+
+-- THE IMAGE MEANS ITS HISTORY: its pool is the one to which the calls that it does not lose lead,
+-- one whole call after another, in the order of their commit numbers, from the pool that was
+-- opened
+abbrev pub MeansHistory : Beginning → Moment → PoolView → List ℕ → Type 0
+MeansHistory b last pool image = MeansReplay image b.shape.lanes b.shape.zones pool
+    (kept_calls (keeps_call b last image) last.past.drew last.past.length)
+    (kept_pending (keeps_call b last image) last.past.drew last.past.length)
+
+-- ---- THE LAWS
+
+-- WHAT A KEEP NUMBER LEAVES of the words may survive, where all lanes came back with these changes
+abbrev pub KeptImagesSurvive : Type 0
+KeptImagesSurvive = (b : Beginning) (back : List View) (words image : List ℕ)
+    (undrained : List (List Change)) (keep : ℕ) → (closed : Closes b back words)
+    → BackWith back undrained → length undrained ≤ b.lanes
+    → IsKeptImage keep words undrained image → MaySurvive b closed.last image
+
+-- CLOSED POOLS MEAN THEIR HISTORIES: where an image was opened, all lanes came back, and each of
+-- their calls has its fact, every image that may survive means its history, unless a record is
+-- torn
+abbrev pub ClosedPoolsMeanTheirHistories : Type 0
+ClosedPoolsMeanTheirHistories = (before layout words image : List ℕ) (b : Beginning)
+    (back : List View) → (opened : IsOpened before layout b.words.items b.shape b.pool)
+    → (closed : Closes b back words) → AllAreBack b.lanes back → AllHaveFacts back
+    → MaySurvive b closed.last image → NoRecordTorn b closed.last image
+    → MeansHistory b closed.last opened.pool image
+
+-- A LANE THAT CAME BACK BETWEEN TWO CALLS, or in one without a number yet, has no call that an
+-- image loses
+abbrev pub AnsweredCallsAreKept : Type 0
+AnsweredCallsAreKept = (b : Beginning) (back : List View) (words image : List ℕ)
+    (n : ℕ) (v : View) → (closed : Closes b back words) → get_elem? back n ≡ some v
+    → is_early v.log.phase ≡ true → (call : ℕ) → call < closed.last.past.length
+    → (closed.last.past.drew call).fixed.lane ≡ v.fixed.lane
+    → keeps_call b closed.last image call ≡ true
