@@ -64,6 +64,7 @@ module _ {M : Type 0} (at : M → View → Type 0) (old : Lane M) where
             records = old.log.records.items;
             stopped = true;
           }) works.fields;
+          facts = (leads_cancel s stands).stands.facts;
         },
       ))))
 

@@ -1,6 +1,6 @@
-pub mod CheckedWords
-pub mod EnteredWords
-pub mod PublishedLanes
 pub mod CancelledLanes
 pub mod Asking
 pub mod OutsideLanes
+pub mod Standing
+pub mod PublicationLocks
+pub mod PublicationCalls

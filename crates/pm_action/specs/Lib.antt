@@ -2,3 +2,5 @@ pub mod Inside
 pub mod Actions
 pub mod Outside
 pub mod Calls
+pub mod Publications
+pub mod Standing

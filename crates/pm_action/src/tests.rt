@@ -3,13 +3,12 @@ ghost use Rattle.pm_call.specs.Did.{stage_refusal, work_refusal};
 
 use super::*;
 use crate::actions::{judge_set, set_inside};
-use crate::inside::{cancel_inside, earlier, enter_words};
+use crate::inside::cancel_inside;
 use arrayvec::ArrayVec;
 use pm_layout::Shape;
 use pm_memory::SoloMem;
 use pm_model::Stage;
 use pm_objects::{Oid, Refusal, TxErr};
-use pm_record::{Op, Redo};
 use pm_world::{Lane, OwnedBits, PendingAction, SoloLane, UndoLog};
 use std::alloc::Global;
 use std::test::Fail;
@@ -43,17 +42,6 @@ fn lane_at(alloc: Global, level: u64, stage: Stage) -> Result<Lane<SoloLane>, Fa
     })
 }
 
-/// Where no transaction is open, and past its work, a publish is refused.
-#[test]
-fn publishes_are_refused(rt: HostRuntime) -> Result<(), Fail> {
-    let mut idle = lane_at(rt.alloc(), 0, Stage::None)?;
-    assert_eq!(rt; publish(&mut idle), Err(Refusal::NoTx));
-    let mut late = lane_at(rt.alloc(), 1, Stage::OnAbort)?;
-    assert_eq!(rt; publish(&mut late), Err(Refusal::NotWork));
-    assert_eq!(rt; late.error, TxErr::None);
-    Ok(())
-}
-
 /// Where no transaction is open, and past its work, a cancel is refused.
 #[test]
 fn cancels_are_refused(rt: HostRuntime) -> Result<(), Fail> {
@@ -62,54 +50,6 @@ fn cancels_are_refused(rt: HostRuntime) -> Result<(), Fail> {
     let mut late = lane_at(rt.alloc(), 1, Stage::OnAbort)?;
     assert_eq!(rt; cancel_inside(&mut late), Err(Refusal::NotWork));
     assert_eq!(rt; late.error, TxErr::None);
-    Ok(())
-}
-
-/// Two words become two entries, after the one that was there.
-#[test]
-fn words_become_entries(rt: HostRuntime) -> Result<(), Fail> {
-    let id = Oid {
-        pool: 7,
-        off: 16704,
-    };
-    let mut pending = ArrayVec::new();
-    pending.push(PendingAction::Set {
-        id,
-        off: 8,
-        value: 42,
-    });
-    pending.push(PendingAction::Set {
-        id,
-        off: 16,
-        value: 43,
-    });
-    let first = Redo {
-        place: 16640,
-        op: Op::Set,
-        value: 41,
-    };
-    let mut entries = ArrayVec::new();
-    entries.push(first);
-    enter_words(&mut pending, &mut entries);
-    assert!(rt; pending.is_empty());
-    assert_eq!(rt; entries.len(), 3);
-    assert_eq!(rt; entries[0].value, 41);
-    assert_eq!(rt; entries[1].place, 16712);
-    assert_eq!(rt; entries[2].place, 16720);
-    assert_eq!(rt; entries[2].value, 43);
-    Ok(())
-}
-
-/// An object that is not held is told before a word past its object's end, wherever they come.
-#[test]
-fn locks_come_first(rt: HostRuntime) -> Result<(), Fail> {
-    let past = Err(Refusal::OutOfRange);
-    let unheld = Err(Refusal::NotLocked);
-    assert_eq!(rt; earlier(Ok(()), Ok(())), Ok(()));
-    assert_eq!(rt; earlier(past, Ok(())), past);
-    assert_eq!(rt; earlier(Ok(()), past), past);
-    assert_eq!(rt; earlier(past, unheld), unheld);
-    assert_eq!(rt; earlier(unheld, past), unheld);
     Ok(())
 }
 

@@ -118,6 +118,7 @@ module _ {M : Type 0} (at : M → View → Type 0) (old : Lane M) (id : Oid) (of
           ready = law.ready;
           stops = stops_told (at mid.memory) s.view id off len law.ready t.1;
           fields = let e = t.2 ∙ works.fields in e ∙ λ i. record (at_work s) { generation = (sym e i).generation; records = (sym e i).records; stopped = false };
+          facts = law.stands.facts;
         },
       )
       by refusal.LogFull t = (overfull s stands id off len holds t.0, subst (λ (lane : Lane M). Works at lane s) (sym t.1) works, stands)

@@ -19,7 +19,7 @@ use Rattle.pm_call.specs.Held.{Looks}
 use Rattle.pm_call.proofs.Ending.{refusal_traced}
 
 -- ---- looks, and then more of them
-looks_more : (n m : ℕ) (v u w : View) → Looks n v u → Looks m u w → Looks (n + m) v w
+pub looks_more : (n m : ℕ) (v u w : View) → Looks n v u → Looks m u w → Looks (n + m) v w
 unfolding Looks
 looks_more zero m v u w first second = subst (λ k. Looks k v w) (let e : m ≡ 0 + m = omega arith in e) (subst (λ (z : View). Looks m z w) first second)
 looks_more (suc n) m v u w first second = subst (λ k. Looks k v w) (let e : suc (n + m) ≡ suc n + m = omega arith in e) (first.0, first.1, looks_more n m first.0 u w first.2 second)
@@ -95,7 +95,7 @@ module _ {M : Type 0} (at : M → View → Type 0) (old mid new : Lane M) (op : 
       (λ s works is. after_so s (Came at new op plan Is (Ok x)) (Ends at new op plan Is (Ok x)) (λ t c. c) (tried s works is))
 
   cut_here : (s : Standing) (plan : Plan) → Cut at mid s plan false → new ≡ record mid { stopped = true } → Cut at new s plan true
-  cut_here s plan c same = subst (λ (lane : Lane M). Cut at lane s plan true) (sym same) (record { ready = c.ready; stops = c.stops; fields = ap (λ (f : Fields). record f { stopped = true }) c.fields })
+  cut_here s plan c same = subst (λ (lane : Lane M). Cut at lane s plan true) (sym same) (record { ready = c.ready; stops = c.stops; fields = ap (λ (f : Fields). record f { stopped = true }) c.fields; facts = c.facts })
 
   ends_here : {T : Type 0} (plan : View → Plan) (Is : View → T → Type 0) (s : Standing) (why answer : Refusal) → IsRefused s op why → GivesUpFor at new op why answer s → Ends {T = T} at new op plan Is (Err answer) s
   ends_here plan Is s why refusal.Stopped refused gives = inr (why, gives.0, refused, gives.1)

@@ -97,6 +97,7 @@ module _ {M : Type 0} (at : M → View → Type 0) (old : Lane M) where
           stops = ran_err (at mem) s.view persists_all (finishes s.entries (λ i. 0) 0) stopped law.ready (runs s.view works.memory (persists_all_lawful s.view).0);
           numbered = inl (ap (λ (f : Fields). f.drawn) works.fields, ap (λ (f : Fields). f.last) works.fields);
           fields = cut_fields (record old { memory = mem }) s works refl;
+          facts = law.over.facts;
         }
 
     number_so : (new : Lane M) (s : Standing) (n : ℕ) → Works at old s → HasNumber new old.drawn old.last n → HasNumber new None (last_number s.view.entries) n
@@ -120,6 +121,7 @@ module _ {M : Type 0} (at : M → View → Type 0) (old : Lane M) where
               (subst (λ (es : List Redo). Stops (at new.memory) p (finishes es finished.0 finished.1 p)) (entries_are s works) m.0);
           numbered = number_so new s finished.1 works m.1.number;
           fields = cut_fields new s works m.1.same;
+          facts = law.over.facts;
         }
 
 -- ---- A CALL THAT WAS COMMITTED is past its work

@@ -67,7 +67,7 @@ mapped_bytes f [] low i = omega arith
 mapped_bytes f (x ∷ xs) low zero = low x
 mapped_bytes f (x ∷ xs) low (suc i) = mapped_bytes f xs low i
 
-number_small : (value : ℕ) → AreBytes (number_bytes value)
+pub number_small : (value : ℕ) → AreBytes (number_bytes value)
 number_small value = mapped_bytes (λ j. value / 256 ^ j % 256) (range_with_len 0 8) (λ j. let d : ℕ = value / 256 ^ j in omega arith)
 
 cond_small : (b : Bool) (x y : ℕ) → x < 2 ^ 64 → y < 2 ^ 64 → cond b x y < 2 ^ 64
@@ -75,7 +75,7 @@ cond_small true x y hx hy = hx
 cond_small false x y hx hy = hy
 
 -- words of the pool are no words of entries
-not_entry : (sh : Shape) (lane : ℕ) (p : Place) → lane < sh.lanes → sh.lanes ≤ 32 → is_pictured p ≡ true → is_entry_word sh lane (word_of sh p) ≡ false
+pub not_entry : (sh : Shape) (lane : ℕ) (p : Place) → lane < sh.lanes → sh.lanes ≤ 32 → is_pictured p ≡ true → is_entry_word sh lane (word_of sh p) ≡ false
 not_entry sh lane p low lanes seen = false_from_ne_true (is_entry_word sh lane (word_of sh p)) (λ e.
     let t = and_parts (nat_le (Rattle.pm_layout.specs.Areas.word_of_entry sh lane 0) (word_of sh p)) (nat_lt (word_of sh p) (Rattle.pm_layout.specs.Areas.word_of_entry sh lane (Rattle.pm_layout.specs.Areas.redo_entries sh))) e in
     far p seen (leb-true (Rattle.pm_layout.specs.Areas.word_of_entry sh lane 0) (word_of sh p) t.0) (ltb-true (word_of sh p) (Rattle.pm_layout.specs.Areas.word_of_entry sh lane (Rattle.pm_layout.specs.Areas.redo_entries sh)) t.1))
@@ -96,19 +96,19 @@ module _ (s : Standing) (level : ℕ) (at : IsAt s level) where
   abbrev sets : List SetWord
   sets = (lists_of s.view).sets
 
-  all : AllByRecursion (MaySet s) (lists_of s.view).sets
+  abbrev pub all : AllByRecursion (MaySet s) (lists_of s.view).sets
   all = at.lists.may_set
 
   abbrev settings : List Setting
   settings = settings_of s level at (lists_of s.view).sets all
 
   -- ---- each is of an object whose size is known
-  size_small : (B : Block) (n : ℕ) → has_found s.view B ≡ true → 64 + n ≤ block_bytes s.view B → n < 2 ^ 64
+  pub size_small : (B : Block) (n : ℕ) → has_found s.view B ≡ true → 64 + n ≤ block_bytes s.view B → n < 2 ^ 64
   size_small (Small c i) n f fits = let r = run_fits (class s.view.claims c) i (at.sound.small c i f).1 in omega (arith, r, fits)
   size_small (Big h) n f fits = let z = at.sound.zone h f in omega (arith, z, fits)
   size_small Root n f fits = absurd (omega (arith, fits))
 
-  can_set : (a : SetWord) (may : MaySet s a) → CanSet s.view [] a (set_at s level at a may).block
+  pub can_set : (a : SetWord) (may : MaySet s a) → CanSet s.view [] a (set_at s level at a may).block
   can_set a may =
       let b = set_at s level at a may in
       let here = b.at in
@@ -140,7 +140,7 @@ module _ (s : Standing) (level : ℕ) (at : IsAt s level) where
     word_of_set i = unwrap_or (value_in s.view i) 0
 
     -- the word of a setting, as it is before
-    known_word_at : (B : Block) (i : ℕ) → IsSetIn (settings_of s level at (lists_of s.view).sets all) B i → KnowsWord s.view i
+    pub known_word_at : (B : Block) (i : ℕ) → IsSetIn (settings_of s level at (lists_of s.view).sets all) B i → KnowsWord s.view i
     known_word_at B i is =
         let m = member s level at (lists_of s.view).sets all is.setting is.among in
         let l = located s level at (lists_of s.view).sets all B i is in
@@ -149,10 +149,10 @@ module _ (s : Standing) (level : ℕ) (at : IsAt s level) where
         is_number : (is : IsSetIn (settings_of s level at (lists_of s.view).sets all) B i) → IsMember s level at (lists_of s.view).sets all is.setting → (is.setting.set.id.off + is.setting.set.off) / 8 ≡ i
         is_number is m = ap (λ (y : Setting). (y.set.id.off + y.set.off) / 8) m.is ∙ Rattle.pm_call.proofs.SetChanges.set_by s level at m.set m.may i (sym (ap (is_word_set i) m.is) ∙ is.covers)
 
-    known_small : (i : ℕ) (k : KnowsWord s.view i) → word_of_set i ≡ k.value
+    pub known_small : (i : ℕ) (k : KnowsWord s.view i) → word_of_set i ≡ k.value
     known_small i k = ap (λ o. unwrap_or o 0) k.known
 
-    all_small : (xs : List SetWord) (ms : AllByRecursion (MaySet s) xs) (i x : ℕ) → x < 2 ^ 64 → set_all i (settings_of s level at xs ms) x < 2 ^ 64
+    pub all_small : (xs : List SetWord) (ms : AllByRecursion (MaySet s) xs) (i x : ℕ) → x < 2 ^ 64 → set_all i (settings_of s level at xs ms) x < 2 ^ 64
     unfolding set_all
     all_small [] ms i x low = low
     all_small (a ∷ xs) ms i x low = all_small xs ms.1 i (set_one i (setting s level at a ms.0) x) (cond_small (is_word_set i (setting s level at a ms.0)) (written_word (a.id.off + a.off) (number_bytes a.value) i x) x (written_small (a.id.off + a.off) (number_bytes a.value) i x (number_small a.value)) low)
@@ -200,7 +200,7 @@ module _ (s : Standing) (level : ℕ) (at : IsAt s level) where
       abbrev changes : Place → ℕ → Option Bool
       changes q b = change_so_far told (all_logged s.view s.entries) q b
 
-      change_is : (q : Place) (b : ℕ) → change_so_far told (all_logged s.view s.entries) q b ≡ first_of_two (latest (set_redos s level at (lists_of s.view).sets all) q b) (change_so_far s.view [] q b)
+      pub change_is : (q : Place) (b : ℕ) → change_so_far told (all_logged s.view s.entries) q b ≡ first_of_two (latest (set_redos s level at (lists_of s.view).sets all) q b) (change_so_far s.view [] q b)
       change_is q b = (λ i. first_of_two (latest (redos_logged i) q b) (fresh_so i))
         where
           made : is_made (turn (latest (redos (all_logged s.view s.entries))) (block_of (geometry told.fixed.shape told.claims) q b)) ≡ false
@@ -209,7 +209,7 @@ module _ (s : Standing) (level : ℕ) (at : IsAt s level) where
           fresh_so : fresh s.view.fixed.shape (noted ns s.view.claims) (record s.view.log { entries = all_logged s.view s.entries }) q b ≡ change_so_far s.view [] q b
           fresh_so = (λ i. cond (is_data q && (made i || is_recorded s.view.log.records q)) (picture_so q b i) None) ∙ sym (fresh_is s.view.fixed.shape s.view.claims s.view.log q b)
 
-      set_words : SetsWords s.view [] told (all_logged s.view s.entries) (settings_of s level at (lists_of s.view).sets all)
+      abbrev pub set_words : SetsWords s.view [] told (all_logged s.view s.entries) (settings_of s level at (lists_of s.view).sets all)
       set_words = record {
         each = λ y among. let m = member s level at (lists_of s.view).sets all y among in subst (λ (z : Setting). Settles s.view [] z.set z.block) (sym m.is) (can_set m.set m.may);
         are_bytes = λ y among. number_small y.set.value;
@@ -273,7 +273,7 @@ module _ (s : Standing) (level : ℕ) (at : IsAt s level) where
             })
 
         -- ---- what its log changes is of blocks that the lane found
-        changed_place : (xs : List SetWord) (ms : AllByRecursion (MaySet s) xs) (q : Place) (b : ℕ) → given (latest (set_redos s level at xs ms) q b) ≡ true → (a : SetWord) × (may : MaySet s a) × (place_set s level at a may ≡ q)
+        pub changed_place : (xs : List SetWord) (ms : AllByRecursion (MaySet s) xs) (q : Place) (b : ℕ) → given (latest (set_redos s level at xs ms) q b) ≡ true → (a : SetWord) × (may : MaySet s a) × (place_set s level at a may ≡ q)
         changed_place [] ms q b e = absurd (both_ways false refl e)
         changed_place (a ∷ xs) ms q b e = ⊎_elim
             (λ (y : given (latest (set_redos s level at xs ms.1) q b) ≡ true). changed_place xs ms.1 q b y)
@@ -330,7 +330,7 @@ module _ (s : Standing) (level : ℕ) (at : IsAt s level) where
                 is_huge_word p = false
             by Root k e low = omega (arith, low)
 
-        turn_told : (B : Block) → turn (change_so_far told (all_logged s.view s.entries)) B ≡ None
+        pub turn_told : (B : Block) → turn (change_so_far told (all_logged s.view s.entries)) B ≡ None
         turn_told B = plain_turn told B ∙ no_turn_logged B
 
         none_made : {P : Type 0} (B : Block) (y : Bool) → turn (change_so_far told (all_logged s.view s.entries)) B ≡ Some y → P

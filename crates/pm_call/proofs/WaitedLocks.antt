@@ -101,7 +101,7 @@ module _ {M : Type 0} (at : M → View → Type 0) (mid : Lane M) (wants : List 
       pub memory : at new.memory view
       pub fields : fields_of new ≡ at_rest (with_locks (locks_with s wants) (moved s view))
 
-    taken_so : AcquiredAs at (to_take s wants) wants s.view mid new (Ok tt) → HasTaken
+    pub taken_so : AcquiredAs at (to_take s wants) wants s.view mid new (Ok tt) → HasTaken
     taken_so t = by (subst (λ (f : Fields). FindsAll (at new.memory) (after_all s.view t.1.0)
         f.shape (to_take s wants)) rests.fields t.1.2) where
           steps : List Step

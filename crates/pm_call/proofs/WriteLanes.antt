@@ -124,6 +124,7 @@ module _ {M : Type 0} (at : M → View → Type 0) (old : Lane M) (id : Oid) (of
             ready = l.ready;
             stops = runs_err {U = Unit {0}} (Unit {0}) (at old.memory) (at mid) (writes_words (id.off + off) bytes) (tells (Write id off bytes) None) stopped (Err stopped) (search rules) runs v works.memory l.ready;
             fields = works.fields ∙ sym (ap (λ (f : Fields). record (fields_at stage.Work s) { generation = f.generation; records = f.records; stopped = false }) works.fields);
+            facts = l.stands.facts;
           },
         );
       }

@@ -12,6 +12,7 @@ use Rattle.pm_memory.specs.Runs.{Stops}
 use Rattle.pm_memory.specs.declared.lane_mem.Stopped.{Stopped}
 use Rattle.pm_world.specs.LaneFields.{IsSeenAs, Standing, Works, fields_at, fields_of, last_number}
 use Rattle.pm_world.specs.declared.lane.Lane.{Lane}
+use Rattle.pm_crash.specs.Facts.{HaveFacts}
 use Rattle.pm_plan.specs.Plans.{Ready}
 use Rattle.pm_call.specs.At.{At, IsAt}
 use Rattle.pm_call.specs.Did.{After, IsOver, IsUnrefused, next}
@@ -69,7 +70,8 @@ pub record WasCommitted {M : Type 0} (at : M → View → Type 0) (lane : Lane M
   pub over : IsOver (next s (commits s.entries found number))
   pub unrefused : IsUnrefused s Commit
 
--- the first of its steps were made, up to the lane's stop
+-- the first of its steps were made, up to the lane's stop. After all of the plan the entries would
+-- have their facts; so those have that are there by now
 pub record CommitCut {M : Type 0} (at : M → View → Type 0) (lane : Lane M) (s : Standing) (stopped : Bool) : Type 0 where
   pub found : ℕ → ℕ
   pub number : ℕ
@@ -77,6 +79,7 @@ pub record CommitCut {M : Type 0} (at : M → View → Type 0) (lane : Lane M) (
   pub stops : Stops (at lane.memory) s.view (commits s.entries found number s.view)
   pub numbered : HasNumber lane None (last_number s.view.entries) number
   pub fields : fields_of lane ≡ record (fields_at stage.Work s) { generation = lane.log.generation; records = lane.log.records.items; entries = lane.entries.items; drawn = lane.drawn; last = lane.last; stopped = stopped }
+  pub facts : HaveFacts (next s (commits s.entries found number)).view
 
 abbrev pub CommittedAs : {M : Type 0} → (M → View → Type 0) → Lane M → Result (Unit {0}) Stopped → Standing → Type 0
 CommittedAs at lane (Ok done) s = WasCommitted at lane s

@@ -83,11 +83,13 @@ pub record Done {M : Type 0} (at : M → View → Type 0) (lane : Lane M) (s : S
   pub works : Works at lane (next s plan)
   pub stands : At (next s plan)
 
--- the first of its steps were, up to the lane's stop; of the fields only the log and the flag of the stop may be another
+-- the first of its steps were, up to the lane's stop; of the fields only the log and the flag of the stop may be another.
+-- After all of the plan the entries would have their facts; so those have that are there by now
 pub record Cut {M : Type 0} (at : M → View → Type 0) (lane : Lane M) (s : Standing) (plan : Plan) (stopped : Bool) : Type 0 where
   pub ready : Ready s.view (plan s.view)
   pub stops : Stops (at lane.memory) s.view (plan s.view)
   pub fields : fields_of lane ≡ record (fields_at stage.Work s) { generation = lane.log.generation; records = lane.log.records.items; stopped = stopped }
+  pub facts : HaveFacts (next s plan).view
 
 -- THE CALL IS OVER: it has its number, its log is retired, and nothing is undrained; its locks are held still
 pub record IsOver (s : Standing) : Type 0 where

@@ -23,3 +23,8 @@ pub mod LockOps
 pub mod Commits
 pub mod Outside
 pub mod Publishing
+pub mod Entering
+pub mod Publications
+pub mod Histories
+pub mod PublicationParts
+pub mod Standing

@@ -1,5 +1,6 @@
 ghost use Rattle.pm_call.specs.Commits.{CommittedArePast, InnerLevelsMayBeCommitted, OutermostLevelsMayBeCommitted};
 ghost use Rattle.pm_call.specs.GivenUp.{TransactionsMayBeGivenUp};
+ghost use Rattle.pm_call.specs.Histories.{AddsTell, CancelsTell, CommitsTell, InnerCommitsTell, LogsTell, LoneCallsTell, ReadsTell, RollbacksTell, WritesTell};
 ghost use Rattle.pm_call.specs.Stages.{GivenUpArePast};
 
 use pm_world::LawfulMem;
@@ -33,4 +34,20 @@ pub fn calls_given_up_are_past_work<M: LawfulMem>()
 /// may end. No code runs.
 pub fn committed_calls_are_past_work<M: LawfulMem>()
     ensures { CommittedArePast M.at }
+{}
+
+/// A law: what the plan of each operation tells. One that goes on tells the operation alone, and
+/// leaves the calls that have their numbers; one that ends its call tells the operation last, and the
+/// call has its number then. A lane that stops on the way of such a plan has told the operation last
+/// where its call has a number, and else has no more calls than before. No code runs.
+pub fn operations_tell()
+    ensures adds { AddsTell }
+    ensures writes { WritesTell }
+    ensures reads { ReadsTell }
+    ensures cancels { CancelsTell }
+    ensures inner_commits { InnerCommitsTell }
+    ensures rollbacks { RollbacksTell }
+    ensures commits { CommitsTell }
+    ensures logs { LogsTell }
+    ensures lone_calls { LoneCallsTell }
 {}

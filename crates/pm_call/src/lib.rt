@@ -17,6 +17,7 @@
 mod adding;
 mod checking;
 mod committing;
+mod entering;
 mod finishing;
 mod holding;
 mod laws;
@@ -24,6 +25,7 @@ mod lock_ops;
 mod locking;
 mod opening;
 mod outside;
+mod publications;
 mod publishing;
 mod ranges;
 mod reading;
@@ -35,11 +37,12 @@ mod writing;
 pub use adding::{do_add, ranges_may_be_added};
 pub use checking::{check_range, check_words, holds};
 pub use committing::{commit_inner, stage_after};
+pub use entering::enter_words;
 pub use finishing::{commit_call, finish_entries};
 pub use holding::is_held;
 pub use laws::{
     calls_given_up_are_past_work, committed_calls_are_past_work, inner_levels_may_be_committed,
-    outermost_levels_may_be_committed, transactions_may_be_given_up,
+    operations_tell, outermost_levels_may_be_committed, transactions_may_be_given_up,
 };
 pub use lock_ops::{begin_inner, lock_wanted};
 pub use locking::{
@@ -51,6 +54,7 @@ pub use opening::{
     begin_outermost, open_call, refusals_of_begins_are_the_models, refused_begins_end,
 };
 pub use outside::{actions_may_be_told, end_outside, refused_publications_end};
+pub use publications::{look_pending, publications_may_be_made, refuse_publish, set_words};
 pub use publishing::{
     pending_words_are_looked_at, pending_words_may_be_cancelled, pending_words_may_be_published,
     refusals_of_publish_are_the_models,

@@ -2,8 +2,10 @@ use super::*;
 use crate::checking::judge;
 use crate::reading::copy_bytes;
 use crate::writing::patched_word;
-use pm_objects::Refusal;
-use pm_world::HeldLock;
+use arrayvec::ArrayVec;
+use pm_objects::{Oid, Refusal};
+use pm_record::{Op, Redo};
+use pm_world::{HeldLock, PendingAction};
 use std::test::Fail;
 
 /// Bytes cover the words that have some of them: none, one, or two that they end in.
@@ -63,5 +65,40 @@ fn locks_are_of_an_object(rt: HostRuntime) -> Result<(), Fail> {
     assert_eq!(rt; is_held(&locks, 128, true), false);
     assert_eq!(rt; is_held(&locks, 192, false), false);
     assert_eq!(rt; is_held(&locks, 136, false), false);
+    Ok(())
+}
+
+/// Two words become two entries, after the one that was there.
+#[test]
+fn words_become_entries(rt: HostRuntime) -> Result<(), Fail> {
+    let id = Oid {
+        pool: 7,
+        off: 16704,
+    };
+    let mut pending = ArrayVec::new();
+    pending.push(PendingAction::Set {
+        id,
+        off: 8,
+        value: 42,
+    });
+    pending.push(PendingAction::Set {
+        id,
+        off: 16,
+        value: 43,
+    });
+    let first = Redo {
+        place: 16640,
+        op: Op::Set,
+        value: 41,
+    };
+    let mut entries = ArrayVec::new();
+    entries.push(first);
+    enter_words(&mut pending, &mut entries);
+    assert!(rt; pending.is_empty());
+    assert_eq!(rt; entries.len(), 3);
+    assert_eq!(rt; entries[0].value, 41);
+    assert_eq!(rt; entries[1].place, 16712);
+    assert_eq!(rt; entries[2].place, 16720);
+    assert_eq!(rt; entries[2].value, 43);
     Ok(())
 }

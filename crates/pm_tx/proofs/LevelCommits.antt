@@ -75,6 +75,7 @@ module _ {M : Type 0} (at : M → View → Type 0) (old : Lane M) where
         stops = c.stops;
         numbered = c.numbered;
         fields = ap (λ (f : Fields). record f { stopped = true }) c.fields;
+        facts = c.facts;
       })) (committed s works is one))))
 
   -- ---- stage by stage

@@ -15,16 +15,16 @@ use Rattle.pm_call.specs.Between.{MayOpen, saw_number}
 use Rattle.pm_call.specs.Did.{work_refusal}
 use Rattle.pm_call.specs.GivenUp.{with_locks}
 use Rattle.pm_call.specs.LockOps.{BeganInner, DeepAs, LockedAs}
-use Rattle.pm_call.specs.Locking.{locked_with}
-use Rattle.pm_call.specs.Opening.{BegunAs, NoneIsLeft, OutermostBegun, OutermostBegunAs}
+use Rattle.pm_call.specs.Locking.{IsOpened, locked_with}
+use Rattle.pm_call.specs.Opening.{BegunAs, OutermostBegun, OutermostBegunAs}
 use Rattle.pm_call.specs.Plans.{gives_up}
 use Rattle.pm_call.specs.Stages.{at_level}
-use Rattle.pm_call.proofs.OpenedCalls.{look_may_open}
+use Rattle.pm_call.specs.Standing.{Stands}
+use Rattle.pm_call.proofs.Standing.{aborted_call_stands, cut_stands, same_stands, spent_stands, stopped_stands, working_stands}
+use Rattle.pm_call.proofs.StoppedLanes.{wait_is_stopped}
 use Rattle.pm_tx.specs.Begins.{LevelBegun, LevelBegunSo}
 use Rattle.pm_tx.specs.Locks.{DidLock, DidLockSo}
-use Rattle.pm_tx.specs.Standing.{Stands}
 use Rattle.pm_tx.proofs.LevelBegins.{outside}
-use Rattle.pm_tx.proofs.Standing.{aborted_call_stands, cut_stands, idle_stands, same_stands, stopped_stands, working_stands}
 
 module _ {M : Type 0} (at : M → View → Type 0) (old new : Lane M) where
   -- ---- a lock
@@ -80,28 +80,23 @@ module _ {M : Type 0} (at : M → View → Type 0) (old new : Lane M) where
 
     -- ---- the begin of the outermost level
 
-    begun_stands : (s : Standing) (result : Result (Unit {0}) Refusal)
+    begun_stands : (s : Standing) → IsOpened s → (result : Result (Unit {0}) Refusal)
         → BegunAs at new wants result s → Stands at new
-    begun_stands s (Ok done) b =
+    begun_stands s opened (Ok done) b =
         working_stands at new (locked_with s (Begin wants) wants 1 b.view) b.works b.leads.stands
-    begun_stands s (Err refusal.Stopped) b =
+    begun_stands s opened (Err refusal.Stopped) b =
         stopped_stands at new (ap (λ (f : Fields). f.stopped) b.fields)
-    begun_stands s (Err r) b =
+        (wait_is_stopped at new s wants opened.facts b)
+    begun_stands s opened (Err r) b =
         aborted_call_stands at new (at_level 1 (with_locks b.all (moved s b.view))) (Begin wants)
         (Some (Refused r)) (error.Refused r) (omega arith) (omega arith) (λ e. cc) b.ended
-
-    -- no number is left
-    spent_stands : (s : Standing) → s.level ≡ 0 → MayOpen s → NoneIsLeft at new s → Stands at new
-    spent_stands s outside may none = ⊎_elim
-        (λ z. idle_stands at new s outside z.1 may)
-        (λ z. idle_stands at new (saw_number s z.0) outside z.2 (look_may_open s z.0 may))
-        none
 
     opened_stands : (s : Standing) → s.level ≡ 0 → MayOpen s
         → (result : Result (Unit {0}) Refusal) → OutermostBegunAs at new wants result s
         → Stands at new
-    opened_stands s outside may (Err refusal.Spent) b = spent_stands s outside may b
-    opened_stands s outside may result b = begun_stands (saw_number s b.number) result b.holds
+    opened_stands s outside may (Err refusal.Spent) b = spent_stands at new s outside may b
+    opened_stands s outside may result b =
+        begun_stands (saw_number s b.number) b.opened result b.holds
 
     pub begun_outermost_stands : (result : Result (Unit {0}) Refusal) → old.stopped ≡ false
         → old.level ≡ 0 → Stands at old → OutermostBegun at old new wants result → Stands at new

@@ -14,8 +14,8 @@ use Rattle.pm_crash.specs.Calls.{pending_after, pending_of}
 use Rattle.pm_crash.specs.Facts.{EntriesHaveFacts}
 use Rattle.pm_plan.proofs.AreaParts.{part_generation, part_seal}
 use Rattle.pm_call.specs.Stages.{IsBetween}
-use Rattle.pm_tx.specs.Standing.{Stands}
-use Rattle.pm_tx.proofs.Standing.{idle_stands}
+use Rattle.pm_call.specs.Standing.{Stands}
+use Rattle.pm_call.proofs.Standing.{idle_stands}
 
 module _ (fixed : Constants) (generation : ℕ) where
   abbrev sh : Shape

@@ -1,203 +1,28 @@
--- A LANE STANDS after each call, from what the call says that it did.
-use Rattle.std.proofs.Common.{◌≡◌, ◌≢◌, ℕ, zero, suc, ◌==◌, ◌≤◌, Bool, true, false, if◌then◌else◌, ⊎_elim, Option, Some, None, Result, Ok, Err, refl, sym, ap, ◌∙◌, subst, arith}
+-- A LANE STANDS after each call that commits, publishes or aborts, from what the call says that it
+-- did.
+use Rattle.std.proofs.Common.{◌≡◌, ◌≢◌, ℕ, zero, suc, ◌==◌, ◌≤◌, Bool, true, false, if◌then◌else◌, Option, Some, None, Result, Ok, Err, refl}
 use Rattle.pm_model.specs.Inside.{error_for}
-use Rattle.pm_model.specs.Transaction.{is_working}
 use Rattle.pm_model.specs.declared.stage.Stage.{Stage}
 use Rattle.pm_model.specs.declared.stage.Stage.TheVariants as stage
-use Rattle.pm_objects.specs.declared.calls.Operation.{Operation}
-use Rattle.pm_objects.specs.declared.calls.Operation.TheVariants.{Abort}
-use Rattle.pm_objects.specs.declared.history.TxErr.{TxErr}
+use Rattle.pm_objects.specs.declared.calls.Operation.TheVariants.{Abort, Publish}
 use Rattle.pm_objects.specs.declared.history.TxErr.TheVariants as error
-use Rattle.pm_objects.specs.declared.history.Value.{Value}
 use Rattle.pm_objects.specs.declared.history.Value.TheVariants.{Refused}
 use Rattle.pm_objects.specs.declared.refusal.Refusal.{Refusal}
 use Rattle.pm_objects.specs.declared.refusal.Refusal.TheVariants as refusal
 use Rattle.pm_view.specs.View.{View}
-use Rattle.pm_world.specs.LaneFields.{Fields, Rests, Standing, Works, at_work, fields_of, moved}
+use Rattle.pm_world.specs.LaneFields.{Standing, moved}
 use Rattle.pm_world.specs.declared.lane.Lane.{Lane}
-use Rattle.pm_plan.specs.Plans.{Plan}
-use Rattle.pm_call.specs.At.{At}
-use Rattle.pm_call.specs.Between.{IsLaneBetween, MayOpen}
-use Rattle.pm_call.specs.Commits.{WasCommitted}
-use Rattle.pm_call.specs.Did.{Cut, Did, DidSo, Ends, GaveUp, IsAt, IsOver, next, stage_refusal, work_refusal}
-use Rattle.pm_call.specs.GivenUp.{WasGivenUp}
-use Rattle.pm_call.specs.Plans.{commits, commits_inner, gives_up}
-use Rattle.pm_call.specs.Stages.{Ended, EndedAs, EndedBy, EndedSo, IsLanePast, IsPastAt, Leaves, at_level, closed, end_refusal, fields_past, next_stage, stage_end_refusal, unlisted}
-use Rattle.pm_call.proofs.OpenedCalls.{between_may_open}
+use Rattle.pm_call.specs.Did.{next, work_refusal}
+use Rattle.pm_call.specs.Plans.{commits_inner, gives_up}
+use Rattle.pm_call.specs.Publishing.{words_entered}
+use Rattle.pm_call.specs.Stages.{end_refusal, next_stage}
+use Rattle.pm_call.specs.Standing.{Stands}
+use Rattle.pm_call.proofs.Standing.{aborted_call_stands, committed_call_stands, cut_commit_stands, cut_stands, past_stands, refused_stands, same_stands, working_stands}
 use Rattle.pm_tx.specs.Commits.{InnerEnds, LevelCommitted, LevelCommittedSo, LevelEnds, OutermostEnds, PassedSo, Processed, ProcessedFrom}
 use Rattle.pm_tx.specs.Outcome.{Aborted, AbortedAs, AbortedSo}
-use Rattle.pm_tx.specs.Standing.{Stands}
-
--- ---- WHAT IS REFUSED, by the lane's fields
-
-abbrev work_by : Fields → Option Refusal
-work_by f = if f.stopped then Some refusal.Stopped else stage_refusal f.stage f.level
-
-abbrev end_by : Fields → Option Refusal
-end_by f = if f.stopped then Some refusal.Stopped else stage_end_refusal f.stage f.level
-
-either_way : {A : Type 0} (b : Bool) (x y : A) → (if b then Some x else Some y) ≡ None → ⊥
-either_way true x y e = cc
-either_way false x y e = cc
-
-not_in_work : (st : Stage) (level : ℕ) → is_working st ≡ false → stage_refusal st level ≡ None → ⊥
-not_in_work stage.Work level past e = cc
-not_in_work st level past e = either_way (level == 0) _ _ e
-
--- ---- AT EACH STAGE
-
-module _ {M : Type 0} (at : M → View → Type 0) (lane : Lane M) where
-  level_of : (f : Fields) → fields_of lane ≡ f → lane.level ≡ f.level
-  level_of f fields = ap (λ (g : Fields). g.level) fields
-
-  pub stopped_stands : lane.stopped ≡ true → Stands at lane
-  stopped_stands is = record {
-    work = λ e. absurd (let s = stops stage_refusal in cc);
-    past = λ e. absurd (let s = stops stage_end_refusal in cc);
-    between = λ e low. absurd (cc);
-  }
-    where
-      stops : (by : Stage → ℕ → Option Refusal)
-          → (if lane.stopped then Some refusal.Stopped else by lane.stage lane.level)
-          ≡ Some refusal.Stopped
-      stops by = ap (λ b. if b then Some refusal.Stopped else by lane.stage lane.level) is
-
-  pub working_stands : (s : Standing) → Works at lane s → At s → Stands at lane
-  working_stands s works is = record {
-    work = λ e. record { standing = s; works = works; stands = is };
-    past = λ e. absurd (either_way (s.level == 0) _ _ (sym (ap end_by works.fields) ∙ e));
-    between = λ e low. absurd (let l = level_of (at_work s) works.fields in
-        let some = is.some in omega (arith, l, low, some));
-  }
-
-  pub past_stands : (s : Standing) (st : Stage) (x : TxErr) → IsPastAt at lane s st x
-      → Stands at lane
-  past_stands s st x is = record {
-    work = λ e. absurd (not_in_work st s.level is.past.past (sym (ap work_by is.sees.fields) ∙ e));
-    past = λ e. record { standing = s; stage = st; error = x; stands = is };
-    between = λ e low. absurd (let l = level_of (fields_past st x s) is.sees.fields in
-        let some = is.past.some in omega (arith, l, low, some));
-  }
-
-  pub idle_stands : (s : Standing) → s.level ≡ 0 → Rests at lane s → MayOpen s → Stands at lane
-  idle_stands s outside rests may = record {
-    work = λ e. absurd (either_way (s.level == 0) _ _ (sym (ap work_by rests.fields) ∙ e));
-    past = λ e. absurd (let n : stage_end_refusal stage.None 0 ≡ None =
-        subst (λ k. stage_end_refusal stage.None k ≡ None) outside
-        (sym (ap end_by rests.fields) ∙ e) in cc);
-    between = λ e low. record { standing = s; rests = rests; between = may };
-  }
-
-  -- it came to its stop, and says so
-  pub cut_stands : (s : Standing) (plan : Plan) → Cut at lane s plan true → Stands at lane
-  cut_stands s plan cut = stopped_stands (ap (λ (f : Fields). f.stopped) cut.fields)
-
-  -- ---- its call is over, and its locks are held still
-
-  over_unlisted : (s : Standing) → IsOver s → IsOver (unlisted s)
-  over_unlisted s over = record {
-    log = over.log;
-    drained = over.drained;
-    lane = over.lane;
-    lanes = over.lanes;
-    zones = over.zones;
-    unmaking = over.unmaking;
-    sound = over.sound;
-    sizes = over.sizes;
-    known = over.known;
-    sealed = over.sealed;
-    holds = over.holds;
-    own = over.own;
-    pending = over.pending;
-    facts = over.facts;
-  }
-
-  leaves_aborted : (x : TxErr) → x ≢ error.None → (n : ℕ) (s : Standing) → IsOver s
-      → Leaves x n (unlisted s)
-  leaves_aborted error.None aborted n s over = absurd (aborted refl)
-  leaves_aborted x aborted n s over = (over_unlisted s over, refl)
-
-  -- it was aborted, at whatever level
-  pub aborted_call_stands : (s : Standing) (op : Operation) (reply : Option Value) (x : TxErr)
-      → 1 ≤ s.level → s.level ≤ 64 → x ≢ error.None → WasGivenUp at lane s op reply x
-      → Stands at lane
-  aborted_call_stands s op reply x some most aborted up =
-      let t : Standing = next s (gives_up op reply up.number) in
-      past_stands (unlisted t) stage.OnAbort x (record {
-        sees = record { memory = up.sees.memory; fields = up.sees.fields };
-        past = record {
-          past = refl;
-          some = some;
-          most = most;
-          leaves = leaves_aborted x aborted s.level t up.over;
-        };
-      })
-
-  -- it was committed at its outermost level
-  pub committed_call_stands : (s : Standing) → s.level ≡ 1 → WasCommitted at lane s → Stands at lane
-  committed_call_stands s outermost by =
-      let t : Standing = next s (commits s.entries by.found by.number) in
-      past_stands (unlisted t) stage.OnCommit error.None (record {
-        sees = record { memory = by.sees.memory; fields = by.sees.fields };
-        past = record {
-          past = refl;
-          some = omega (arith, outermost);
-          most = omega (arith, outermost);
-          leaves = subst (λ n. Leaves error.None n (unlisted t)) (sym outermost)
-              (over_unlisted t by.over, refl);
-        };
-      })
-
--- ---- WHAT A LANE THAT STANDS MAY BE ASKED
-
-module _ {M : Type 0} {at : M → View → Type 0} {lane : Lane M} where
-  pub stands_work : Stands at lane → work_refusal lane ≡ None → IsAt at lane
-  stands_work stands = stands.work
-
-  pub stands_past : Stands at lane → end_refusal lane ≡ None → IsLanePast at lane
-  stands_past stands = stands.past
-
-  pub stands_between : Stands at lane → lane.stopped ≡ false → lane.level ≡ 0
-      → IsLaneBetween at lane
-  stands_between stands = stands.between
-
--- ---- AFTER EACH CALL
+use Rattle.pm_tx.specs.Publishing.{Published, PublishedAs, PublishedSo}
 
 module _ {M : Type 0} (at : M → View → Type 0) (old new : Lane M) where
-  pub same_stands : Stands at old → new ≡ old → Stands at new
-  same_stands stands same = subst (Stands at) (sym same) stands
-
-  -- ---- an operation that is done, aborts the transaction, or stops
-
-  module _ {T : Type 0} (op : Operation) (plan : View → Plan) (Is : View → T → Type 0) where
-    refused_stands : (s : Standing) → 1 ≤ s.level → s.level ≤ 64 → (r : Refusal)
-        → GaveUp at new s op r → Stands at new
-    refused_stands s some most r up =
-        aborted_call_stands at new s op (Some (Refused r)) (error.Refused r) some most (λ e. cc)
-        (record { number = up.number; ready = up.ready; sees = up.sees; over = up.over })
-
-    ends_stands : (s : Standing) → 1 ≤ s.level → s.level ≤ 64 → (result : Result T Refusal)
-        → Ends at new op plan Is result s → Stands at new
-    ends_stands s some most (Ok x) ends =
-        working_stands at new (next s (plan s.view)) ends.0.works ends.0.stands
-    ends_stands s some most (Err refusal.Stopped) ends = ⊎_elim
-        (λ c. cut_stands at new s (plan s.view) c.1)
-        (λ c. cut_stands at new s (gives_up op (Some (Refused c.0)) c.1) c.3)
-        ends
-    ends_stands s some most (Err r) ends = refused_stands s some most r ends
-
-    pub did_stands : (result : Result T Refusal) → Stands at old
-        → Did at old new op plan Is result → Stands at new
-    unfolding Did
-    did_stands result stands did = by (work_refusal old) refl did where
-      by : (w : Option Refusal) → work_refusal old ≡ w → DidSo w at old new op plan Is result
-          → Stands at new
-      by (Some r) some d = same_stands stands d.1
-      by None none d =
-          let here = stands.work none in
-          let t = d here.standing here.works here.stands in
-          ends_stands (moved here.standing t.view) here.stands.some here.stands.most result t.holds
-
   -- ---- a commit
 
   inner_stands : (s : Standing) (result : Result (Unit {0}) Refusal) → InnerEnds at new result s
@@ -209,8 +34,7 @@ module _ {M : Type 0} (at : M → View → Type 0) (old new : Lane M) where
   outermost_stands : (s : Standing) → s.level ≡ 1 → (result : Result (Unit {0}) Refusal)
       → OutermostEnds at new result s → Stands at new
   outermost_stands s outermost (Ok done) ends = committed_call_stands at new s outermost ends
-  outermost_stands s outermost (Err refusal.Stopped) ends =
-      stopped_stands at new (ap (λ (f : Fields). f.stopped) ends.fields)
+  outermost_stands s outermost (Err refusal.Stopped) ends = cut_commit_stands at new s ends
   outermost_stands s outermost (Err r) ends = absurd ends
 
   level_stands : (s : Standing) (result : Result (Unit {0}) Refusal) (n : ℕ) → s.level ≡ n
@@ -226,7 +50,7 @@ module _ {M : Type 0} (at : M → View → Type 0) (old new : Lane M) where
   committed_stands result stands committed = by (work_refusal old) refl committed where
     by : (w : Option Refusal) → work_refusal old ≡ w → LevelCommittedSo w at old new result
         → Stands at new
-    by (Some r) some d = same_stands stands d.1
+    by (Some r) some d = same_stands at old new stands d.1
     by None none d =
         let here = stands.work none in
         let s = here.standing in level_stands s result s.level refl (d s here.works here.stands)
@@ -237,7 +61,7 @@ module _ {M : Type 0} (at : M → View → Type 0) (old new : Lane M) where
       → PassedSo (end_refusal old) at old new result → Stands at new
   passed_stands result stands passed = by (end_refusal old) refl passed where
     by : (w : Option Refusal) → end_refusal old ≡ w → PassedSo w at old new result → Stands at new
-    by (Some r) some d = same_stands stands d.1
+    by (Some r) some d = same_stands at old new stands d.1
     by None none d =
         let here = stands.past none in
         past_stands at new here.standing (next_stage here.stage) here.error
@@ -274,34 +98,29 @@ module _ {M : Type 0} (at : M → View → Type 0) (old new : Lane M) where
   aborted_stands errnum result stands aborted = by (work_refusal old) refl aborted where
     by : (w : Option Refusal) → work_refusal old ≡ w → AbortedSo w at old new errnum result
         → Stands at new
-    by (Some r) some d = same_stands stands d.1
+    by (Some r) some d = same_stands at old new stands d.1
     by None none d =
         let here = stands.work none in
         abort_stands errnum here.standing here.stands.some here.stands.most result
         (d here.standing here.works here.stands)
 
-  -- ---- the end of a level
+  -- ---- a publish
 
-  end_stands : (s : Standing) (x : TxErr) (n : ℕ) → EndedAs at new x n s → Stands at new
-  end_stands s x zero ends = absurd ends
-  end_stands s x (suc zero) ends =
-      idle_stands at new (closed s) refl ends.0 (between_may_open (closed s) ends.1)
-  end_stands s error.None (suc (suc n)) ends =
-      working_stands at new (at_level (suc n) s) ends.0 ends.1
-  end_stands s x (suc (suc n)) ends = past_stands at new (at_level (suc n) s) stage.OnAbort x ends
+  publish_stands : (s : Standing) → 1 ≤ s.level → s.level ≤ 64
+      → (result : Result (Unit {0}) Refusal) → PublishedAs at new result s → Stands at new
+  publish_stands s some most (Ok done) p = working_stands at new (words_entered s) p.works p.stands
+  publish_stands s some most (Err refusal.Stopped) p =
+      cut_stands at new s (gives_up Publish (Some (Refused p.refusal)) p.number) p.cut
+  publish_stands s some most (Err r) p = refused_stands at new s some most Publish r p
 
-  answer_stands : (s : Standing) (x : TxErr) (result : Result TxErr Refusal)
-      → EndedBy at new result x s → Stands at new
-  answer_stands s x (Ok answer) d = end_stands s x s.level d.1
-  answer_stands s x (Err r) d = absurd d
-
-  pub ended_stands : (result : Result TxErr Refusal) → Stands at old → Ended at old new result
-      → Stands at new
-  unfolding Ended
-  ended_stands result stands ended = by (end_refusal old) refl ended where
-    by : (w : Option Refusal) → end_refusal old ≡ w → EndedSo w at old new result → Stands at new
-    by (Some r) some d = same_stands stands d.1
+  pub published_stands : (result : Result (Unit {0}) Refusal) → Stands at old
+      → Published at old new result → Stands at new
+  unfolding Published
+  published_stands result stands published = by (work_refusal old) refl published where
+    by : (w : Option Refusal) → work_refusal old ≡ w → PublishedSo w at old new result
+        → Stands at new
+    by (Some r) some d = same_stands at old new stands d.1
     by None none d =
-        let here = stands.past none in
-        answer_stands here.standing here.error result
-        (d here.standing here.stage here.error here.stands)
+        let here = stands.work none in
+        let t = d here.standing here.works here.stands in
+        publish_stands (moved here.standing t.view) here.stands.some here.stands.most result t.holds

@@ -1,6 +1,6 @@
--- A LANE STANDS, as its fields say: what each call of a transaction asks of its lane, and leaves;
--- as laws.
-use Rattle.std.specs.Prelude.{◌≡◌, ℕ, false, List, None, Result}
+-- A LANE STANDS after each call of a transaction, as laws: one that stood does so after a call that
+-- did this, whatever it returned.
+use Rattle.std.specs.Prelude.{ℕ, List, Result}
 use Rattle.pm_objects.specs.declared.calls.Operation.{Operation}
 use Rattle.pm_objects.specs.declared.calls.Operation.TheVariants.{AddRange, Read, Write}
 use Rattle.pm_objects.specs.declared.calls.Want.{Want}
@@ -10,27 +10,16 @@ use Rattle.pm_objects.specs.declared.refusal.Refusal.{Refusal}
 use Rattle.pm_view.specs.View.{View}
 use Rattle.pm_world.specs.declared.lane.Lane.{Lane}
 use Rattle.pm_call.specs.Adding.{HasCounted}
-use Rattle.pm_call.specs.Between.{IsLaneBetween}
-use Rattle.pm_call.specs.Did.{Did, IsAt, work_refusal}
+use Rattle.pm_call.specs.Did.{Did}
 use Rattle.pm_call.specs.Plans.{adds, gets, puts}
 use Rattle.pm_call.specs.Reading.{HasRead}
-use Rattle.pm_call.specs.Stages.{Ended, IsLanePast, end_refusal}
+use Rattle.pm_call.specs.Stages.{Ended}
+use Rattle.pm_call.specs.Standing.{KeepsStanding}
 use Rattle.pm_tx.specs.Begins.{LevelBegun}
 use Rattle.pm_tx.specs.Commits.{LevelCommitted, Processed}
 use Rattle.pm_tx.specs.Locks.{DidLock}
 use Rattle.pm_tx.specs.Outcome.{Aborted}
-
--- A LANE STANDS: unless it stopped it is between two calls, at work, or past the work of a level,
--- as its fields say
-pub record Stands {M : Type 0} (at : M → View → Type 0) (lane : Lane M) : Type 0 where
-  pub work : work_refusal lane ≡ None → IsAt at lane
-  pub past : end_refusal lane ≡ None → IsLanePast at lane
-  pub between : lane.stopped ≡ false → lane.level ≡ 0 → IsLaneBetween at lane
-
--- ---- THE LAWS: a lane that stands does so after a call that did this, whatever it returned
-abbrev pub KeepsStanding : {M : Type 0} → (M → View → Type 0) → (Lane M → Lane M → Type 0)
-    → Type 0
-KeepsStanding {M} at Says = (old new : Lane M) → Stands at old → Says old new → Stands at new
+use Rattle.pm_tx.specs.Publishing.{Published}
 
 -- ranges
 abbrev pub AddsKeepStanding : {M : Type 0} → (M → View → Type 0) → Type 0
@@ -48,6 +37,11 @@ ReadsKeepStanding at =
     (id : Oid) (off len : ℕ) (into : List ℕ) (result : Result (Unit {0}) Refusal)
     → KeepsStanding at (λ old new. Did at old new (Read id off len) (λ v. gets id off len)
     (HasRead id off len into) result)
+
+-- what is pending
+abbrev pub PublishesKeepStanding : {M : Type 0} → (M → View → Type 0) → Type 0
+PublishesKeepStanding at = (result : Result (Unit {0}) Refusal)
+    → KeepsStanding at (λ old new. Published at old new result)
 
 -- stages
 abbrev pub CommitsKeepStanding : {M : Type 0} → (M → View → Type 0) → Type 0

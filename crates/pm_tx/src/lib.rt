@@ -4,8 +4,8 @@
 //! Promises of each call, in one clause by cases of what it answers, that it makes exactly the memory
 //! calls of its plan, or the first of them up to the lane's stop; what it tells is the plain model's
 //! operation, and what it leaves is the lane at work, a call that is over and has the fact that it
-//! owes, or a lane between two calls. It stands on `pm_call` for the parts that calls share;
-//! docs/BEHAVIOUR.md.
+//! owes, or a lane between two calls. A publish sets no word: the commit of the outermost level does.
+//! It stands on `pm_call` for the parts that calls share; docs/BEHAVIOUR.md.
 #![tactic(auto)]
 
 mod begins;
@@ -14,6 +14,7 @@ mod ending;
 mod laws;
 mod locks;
 mod outcome;
+mod publishing;
 mod ranges;
 mod stages;
 
@@ -23,6 +24,7 @@ pub use ending::end;
 pub use laws::lanes_stand;
 pub use locks::lock;
 pub use outcome::abort;
+pub use publishing::publish;
 pub use ranges::{add_range, read, write};
 pub use stages::{errno, level, stage};
 

@@ -3,6 +3,7 @@ ghost use Rattle.pm_call.specs.Did.{stage_refusal, work_refusal};
 ghost use Rattle.pm_call.specs.Stages.{end_refusal, stage_end_refusal};
 
 use super::*;
+use crate::publishing::earlier;
 use arrayvec::ArrayVec;
 use pm_layout::Shape;
 use pm_memory::SoloMem;
@@ -138,5 +139,29 @@ fn commits_are_refused(rt: HostRuntime) -> Result<(), Fail> {
     let mut late = lane_at(rt.alloc(), 1, Stage::OnAbort)?;
     assert_eq!(rt; commit(&mut late), Err(Refusal::NotWork));
     assert_eq!(rt; late.stage, Stage::OnAbort);
+    Ok(())
+}
+
+/// Where no transaction is open, and past its work, a publish is refused.
+#[test]
+fn publishes_are_refused(rt: HostRuntime) -> Result<(), Fail> {
+    let mut idle = lane_at(rt.alloc(), 0, Stage::None)?;
+    assert_eq!(rt; publish(&mut idle), Err(Refusal::NoTx));
+    let mut late = lane_at(rt.alloc(), 1, Stage::OnAbort)?;
+    assert_eq!(rt; publish(&mut late), Err(Refusal::NotWork));
+    assert_eq!(rt; late.error, TxErr::None);
+    Ok(())
+}
+
+/// An object that is not held is told before a word past its object's end, wherever they come.
+#[test]
+fn locks_come_first(rt: HostRuntime) -> Result<(), Fail> {
+    let past = Err(Refusal::OutOfRange);
+    let unheld = Err(Refusal::NotLocked);
+    assert_eq!(rt; earlier(Ok(()), Ok(())), Ok(()));
+    assert_eq!(rt; earlier(past, Ok(())), past);
+    assert_eq!(rt; earlier(Ok(()), past), past);
+    assert_eq!(rt; earlier(past, unheld), unheld);
+    assert_eq!(rt; earlier(unheld, past), unheld);
     Ok(())
 }

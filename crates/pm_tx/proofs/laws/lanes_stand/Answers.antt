@@ -3,7 +3,8 @@ use Rattle.pm_call.specs.Adding.{HasCounted}
 use Rattle.pm_call.specs.Plans.{adds, gets, puts}
 use Rattle.pm_call.specs.Reading.{HasRead}
 use Rattle.pm_tx.proofs.LockStanding.{begun_level_stands, lock_stands}
-use Rattle.pm_tx.proofs.Standing.{aborted_stands, committed_stands, did_stands, ended_stands, processed_stands}
+use Rattle.pm_call.proofs.Standing.{did_stands, ended_stands}
+use Rattle.pm_tx.proofs.Standing.{aborted_stands, committed_stands, processed_stands, published_stands}
 use Rattle.pm_tx.proofs.laws.lanes_stand.Goals as goal
 
 pub returns-clause-add_range : goal.returns-clause-add_range
@@ -14,6 +15,9 @@ returns-clause-write g c id off bytes result old new = did_stands g.M.LaneMem.at
 
 pub returns-clause-read : goal.returns-clause-read
 returns-clause-read g c id off len into result old new = did_stands g.M.LaneMem.at old new (Read id off len) (λ v. gets id off len) (HasRead id off len into) result
+
+pub returns-clause-publish : goal.returns-clause-publish
+returns-clause-publish g c result old new = published_stands g.M.LaneMem.at old new result
 
 pub returns-clause-commit : goal.returns-clause-commit
 returns-clause-commit g c result old new = committed_stands g.M.LaneMem.at old new result
