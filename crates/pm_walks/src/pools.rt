@@ -1,14 +1,16 @@
-//! New pools with a root, opened for a single lane.
+//! New pools with a root, opened for a single lane, and for two.
 
-ghost use Rattle.std.specs.Prelude.{◌≤◌, IfOk};
-ghost use Rattle.pm_tx.specs.Standing.{Stands};
+ghost use Rattle.std.specs.Prelude.{◌≡◌, ◌≤◌, IfOk};
+ghost use Rattle.pm_call.specs.Standing.{Stands};
+ghost use Rattle.pm_shared.specs.Openings.{CanBegin};
 ghost use Rattle.pm_world.specs.SoloLanes.{StandsAs};
 
-use pm_lanes::open_solo;
+use pm_lanes::{open, open_solo};
 use pm_layout::Shape;
-use pm_objects::Oid;
+use pm_objects::{Oid, Stops};
 use pm_pool::{create, root_offset};
 use pm_raw::RawImage;
+use pm_shared::Beginning;
 use pm_world::{Lane, SoloLane};
 use std::alloc::Global;
 use std::test::Fail;
@@ -40,4 +42,16 @@ pub fn single_lane(alloc: Global, root: u64) -> Result<Lane<SoloLane>, Fail>
         return Err(Fail::from("a pool that opens"));
     };
     Ok(Lane::new(alloc, memory, pool, shape)?)
+}
+
+/// What both lanes of a new pool of two begin on.
+pub fn two_lanes(alloc: Global, root: u64) -> Result<Beginning, Fail>
+    ensures begins { IfOk result CanBegin }
+    ensures lanes { IfOk result (λ beginning. beginning.lanes ≡ 2) }
+{
+    let image = image(alloc, 2, root)?;
+    match open(alloc, image, LAYOUT, 2, Stops::none()) {
+        Ok(beginning) => Ok(beginning),
+        Err(_) => Err(Fail::from("a pool that opens")),
+    }
 }

@@ -1,13 +1,13 @@
-//! The calls of a transaction, as steps of a lane that stands: it does so after each of them,
-//! whatever it returns.
+//! The calls of a transaction, and those on what is pending, as steps of a lane that stands: it does
+//! so after each of them, whatever it returns.
 
-ghost use Rattle.pm_tx.specs.Standing.{Stands};
+ghost use Rattle.pm_call.specs.Standing.{Stands};
 
 use pm_objects::{Oid, Refusal, TxErr, Want};
 use pm_world::{Lane, LawfulMem};
 use std::sync::Wait;
 
-#[tactic(auto, using(pm_tx::proofs::Standing::did_stands, pm_tx::proofs::Standing::stands_work))]
+#[tactic(auto, using(pm_call::proofs::Standing::did_stands, pm_call::proofs::Standing::stands_work))]
 pub fn add_range<M: LawfulMem>(
     lane: &mut Lane<M>,
     id: Oid,
@@ -20,7 +20,7 @@ pub fn add_range<M: LawfulMem>(
     pm_tx::add_range(lane, id, off, len)
 }
 
-#[tactic(auto, using(pm_tx::proofs::Standing::did_stands, pm_tx::proofs::Standing::stands_work))]
+#[tactic(auto, using(pm_call::proofs::Standing::did_stands, pm_call::proofs::Standing::stands_work))]
 pub fn write<M: LawfulMem>(
     lane: &mut Lane<M>,
     id: Oid,
@@ -33,7 +33,7 @@ pub fn write<M: LawfulMem>(
     pm_tx::write(lane, id, off, bytes)
 }
 
-#[tactic(auto, using(pm_tx::proofs::Standing::did_stands, pm_tx::proofs::Standing::stands_work))]
+#[tactic(auto, using(pm_call::proofs::Standing::did_stands, pm_call::proofs::Standing::stands_work))]
 pub fn read<M: LawfulMem>(
     lane: &mut Lane<M>,
     id: Oid,
@@ -46,7 +46,7 @@ pub fn read<M: LawfulMem>(
     pm_tx::read(lane, id, off, into)
 }
 
-#[tactic(auto, using(pm_tx::proofs::Standing::committed_stands, pm_tx::proofs::Standing::stands_work))]
+#[tactic(auto, using(pm_tx::proofs::Standing::committed_stands, pm_call::proofs::Standing::stands_work))]
 pub fn commit<M: LawfulMem>(lane: &mut Lane<M>) -> Result<(), Refusal>
     requires { Stands M.at lane.old }
     ensures { Stands M.at lane.new }
@@ -54,7 +54,7 @@ pub fn commit<M: LawfulMem>(lane: &mut Lane<M>) -> Result<(), Refusal>
     pm_tx::commit(lane)
 }
 
-#[tactic(auto, using(pm_tx::proofs::Standing::ended_stands, pm_tx::proofs::Standing::stands_past))]
+#[tactic(auto, using(pm_call::proofs::Standing::ended_stands, pm_call::proofs::Standing::stands_past))]
 pub fn end<M: LawfulMem>(lane: &mut Lane<M>) -> Result<TxErr, Refusal>
     requires { Stands M.at lane.old }
     ensures { Stands M.at lane.new }
@@ -62,7 +62,7 @@ pub fn end<M: LawfulMem>(lane: &mut Lane<M>) -> Result<TxErr, Refusal>
     pm_tx::end(lane)
 }
 
-#[tactic(auto, using(pm_tx::proofs::LockStanding::begun_level_stands, pm_tx::proofs::Standing::stands_work, pm_tx::proofs::Standing::stands_between))]
+#[tactic(auto, using(pm_tx::proofs::LockStanding::begun_level_stands, pm_call::proofs::Standing::stands_work, pm_call::proofs::Standing::stands_between))]
 pub fn begin<M: LawfulMem, R: Wait>(
     rt: &R,
     lane: &mut Lane<M>,
@@ -72,4 +72,57 @@ pub fn begin<M: LawfulMem, R: Wait>(
     ensures { Stands M.at lane.new }
 {
     pm_tx::begin(rt, lane, wants)
+}
+
+#[tactic(auto, using(pm_tx::proofs::LockStanding::lock_stands, pm_call::proofs::Standing::stands_work))]
+pub fn lock<M: LawfulMem>(lane: &mut Lane<M>, want: Want) -> Result<(), Refusal>
+    requires { Stands M.at lane.old }
+    ensures { Stands M.at lane.new }
+{
+    pm_tx::lock(lane, want)
+}
+
+#[tactic(auto, using(pm_tx::proofs::Standing::processed_stands, pm_call::proofs::Standing::stands_work, pm_call::proofs::Standing::stands_past))]
+pub fn process<M: LawfulMem>(lane: &mut Lane<M>) -> Result<(), Refusal>
+    requires { Stands M.at lane.old }
+    ensures { Stands M.at lane.new }
+{
+    pm_tx::process(lane)
+}
+
+#[tactic(auto, using(pm_tx::proofs::Standing::aborted_stands, pm_call::proofs::Standing::stands_work))]
+pub fn abort<M: LawfulMem>(lane: &mut Lane<M>, errnum: u32) -> Result<(), Refusal>
+    requires { Stands M.at lane.old }
+    ensures { Stands M.at lane.new }
+{
+    pm_tx::abort(lane, errnum)
+}
+
+#[tactic(auto, using(pm_tx::proofs::Standing::published_stands, pm_call::proofs::Standing::stands_work))]
+pub fn publish<M: LawfulMem>(lane: &mut Lane<M>) -> Result<(), Refusal>
+    requires { Stands M.at lane.old }
+    ensures { Stands M.at lane.new }
+{
+    pm_tx::publish(lane)
+}
+
+#[tactic(auto, using(pm_action::proofs::Standing::asked_by_level_stands, pm_call::proofs::Standing::stands_work, pm_call::proofs::Standing::stands_between))]
+pub fn set_value<M: LawfulMem>(
+    lane: &mut Lane<M>,
+    id: Oid,
+    off: u64,
+    value: u64,
+) -> Result<(), Refusal>
+    requires { Stands M.at lane.old }
+    ensures { Stands M.at lane.new }
+{
+    pm_action::set_value(lane, id, off, value)
+}
+
+#[tactic(auto, using(pm_action::proofs::Standing::cancelled_by_level_stands, pm_call::proofs::Standing::stands_work, pm_call::proofs::Standing::stands_between))]
+pub fn cancel<M: LawfulMem>(lane: &mut Lane<M>) -> Result<(), Refusal>
+    requires { Stands M.at lane.old }
+    ensures { Stands M.at lane.new }
+{
+    pm_action::cancel(lane)
 }

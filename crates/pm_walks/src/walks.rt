@@ -1,15 +1,29 @@
 //! Walks through transactions of one lane, on the pool's root.
 
 mod aborts;
+mod actions;
+mod levels;
+mod limits;
+mod lockings;
+mod operations;
+mod others;
+mod stages;
 
-ghost use Rattle.pm_tx.specs.Standing.{Stands};
+ghost use Rattle.pm_call.specs.Standing.{Stands};
 
 use crate::standing::{begin, commit, end, read};
 pub use aborts::refusals;
+pub use actions::{cancelled, published, unpublished};
+pub use levels::{inner_aborted, outer_aborted};
+pub use limits::{many_levels, many_locks, many_records};
+pub use lockings::raised;
+pub use operations::each_once;
+pub use others::busy;
 use pm_model::Stage;
 use pm_objects::{Oid, TxErr, Want};
 use pm_tx::{errno, level, stage};
 use pm_world::{Lane, LawfulMem};
+pub use stages::{past_a_commit, past_an_abort};
 use std::sync::Wait;
 use std::test::Fail;
 

@@ -1,6 +1,6 @@
 //! Transactions that are aborted.
 
-ghost use Rattle.pm_tx.specs.Standing.{Stands};
+ghost use Rattle.pm_call.specs.Standing.{Stands};
 
 use super::{bytes_of, place, reads, writes};
 use crate::standing::{add_range, begin, end, write};
