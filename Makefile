@@ -65,8 +65,8 @@ demo: build
 	  build/pmempool dump build/demo-publish-$$stop-$$keep.pool; \
 	done; done
 
-# Times beside `cp` of the same file; the times of ten million stores and of ten thousand blocks reserved by one lane alone; and those of a lane's
-# steps on shared words beside the raw steps of the kit's table.
+# Times beside `cp` of the same file; the times of ten million stores and of ten thousand blocks reserved by one lane alone; those of a lane's
+# steps on shared words beside the raw steps of the kit's table; and those of transactions beside PMDK's, where its libpmemobj is there.
 bench: build
 	bench/run.sh
 

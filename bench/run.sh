@@ -1,16 +1,18 @@
 #!/usr/bin/env bash
 # Times of the program on the least and the largest pool beside `cp` of the same file: the least of five runs, in milliseconds, and how many
 # times `cp` each takes; the times of ten million stores, and of ten thousand blocks reserved, by one lane alone; and those of 51,200,000 steps of
-# a lane on shared words, 153,600 where they are ORs, and how many times a raw step of the kit's table each takes. All are rows of bench/times.csv,
-# which a run makes anew.
+# a lane on shared words, 153,600 where they are ORs, and how many times a raw step of the kit's table each takes; and those of 100,000 transactions,
+# and how many times PMDK's each takes. All are rows of bench/times.csv, which a run makes anew.
 # `check` and `info` have limits: of the largest pool 20 times `cp`, and of the least one 1.5 times `/bin/true` and `cp` together. A lane's step is to
-# take at most three times the raw one. A run that passes a limit says so, and ends with status 1. Run it by `make bench`; it is no part of the gate.
+# take at most three times the raw one, and a transaction at most PMDK's time, on the largest pool as on the least. A run that passes a limit says
+# so, and ends with status 1. Run it by `make bench`; it is no part of the gate.
 set -euo pipefail
 cd "$(dirname "$0")/.."
 program=build/pmempool
 table=bench/times.csv
 folder=$(mktemp -d)
-trap 'rm -rf "$folder"' EXIT
+shared=$(mktemp -d -p /dev/shm)
+trap 'rm -rf "$folder" "$shared"' EXIT
 head="$(date -u +%Y-%m-%dT%H:%MZ),$(nproc),$(git rev-parse --short HEAD)"
 passed=0
 
@@ -27,11 +29,12 @@ least() {
   echo "$best"
 }
 
-# row POOL NAME TIME [BASE [LIMIT]]: a row of the table, with the bytes of the pool; the times in microseconds. The base is the time of `cp`, or,
-# where there is no pool, of the raw step
+# row POOL NAME TIME [BASE [LIMIT [OF]]]: a row of the table, with the bytes of the pool; the times in microseconds. The base is the time of what OF
+# says: of `cp`, or, where there is no pool, of the raw step
 row() {
   local milliseconds times='' limit='' base=cp
   if [ -z "$1" ]; then base='the raw step'; fi
+  if [ -n "${6-}" ]; then base=$6; fi
   milliseconds=$(awk "BEGIN { printf \"%.2f\", $3 / 1000 }")
   if [ -n "${4-}" ]; then times=$(awk "BEGIN { printf \"%.1f\", $3 / $4 }"); fi
   if [ -n "${5-}" ]; then limit=$(awk "BEGIN { printf \"%.2f\", $5 / 1000 }"); fi
@@ -145,6 +148,54 @@ or=$((($(ors lane-or) - clock) / 1000))
 row '' '153600 ORs of a lane, beside raw ORs' "$or" "$raw_or" $((3 * raw_or))
 lock=$(steps lane-lock)
 row '' '51200000 locks and releases of a lane, beside raw stores' "$lock" "$raw_store" $((3 * raw_store))
+
+# Transfers of two words, each a transaction under the root's lock: 100,000 on the least and on the largest pool, and, in the same run, the same ones
+# by PMDK's libpmemobj where that is there, its pool in shared memory that is taken for persistent. Each program tells the processor time of its
+# transfers. The three run in turn; of each the least of ten runs counts.
+echo '100,000 transfers'
+(cd crates/pm_transfers && rt run -- 1 1 1 1) >> build/bench.log 2>&1
+pmdk=yes
+if ! cc -O2 -o build/pmdk_transfers bench/pmdk_transfers.c -lpmemobj 2>> build/bench.log; then
+  pmdk=''
+  echo "PMDK's libpmemobj is not there (on Debian: apt-get install libpmemobj-dev), and has no row"
+fi
+declare -A best=() digest=()
+
+# transfer WHO COMMAND..: one run of 100,000 transfers, whose nanoseconds count where they are the least
+transfer() {
+  local who=$1 nanos
+  shift
+  "$@" > "$folder/out"
+  nanos=$(awk '$1 == "nanoseconds" { print $2 }' "$folder/out")
+  digest[$who]=$(head -n 3 "$folder/out")
+  if [ -z "${best[$who]-}" ] || [ "$nanos" -lt "${best[$who]}" ]; then best[$who]=$nanos; fi
+}
+
+for _ in 1 2 3 4 5 6 7 8 9 10; do
+  if [ -n "$pmdk" ]; then
+    rm -f "$shared/pool"
+    transfer pmdk env PMEM_IS_PMEM_FORCE=1 build/pmdk_transfers "$shared/pool" 1 100000
+  fi
+  transfer least crates/pm_transfers/out/pm_transfers 1 100000 1 1 timed
+  transfer largest crates/pm_transfers/out/pm_transfers 1 100000 32 32 timed
+done
+[ "${digest[least]}" = "${digest[largest]}" ]
+least=$((best[least] / 1000))
+largest=$((best[largest] / 1000))
+if [ -n "$pmdk" ]; then
+  [ "${digest[pmdk]}" = "${digest[least]}" ]
+  base=$((best[pmdk] / 1000))
+  row '' "100000 transfers of two words by PMDK" "$base" "$base" '' "PMDK's time"
+  row 278528 '100000 transfers of two words, beside PMDK' "$least" "$base" "$base" "PMDK's time"
+  row 8785920 '100000 transfers of two words, beside PMDK' "$largest" "$base" "$base" "PMDK's time"
+else
+  row 278528 '100000 transfers of two words' "$least"
+  row 8785920 '100000 transfers of two words' "$largest"
+fi
+if [ "$largest" -gt $((least * 11 / 10)) ]; then
+  echo 'transfers on the largest pool take more than 1.1 times as long as on the least'
+  passed=1
+fi
 
 cp "$folder/table" "$table"
 exit $passed
