@@ -62,6 +62,53 @@ fn survivors(rt: HostRuntime) -> Result<(), Fail> {
     Ok(())
 }
 
+/// A change of these bits of a word, not flushed.
+fn change(word: u64, mask: u64, old: u64, new: u64) -> Change {
+    Change {
+        word,
+        mask,
+        old,
+        new,
+        flushed: false,
+    }
+}
+
+/// The words and changes of `survivors`, as two lanes come back with them, leave the same.
+#[test]
+fn crashes(rt: HostRuntime) -> Result<(), Fail> {
+    let table = [
+        (0, [0b1100, 0, 0]),
+        (1, [0b1011, 70, 3]),
+        (4, [0b1111, 70, 0]),
+        (11, [0b1001, 0, 3]),
+    ];
+    let first = [
+        change(9, u64::MAX, 0, 1),
+        change(2, 0b0001, 0, 0b0001),
+        change(9, u64::MAX, 1, 2),
+        change(9, u64::MAX, 2, 3),
+        change(2, 0b0010, 0, 0b0010),
+    ];
+    let second = [change(2, 0b0100, 0b0100, 0), change(5, u64::MAX, 0, 70)];
+    for (keep, [two, five, nine]) in table {
+        let mut words = vec![in rt.alloc(); 0; 16]?;
+        words[2] = 0b1011;
+        words[5] = 70;
+        words[9] = 3;
+        let mut undrained = Vec::new(rt.alloc());
+        undrained.push(Vec::from_slice(rt.alloc(), &first)?)?;
+        undrained.push(Vec::from_slice(rt.alloc(), &second)?)?;
+        let image = crash(words, &undrained, keep);
+        assert_eq!(rt; image.len(), 16);
+        assert_eq!(rt;
+            [image[2], image[5], image[9]],
+            [two, five, nine],
+            "keep {keep}"
+        );
+    }
+    Ok(())
+}
+
 /// A flushed and drained line survives; a change that is not drained is lost where none is kept.
 #[test]
 fn persists(rt: HostRuntime) -> Result<(), Fail> {
