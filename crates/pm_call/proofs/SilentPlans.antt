@@ -1,5 +1,5 @@
--- WHAT MOST STEPS LEAVE: a lane that tells nothing and takes no number leaves what it told, and the
--- entries of its calls.
+-- WHAT MOST STEPS LEAVE: a lane that tells nothing and takes no number leaves what it told, the
+-- number of its call, and the entries of its calls.
 use Rattle.std.proofs.Common.{◌≡◌, ℕ, zero, suc, ◌+◌, ◌*◌, ◌/◌, ◌==◌, true, false, Bool, if◌then◌else◌, nat_lt, List, [], ◌∷◌, ◌++◌, length, map, take, slice_index, refl, ◌∙◌}
 use Rattle.std.specs.List.{AllByRecursion}
 use Rattle.std.proofs.lemmas.Bool.{both_ways}
@@ -38,36 +38,38 @@ AreSilent steps = AllByRecursion (λ s. is_silent s ≡ true) steps
 pub record IsAsTold (v w : View) : Type 0 where
   pub call : w.call ≡ v.call
   pub entries : w.entries ≡ v.entries
+  pub number : w.number ≡ v.number
 
 told_same : (v : View) → IsAsTold v v
-told_same v = record { call = refl; entries = refl }
+told_same v = record { call = refl; entries = refl; number = refl }
 
 occupied_same : (won : Bool) (v : View) (at : Occ) (bits : ℕ)
     → IsAsTold v (occupied won v at bits)
-occupied_same true v at bits = record { call = refl; entries = refl }
+occupied_same true v at bits = record { call = refl; entries = refl; number = refl }
 occupied_same false v at bits = told_same v
 
 pub silent_step : (v : View) (s : Step) → is_silent s ≡ true → IsAsTold v (after v s)
-silent_step v (Load w x) e = record { call = refl; entries = refl }
-silent_step v (Store w x) e = record { call = refl; entries = refl }
-silent_step v (Or w bits found) e = record { call = refl; entries = refl }
-silent_step v (And w bits found) e = record { call = refl; entries = refl }
-silent_step v (Flush line) e = record { call = refl; entries = refl }
-silent_step v Drain e = record { call = refl; entries = refl }
-silent_step v (TakeWrite line won) e = record { call = refl; entries = refl }
-silent_step v (TakeRead line won) e = record { call = refl; entries = refl }
-silent_step v (Raise line won) e = record { call = refl; entries = refl }
-silent_step v (Give line) e = record { call = refl; entries = refl }
-silent_step v (ZoneTry zone won) e = record { call = refl; entries = refl }
-silent_step v (ZoneGive zone) e = record { call = refl; entries = refl }
-silent_step v (Occupied at found) e = record { call = refl; entries = refl }
+silent_step v (Load w x) e = record { call = refl; entries = refl; number = refl }
+silent_step v (Store w x) e = record { call = refl; entries = refl; number = refl }
+silent_step v (Or w bits found) e = record { call = refl; entries = refl; number = refl }
+silent_step v (And w bits found) e = record { call = refl; entries = refl; number = refl }
+silent_step v (Flush line) e = record { call = refl; entries = refl; number = refl }
+silent_step v Drain e = record { call = refl; entries = refl; number = refl }
+silent_step v (TakeWrite line won) e = record { call = refl; entries = refl; number = refl }
+silent_step v (TakeRead line won) e = record { call = refl; entries = refl; number = refl }
+silent_step v (Raise line won) e = record { call = refl; entries = refl; number = refl }
+silent_step v (Give line) e = record { call = refl; entries = refl; number = refl }
+silent_step v (ZoneTry zone won) e = record { call = refl; entries = refl; number = refl }
+silent_step v (ZoneGive zone) e = record { call = refl; entries = refl; number = refl }
+silent_step v (Occupied at found) e = record { call = refl; entries = refl; number = refl }
 silent_step v (Occupy at bits won) e =
-    let o = occupied_same won v at bits in record { call = o.call; entries = o.entries }
-silent_step v (Vacate at bits) e = record { call = refl; entries = refl }
+    let o = occupied_same won v at bits in
+    record { call = o.call; entries = o.entries; number = o.number }
+silent_step v (Vacate at bits) e = record { call = refl; entries = refl; number = refl }
 silent_step v (Draw n) e = absurd (both_ways false refl e)
 silent_step v (NumberSeen n) e = absurd (both_ways false refl e)
-silent_step v (StopSeen set) e = record { call = refl; entries = refl }
-silent_step v SetStop e = record { call = refl; entries = refl }
+silent_step v (StopSeen set) e = record { call = refl; entries = refl; number = refl }
+silent_step v SetStop e = record { call = refl; entries = refl; number = refl }
 silent_step v (Tell operation reply) e = absurd (both_ways false refl e)
 
 pub silent_steps : (v : View) (steps : List Step) → AreSilent steps
@@ -77,7 +79,11 @@ silent_steps v [] are = told_same v
 silent_steps v (s ∷ steps) are =
     let one = silent_step v s are.0 in
     let more = silent_steps (after v s) steps are.1 in
-    record { call = more.call ∙ one.call; entries = more.entries ∙ one.entries }
+    record {
+      call = more.call ∙ one.call;
+      entries = more.entries ∙ one.entries;
+      number = more.number ∙ one.number;
+    }
 
 -- ---- PLANS of such steps
 
