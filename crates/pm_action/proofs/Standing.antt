@@ -1,7 +1,8 @@
--- A LANE STANDS after each call on what is pending, from what the call says that it did.
-use Rattle.std.proofs.Common.{◌≡◌, ℕ, zero, suc, Bool, true, false, ⊎_elim, List, take, Option, Some, None, Result, Ok, Err, refl, sym, ap, ◌∙◌, subst}
+-- A LANE STANDS WITH ITS HISTORY TURNED after each call on what is pending, from what the call says
+-- that it did.
+use Rattle.std.proofs.Common.{◌≡◌, ℕ, zero, suc, Bool, true, false, ⊎_elim, List, [], take, Option, Some, None, Result, Ok, Err, refl, sym, ap, ◌∙◌, subst}
 use Rattle.pm_objects.specs.declared.calls.Operation.{Operation}
-use Rattle.pm_objects.specs.declared.calls.Operation.TheVariants.{Publish}
+use Rattle.pm_objects.specs.declared.calls.Operation.TheVariants.{Cancel, Publish}
 use Rattle.pm_objects.specs.declared.history.Value.{Value}
 use Rattle.pm_objects.specs.declared.history.Value.TheVariants.{Refused}
 use Rattle.pm_objects.specs.declared.refusal.Refusal.{Refusal}
@@ -11,199 +12,314 @@ use Rattle.pm_view.specs.View.{View}
 use Rattle.pm_view.specs.Views.{after_all}
 use Rattle.pm_world.specs.LaneFields.{Fields, Standing, moved}
 use Rattle.pm_world.specs.declared.lane.Lane.{Lane}
-use Rattle.pm_call.specs.Between.{IsLaneBetween, MayOpen, saw_number}
+use Rattle.pm_call.specs.Between.{MayOpen, saw_number}
 use Rattle.pm_call.specs.Did.{next, work_refusal}
 use Rattle.pm_call.specs.GivenUp.{with_locks}
+use Rattle.pm_call.specs.Histories.{LaneHistory, calls_ended, history_of, no_value, told_by, told_last, told_more, turned, turned_alone, turned_last, unless}
 use Rattle.pm_call.specs.Locking.{IsOpened, locks_with}
 use Rattle.pm_call.specs.Opening.{WaitWasStopped}
 use Rattle.pm_call.specs.Plans.{cancels, ends_call, tells}
+use Rattle.pm_plan.specs.Plans.{one}
 use Rattle.pm_call.specs.PublicationParts.{PublishWasCut, PublishWasRefused, WasPublishedOutside, WordsSetAs}
 use Rattle.pm_call.specs.Publications.{publishes, unlocked, wants_to_set}
 use Rattle.pm_call.specs.Publishing.{words_pending}
-use Rattle.pm_call.specs.Standing.{IsLaneStopped, Stands}
+use Rattle.pm_call.specs.Standing.{IsLaneStopped, Stands, StandsWith}
 use Rattle.pm_call.proofs.OpenedCalls.{between_may_open}
-use Rattle.pm_call.proofs.Standing.{cut_stands, idle_stands, same_stands, spent_stands, stopped_stands, working_stands}
+use Rattle.pm_call.proofs.Standing.{by_last, cut_stands, idle_stands, same_stands, spent_stands, stopped_stands, working_stands}
 use Rattle.pm_call.proofs.StoppedLanes.{facts_on_the_way, may_open_facts, wait_is_stopped}
+use Rattle.pm_call.proofs.SilentPlans.{told_then}
+use Rattle.pm_call.proofs.ToldLooks.{gives_told, looks_told, saw_history, taken_told, told_history, told_open, tried_told, wait_told}
+use Rattle.pm_call.proofs.ToldPlans.{cancels_tell, lone_calls_tell, publishes_tell, tells_history}
 use Rattle.pm_action.specs.Actions.{Asked, AskedAs, AskedSo}
 use Rattle.pm_action.specs.Calls.{ByLevel, IfOutside}
 use Rattle.pm_action.specs.Inside.{Cancelled, CancelledAs, CancelledSo}
 use Rattle.pm_action.specs.Publications.{AfterLocks, PublishedAloneAs, PublishedBy, PublishedOpenAs, PublishedOutside}
 use Rattle.pm_action.specs.Outside.{AskedAloneAs, AskedOutside, AskedOutsideAs, Finished, FinishedSo, WasAsked}
+use Rattle.pm_action.specs.Standing.{if_outside, turned_action, turned_asked, turned_ended}
 
-module _ {M : Type 0} (at : M → View → Type 0) (old new : Lane M) where
+module _ {M : Type 0} (at : M → View → Type 0) (old new : Lane M) (h : LaneHistory) where
   -- ---- inside a transaction
 
-  told_stands : (op : Operation) (s : Standing) (result : Result (Unit {0}) Refusal)
-      → AskedAs at new op result s → Stands at new
-  told_stands op s (Ok done) a =
-      working_stands at new (next s (tells op None)) a.1.works a.1.stands
-  told_stands op s (Err r) a =
-      working_stands at new (next s (tells op (Some (Refused r)))) a.1.works a.1.stands
+  tells_so : (op : Operation) (reply : Option Value) (s : Standing) → s.view.number ≡ None
+      → history_of s.view ≡ h → history_of (next s (tells op reply)).view ≡ told_more op reply h
+  unfolding one after_all
+  tells_so op reply s none same =
+      tells_history op reply s.view none ∙ ap (told_more op reply) same
 
-  pub asked_stands : (op : Operation) (result : Result (Unit {0}) Refusal) → Stands at old
-      → Asked at old new op result → Stands at new
+  told_turns : (op : Operation) (s : Standing) (result : Result (Unit {0}) Refusal)
+      → s.view.number ≡ None → history_of s.view ≡ h → AskedAs at new op result s
+      → StandsWith at new (turned_action op result h)
+  told_turns op s (Ok done) none same a =
+      working_stands at new (told_more op None h) (next s (tells op None)) a.1.works a.1.stands
+      (tells_so op None s none same)
+  told_turns op s (Err r) none same a =
+      working_stands at new (told_more op (Some (Refused r)) h)
+      (next s (tells op (Some (Refused r)))) a.1.works a.1.stands
+      (tells_so op (Some (Refused r)) s none same)
+
+  pub asked_turns : (op : Operation) (result : Result (Unit {0}) Refusal) → StandsWith at old h
+      → Asked at old new op result
+      → StandsWith at new (unless (work_refusal old) (turned_action op result h) h)
   unfolding Asked
-  asked_stands op result stands asked = by (work_refusal old) refl asked where
+  asked_turns op result stands asked = by (work_refusal old) refl asked where
     by : (w : Option Refusal) → work_refusal old ≡ w → AskedSo w at old new op result
-        → Stands at new
-    by (Some r) some d = same_stands at old new stands d.1
+        → StandsWith at new (unless w (turned_action op result h) h)
+    by (Some r) some d = same_stands at old new h stands d.1
     by None none d =
         let here = stands.work none in
-        told_stands op here.standing result (d here.standing here.works here.stands)
+        told_turns op here.0.standing result here.0.stands.number.none here.1
+        (d here.0.standing here.0.works here.0.stands)
 
-  cancel_stands : (s : Standing) (result : Result (Unit {0}) Refusal)
-      → CancelledAs at new result s → Stands at new
-  cancel_stands s (Ok done) c = working_stands at new (next s cancels) c.works c.stands
-  cancel_stands s (Err refusal.Stopped) c = cut_stands at new s cancels c.1
-  cancel_stands s (Err r) c = absurd c
+  cancel_turns : (s : Standing) (result : Result (Unit {0}) Refusal) → s.view.number ≡ None
+      → history_of s.view ≡ h → CancelledAs at new result s
+      → StandsWith at new (turned new Cancel no_value result h)
+  cancel_turns s (Ok done) none same c =
+      working_stands at new (told_more Cancel None h) (next s cancels) c.works c.stands
+      (cancels_tell.whole s.view none ∙ ap (told_more Cancel None) same)
+  cancel_turns s (Err refusal.Stopped) none same c = cut_stands at new h s Cancel cancels c.1
+      (cancels_tell.on_the_way s.view c.1.stops.made none ∙ ap (λ (x : LaneHistory). x.done) same)
+  cancel_turns s (Err r) none same c = absurd c
 
-  pub cancelled_stands : (result : Result (Unit {0}) Refusal) → Stands at old
-      → Cancelled at old new result → Stands at new
+  pub cancelled_turns : (result : Result (Unit {0}) Refusal) → StandsWith at old h
+      → Cancelled at old new result
+      → StandsWith at new (unless (work_refusal old) (turned new Cancel no_value result h) h)
   unfolding Cancelled
-  cancelled_stands result stands cancelled = by (work_refusal old) refl cancelled where
+  cancelled_turns result stands cancelled = by (work_refusal old) refl cancelled where
     by : (w : Option Refusal) → work_refusal old ≡ w → CancelledSo w at old new result
-        → Stands at new
-    by (Some r) some d = same_stands at old new stands d.1
+        → StandsWith at new (unless w (turned new Cancel no_value result h) h)
+    by (Some r) some d = same_stands at old new h stands d.1
     by None none d =
         let here = stands.work none in
-        cancel_stands here.standing result (d here.standing here.works here.stands)
+        cancel_turns here.0.standing result here.0.stands.number.none here.1
+        (d here.0.standing here.0.works here.0.stands)
 
   -- ---- outside
 
-  was_asked_stands : (op : Operation) (s : Standing) (reply : Option Value) → s.level ≡ 0
-      → WasAsked at new s op reply → Stands at new
-  was_asked_stands op s reply outside a =
+  was_asked_turns : (op : Operation) (s : Standing) (reply : Option Value) → s.level ≡ 0
+      → s.view.number ≡ None → history_of s.view ≡ h → WasAsked at new s op reply
+      → StandsWith at new (told_last new.last op reply h)
+  was_asked_turns op s reply outside none same a =
       let t : Standing = next s (ends_call op reply a.number) in
-      idle_stands at new t outside a.rests (between_may_open t a.between)
+      idle_stands at new (told_last new.last op reply h) t outside a.rests
+      (between_may_open t a.between)
+      (by_last at new h (history_of s.view) t.view a.number op reply
+      (ap (λ (f : Fields). f.last) a.rests.fields)
+      ((lone_calls_tell op reply a.number).whole s.view none) same) refl
 
-  alone_stands : (op : Operation) (s : Standing) → s.level ≡ 0
-      → (result : Result (Unit {0}) Refusal) → AskedAloneAs at new op result s → Stands at new
-  alone_stands op s outside (Ok done) a = was_asked_stands op s None outside a.1
-  alone_stands op s outside (Err r) a = was_asked_stands op s (Some (Refused r)) outside a.1
+  alone_turns : (op : Operation) (s : Standing) → s.level ≡ 0 → s.view.number ≡ None
+      → history_of s.view ≡ h → (result : Result (Unit {0}) Refusal)
+      → AskedAloneAs at new op result s → StandsWith at new (turned_ended new op result h)
+  alone_turns op s outside none same (Ok done) a = was_asked_turns op s None outside none same a.1
+  alone_turns op s outside none same (Err r) a =
+      was_asked_turns op s (Some (Refused r)) outside none same a.1
 
-  opened_stands : (op : Operation) (s : Standing) → s.level ≡ 0 → MayOpen s
-      → (result : Result (Unit {0}) Refusal) → AskedOutsideAs at new op result s → Stands at new
-  opened_stands op s outside may (Err refusal.Spent) a = spent_stands at new s outside may a
-  opened_stands op s outside may result a =
-      alone_stands op (saw_number s a.number) outside result a.holds
+  opened_turns : (op : Operation) (s : Standing) → s.level ≡ 0 → MayOpen s
+      → history_of s.view ≡ h → h.call ≡ [] → (result : Result (Unit {0}) Refusal)
+      → AskedOutsideAs at new op result s → StandsWith at new (turned_asked new op result h)
+  opened_turns op s outside may same none (Err refusal.Spent) a =
+      spent_stands at new h s outside may a same none
+  opened_turns op s outside may same none result a =
+      alone_turns op (saw_number s a.number) outside a.opened.number.none
+      (saw_history s a.number h same none) result a.holds
 
-  pub asked_outside_stands : (op : Operation) (result : Result (Unit {0}) Refusal)
-      → old.stopped ≡ false → old.level ≡ 0 → Stands at old → AskedOutside at old new op result
-      → Stands at new
+  pub asked_outside_turns : (op : Operation) (result : Result (Unit {0}) Refusal)
+      → old.stopped ≡ false → old.level ≡ 0 → StandsWith at old h
+      → AskedOutside at old new op result → StandsWith at new (turned_asked new op result h)
   unfolding AskedOutside
-  asked_outside_stands op result going outside stands asked =
+  asked_outside_turns op result going outside stands asked =
       let here = stands.between going outside in
-      let s = here.standing in
-      opened_stands op s (sym (ap (λ (f : Fields). f.level) here.rests.fields) ∙ outside)
-      here.between result (asked s here.rests here.between)
+      let s = here.0.standing in
+      opened_turns op s (sym (ap (λ (f : Fields). f.level) here.0.rests.fields) ∙ outside)
+      here.0.between here.1 here.2 result (asked s here.0.rests here.0.between)
 
   -- ---- wherever its lane is
 
-  by_level : (outside inside : Type 0)
-      → (old.stopped ≡ false → old.level ≡ 0 → outside → Stands at new)
-      → (inside → Stands at new) → ByLevel old outside inside → Stands at new
+  by_level : (outside inside : Type 0) (h_out h_in : LaneHistory)
+      → (old.stopped ≡ false → old.level ≡ 0 → outside → StandsWith at new h_out)
+      → (inside → StandsWith at new h_in) → ByLevel old outside inside
+      → StandsWith at new (if_outside old.stopped old.level h_out h_in)
   unfolding ByLevel
-  by_level outside inside out in_ did = by old.stopped old.level refl refl did where
+  by_level outside inside h_out h_in out in_ did = by old.stopped old.level refl refl did where
     by : (stopped : Bool) (level : ℕ) → old.stopped ≡ stopped → old.level ≡ level
-        → IfOutside stopped level outside inside → Stands at new
+        → IfOutside stopped level outside inside
+        → StandsWith at new (if_outside stopped level h_out h_in)
     by false zero going none d = out going none d
     by true level going some d = in_ d
     by false (suc n) going some d = in_ d
 
+  pub asked_by_level_turns : (op : Operation) (result : Result (Unit {0}) Refusal)
+      → StandsWith at old h
+      → ByLevel old (AskedOutside at old new op result) (Asked at old new op result)
+      → StandsWith at new (if_outside old.stopped old.level (turned_asked new op result h)
+      (unless (work_refusal old) (turned_action op result h) h))
+  asked_by_level_turns op result stands did =
+      by_level (AskedOutside at old new op result) (Asked at old new op result)
+      (turned_asked new op result h) (unless (work_refusal old) (turned_action op result h) h)
+      (λ going outside d. asked_outside_turns op result going outside stands d)
+      (λ d. asked_turns op result stands d) did
+
+  pub cancelled_by_level_turns : (result : Result (Unit {0}) Refusal) → StandsWith at old h
+      → ByLevel old (AskedOutside at old new Cancel result) (Cancelled at old new result)
+      → StandsWith at new (if_outside old.stopped old.level (turned_asked new Cancel result h)
+      (unless (work_refusal old) (turned new Cancel no_value result h) h))
+  cancelled_by_level_turns result stands did =
+      by_level (AskedOutside at old new Cancel result) (Cancelled at old new result)
+      (turned_asked new Cancel result h)
+      (unless (work_refusal old) (turned new Cancel no_value result h) h)
+      (λ going outside d. asked_outside_turns Cancel result going outside stands d)
+      (λ d. cancelled_turns result stands d) did
+
+  -- ---- a publish outside
+
+  unpublished_turns : (t : Standing) → t.level ≡ 0 → t.view.number ≡ None
+      → history_of t.view ≡ h → (r : Refusal) → PublishWasRefused at new t r
+      → StandsWith at new (told_last new.last Publish (Some (Refused r)) h)
+  unpublished_turns t outside none same r p =
+      let w : Standing = next t (ends_call Publish (Some (Refused r)) p.number) in
+      let u : Standing = unlocked w in
+      let given = gives_told w.view w.locks in
+      idle_stands at new (told_last new.last Publish (Some (Refused r)) h) u outside p.rests
+      (between_may_open u p.between)
+      (by_last at new h (history_of t.view) u.view p.number Publish (Some (Refused r))
+      (ap (λ (f : Fields). f.last) p.rests.fields)
+      (told_history w.view u.view
+      (told_last (suc p.number) Publish (Some (Refused r)) (history_of t.view)) given
+      ((lone_calls_tell Publish (Some (Refused r)) p.number).whole t.view none)) same) refl
+
+  words_set_turn : (t : Standing) → t.level ≡ 0 → t.view.number ≡ None → history_of t.view ≡ h
+      → WasPublishedOutside at new t → StandsWith at new (told_last new.last Publish None h)
+  words_set_turn t outside none same p =
+      let w : Standing = next t (publishes (words_pending t) p.found p.number) in
+      let u : Standing = unlocked w in
+      let given = gives_told w.view w.locks in
+      idle_stands at new (told_last new.last Publish None h) u outside p.rests
+      (between_may_open u p.between)
+      (by_last at new h (history_of t.view) u.view p.number Publish None
+      (ap (λ (f : Fields). f.last) p.rests.fields)
+      (told_history w.view u.view (told_last (suc p.number) Publish None (history_of t.view)) given
+      ((publishes_tell (words_pending t) p.found p.number).whole t.view none))
+      same) refl
+
+  cut_publish_turns : (t : Standing) → t.view.number ≡ None → history_of t.view ≡ h
+      → PublishWasCut at new t → StandsWith at new (told_by new.drawn Publish None h)
+  cut_publish_turns t none same c =
+      let plan : List Step = publishes (words_pending t) c.found c.number t.view in
+      stopped_stands at new (told_by new.drawn Publish None h)
+      (ap (λ (f : Fields). f.stopped) c.fields) (record {
+        view = after_all t.view (take c.stops.made plan);
+        seen = c.stops.seen;
+        facts = facts_on_the_way t.view plan c.stops.made c.facts;
+      })
+      ((publishes_tell (words_pending t) c.found c.number).on_the_way t.view
+      c.stops.made none
+      ∙ λ i. (told_by (sym c.numbered.drawn i) Publish None (same i)).done)
+
+  -- its locks were taken, and words looked at: the call is open as it was
+  locked_open : (s : Standing) (P : Standing → Type 0) → s.view.number ≡ None
+      → history_of s.view ≡ h → (a : AfterLocks s P)
+      → (a.holds.view.number ≡ None) × (history_of a.holds.view ≡ h)
+  locked_open s P none same a =
+      let looked = told_then s.view a.view a.holds.view
+      (taken_told s (wants_to_set s) a.view a.takes)
+      (looks_told a.holds.looks a.view a.holds.view a.holds.looked) in
+      (told_open s.view a.holds.view looked none, told_history s.view a.holds.view h looked same)
+
+  published_open_turns : (s : Standing) → IsOpened s → s.level ≡ 0 → history_of s.view ≡ h
+      → (result : Result (Unit {0}) Refusal) → PublishedOpenAs at new result s
+      → StandsWith at new (turned_last new Publish result h)
+  published_open_turns s is outside same (Ok done) p =
+      let l = locked_open s _ is.number.none same p in
+      words_set_turn (moved (with_locks (locks_with s (wants_to_set s)) s) p.holds.view) outside
+      l.0 l.1 p.holds.holds
+  published_open_turns s is outside same (Err refusal.Stopped) p = ⊎_elim
+      (λ (w : WaitWasStopped at new s (wants_to_set s)).
+      stopped_stands at new (told_by new.drawn Publish None h)
+      (ap (λ (f : Fields). f.stopped) w.fields)
+      (wait_is_stopped at new s (wants_to_set s) is.facts w)
+      (ap (λ (x : LaneHistory). x.done)
+      (told_history s.view _ h (wait_told at new s (wants_to_set s) w) same)
+      ∙ sym (ap (λ d. (told_by d Publish None h).done) (ap (λ (f : Fields). f.drawn) w.fields))))
+      (λ (a : AfterLocks s (WordsSetAs at new (Err refusal.Stopped))).
+      let l = locked_open s _ is.number.none same a in
+      cut_publish_turns (moved (with_locks (locks_with s (wants_to_set s)) s) a.holds.view)
+      l.0 l.1 a.holds.holds) p
+  published_open_turns s is outside same (Err refusal.NoObject) p =
+      let tried = tried_told s (wants_to_set s) p.all p.view p.tried in
+      unpublished_turns (with_locks p.all (moved s p.view)) outside
+      (told_open s.view p.view tried is.number.none) (told_history s.view p.view h tried same)
+      refusal.NoObject p.refused
+  published_open_turns s is outside same (Err refusal.OutOfRange) p =
+      let l = locked_open s _ is.number.none same p in
+      unpublished_turns (moved (with_locks (locks_with s (wants_to_set s)) s) p.holds.view) outside
+      l.0 l.1 refusal.OutOfRange p.holds.holds.1
+  published_open_turns s is outside same (Err r) p = absurd p
+
+  published_alone_turns : (s : Standing) → s.level ≡ 0 → MayOpen s → history_of s.view ≡ h
+      → h.call ≡ [] → (result : Result (Unit {0}) Refusal) → PublishedAloneAs at new result s
+      → StandsWith at new (turned_alone new Publish result h)
+  published_alone_turns s outside may same none (Err refusal.Spent) p =
+      spent_stands at new h s outside may p same none
+  published_alone_turns s outside may same none result p =
+      published_open_turns (saw_number s p.number) p.opened outside
+      (saw_history s p.number h same none) result p.holds
+
+  pub published_outside_turns : (result : Result (Unit {0}) Refusal) → StandsWith at old h
+      → PublishedOutside at old new result
+      → StandsWith at new (if_outside old.stopped old.level (turned_alone new Publish result h) h)
+  unfolding PublishedOutside
+  published_outside_turns result stands published = by old.stopped old.level refl refl published
+    where
+      by : (stopped : Bool) (level : ℕ) → old.stopped ≡ stopped → old.level ≡ level
+          → PublishedBy stopped level at old new result
+          → StandsWith at new (if_outside stopped level (turned_alone new Publish result h) h)
+      by true level going some p = same_stands at old new h stands p.1
+      by false (suc n) going some p = same_stands at old new h stands p.1
+      by false zero going outside p =
+          let here = stands.between going outside in
+          let s = here.0.standing in
+          published_alone_turns s
+          (sym (ap (λ (f : Fields). f.level) here.0.rests.fields) ∙ outside) here.0.between here.1
+          here.2 result (p s here.0.rests here.0.between)
+
+  -- ---- the end of its work
+
+  pub finished_has_facts : (result : Result (Unit {0}) Refusal) → StandsWith at old h
+      → (old.stopped ≡ false → old.level ≡ 0) → Finished at old new result
+      → (x : IsLaneStopped at new) × (calls_ended x.view ≡ h.done)
+  unfolding Finished
+  finished_has_facts result stands outside finished = by old.stopped refl finished where
+    by : (stopped : Bool) → old.stopped ≡ stopped → FinishedSo stopped at old new result
+        → (x : IsLaneStopped at new) × (calls_ended x.view ≡ h.done)
+    by true is f = subst
+        (λ (lane : Lane M). (x : IsLaneStopped at lane) × (calls_ended x.view ≡ h.done))
+        (sym f.1) (stands.stopped is)
+    by false is f =
+        let here = stands.between is (outside is) in (
+          record {
+            view = here.0.standing.view;
+            seen = (f.1 here.0.standing here.0.rests).memory;
+            facts = may_open_facts here.0.standing here.0.between;
+          },
+          ap (λ (x : LaneHistory). x.done) here.1,
+        )
+
+-- ---- SO IT STANDS, with whatever history
+
+module _ {M : Type 0} (at : M → View → Type 0) (old new : Lane M) where
   pub asked_by_level_stands : (op : Operation) (result : Result (Unit {0}) Refusal)
       → Stands at old
       → ByLevel old (AskedOutside at old new op result) (Asked at old new op result)
       → Stands at new
   asked_by_level_stands op result stands did =
-      by_level (AskedOutside at old new op result) (Asked at old new op result)
-      (λ going outside d. asked_outside_stands op result going outside stands d)
-      (λ d. asked_stands op result stands d) did
+      (_, asked_by_level_turns at old new stands.0 op result stands.1 did)
 
-  pub cancelled_by_level_stands : (op : Operation) (result : Result (Unit {0}) Refusal)
-      → Stands at old
-      → ByLevel old (AskedOutside at old new op result) (Cancelled at old new result)
+  pub cancelled_by_level_stands : (result : Result (Unit {0}) Refusal) → Stands at old
+      → ByLevel old (AskedOutside at old new Cancel result) (Cancelled at old new result)
       → Stands at new
-  cancelled_by_level_stands op result stands did =
-      by_level (AskedOutside at old new op result) (Cancelled at old new result)
-      (λ going outside d. asked_outside_stands op result going outside stands d)
-      (λ d. cancelled_stands result stands d) did
-
-  -- ---- a publish outside
-
-  unpublished_stands : (t : Standing) → t.level ≡ 0 → (r : Refusal)
-      → PublishWasRefused at new t r → Stands at new
-  unpublished_stands t outside r p =
-      let u : Standing = unlocked (next t (ends_call Publish (Some (Refused r)) p.number)) in
-      idle_stands at new u outside p.rests (between_may_open u p.between)
-
-  words_set_stand : (t : Standing) → t.level ≡ 0 → WasPublishedOutside at new t → Stands at new
-  words_set_stand t outside w =
-      let u : Standing = unlocked (next t (publishes (words_pending t) w.found w.number)) in
-      idle_stands at new u outside w.rests (between_may_open u w.between)
-
-  cut_publish_stands : (t : Standing) → PublishWasCut at new t → Stands at new
-  cut_publish_stands t c =
-      let plan : List Step = publishes (words_pending t) c.found c.number t.view in
-      stopped_stands at new (ap (λ (f : Fields). f.stopped) c.fields) (record {
-        view = after_all t.view (take c.stops.made plan);
-        seen = c.stops.seen;
-        facts = facts_on_the_way t.view plan c.stops.made c.facts;
-      })
-
-  published_open_stands : (s : Standing) → IsOpened s → s.level ≡ 0
-      → (result : Result (Unit {0}) Refusal) → PublishedOpenAs at new result s → Stands at new
-  published_open_stands s is outside (Ok done) p =
-      words_set_stand (moved (with_locks (locks_with s (wants_to_set s)) s) p.holds.view) outside
-      p.holds.holds
-  published_open_stands s is outside (Err refusal.Stopped) p = ⊎_elim
-      (λ (w : WaitWasStopped at new s (wants_to_set s)).
-      stopped_stands at new (ap (λ (f : Fields). f.stopped) w.fields)
-      (wait_is_stopped at new s (wants_to_set s) is.facts w))
-      (λ (a : AfterLocks s (WordsSetAs at new (Err refusal.Stopped))).
-      cut_publish_stands (moved (with_locks (locks_with s (wants_to_set s)) s) a.holds.view)
-      a.holds.holds) p
-  published_open_stands s is outside (Err refusal.NoObject) p =
-      unpublished_stands (with_locks p.all (moved s p.view)) outside refusal.NoObject p.refused
-  published_open_stands s is outside (Err refusal.OutOfRange) p =
-      unpublished_stands (moved (with_locks (locks_with s (wants_to_set s)) s) p.holds.view) outside
-      refusal.OutOfRange p.holds.holds.1
-  published_open_stands s is outside (Err r) p = absurd p
-
-  published_alone_stands : (s : Standing) → s.level ≡ 0 → MayOpen s
-      → (result : Result (Unit {0}) Refusal) → PublishedAloneAs at new result s → Stands at new
-  published_alone_stands s outside may (Err refusal.Spent) p = spent_stands at new s outside may p
-  published_alone_stands s outside may result p =
-      published_open_stands (saw_number s p.number) p.opened outside result p.holds
+  cancelled_by_level_stands result stands did =
+      (_, cancelled_by_level_turns at old new stands.0 result stands.1 did)
 
   pub published_outside_stands : (result : Result (Unit {0}) Refusal) → Stands at old
       → PublishedOutside at old new result → Stands at new
-  unfolding PublishedOutside
-  published_outside_stands result stands published = by old.stopped old.level refl refl published
-    where
-      by : (stopped : Bool) (level : ℕ) → old.stopped ≡ stopped → old.level ≡ level
-          → PublishedBy stopped level at old new result → Stands at new
-      by true level going some p = same_stands at old new stands p.1
-      by false (suc n) going some p = same_stands at old new stands p.1
-      by false zero going outside p =
-          let here = stands.between going outside in
-          let s = here.standing in
-          published_alone_stands s
-          (sym (ap (λ (f : Fields). f.level) here.rests.fields) ∙ outside) here.between result
-          (p s here.rests here.between)
-
-  -- ---- the end of its work
-
-  pub finished_has_facts : (result : Result (Unit {0}) Refusal) → Stands at old
-      → (old.stopped ≡ false → IsLaneBetween at old) → Finished at old new result
-      → IsLaneStopped at new
-  unfolding Finished
-  finished_has_facts result stands idle finished = by old.stopped refl finished where
-    by : (stopped : Bool) → old.stopped ≡ stopped → FinishedSo stopped at old new result
-        → IsLaneStopped at new
-    by true is f = subst (IsLaneStopped at) (sym f.1) (stands.stopped is)
-    by false is f =
-        let here = idle is in record {
-          view = here.standing.view;
-          seen = (f.1 here.standing here.rests).memory;
-          facts = may_open_facts here.standing here.between;
-        }
+  published_outside_stands result stands did =
+      (_, published_outside_turns at old new stands.0 result stands.1 did)

@@ -1,22 +1,22 @@
 ghost use Rattle.pm_action.specs.Standing.{
-  CancelsKeepStanding,
+  CancelsTurn,
   FinishedLanesHaveFacts,
-  PublishesKeepStanding,
-  SetsKeepStanding,
+  PublishesTurn,
+  SetsTurn,
 };
 
 use pm_world::LawfulMem;
 
-/// A law: a lane that stands does so after each of these calls, inside a transaction and outside,
-/// whatever the call returns. No code runs.
+/// A law: a lane that stands with a history does so after each of these calls, inside a transaction
+/// and outside, whatever the call returns; and what it returned turns the history. No code runs.
 pub fn lanes_stand<M: LawfulMem>()
-    ensures set_value { SetsKeepStanding M.at }
-    ensures cancel { CancelsKeepStanding M.at }
-    ensures publish { PublishesKeepStanding M.at }
+    ensures set_value { SetsTurn M.at }
+    ensures cancel { CancelsTurn M.at }
+    ensures publish { PublishesTurn M.at }
 {}
 
-/// A law: where a lane that stands came to the end of its work, or stopped before, the entries of its
-/// history have their facts. No code runs.
+/// A law: where a lane that stands with a history came to the end of its work, or stopped before, the
+/// entries of its view have their facts, and are the calls of the history. No code runs.
 pub fn finished_lanes_have_facts<M: LawfulMem>()
     ensures { FinishedLanesHaveFacts M.at }
 {}

@@ -1,5 +1,5 @@
 -- What committing the outermost level leaves of its lane, from how its parts leave it.
-use Rattle.std.proofs.Common.{◌≡◌, ℕ, suc, ◌+◌, inl, inr, ⊎_elim, List, [], refl, sym, ap, ◌∙◌, subst, arith, rules, None, Some, Result, Ok, Err, IsErr}
+use Rattle.std.proofs.Common.{◌≡◌, ℕ, suc, ◌+◌, false, List, [], refl, sym, ap, ◌∙◌, subst, arith, rules, None, Result, Ok, Err, IsErr}
 use Rattle.pm_memory.specs.Runs.{Stops}
 use Rattle.pm_memory.specs.declared.lane_mem.Stopped.{Stopped}
 use Rattle.pm_model.specs.declared.stage.Stage.TheVariants as stage
@@ -16,14 +16,16 @@ use Rattle.pm_plan.proofs.Plans.{after_all-append}
 use Rattle.pm_undo.specs.Records.{with_log}
 use Rattle.pm_undo.specs.Undoing.{KeepsLog}
 use Rattle.pm_call.specs.At.{At}
-use Rattle.pm_call.specs.Commits.{Committed, CommittedArePast, KnowsEntries, LeavesCommitted}
+use Rattle.pm_call.specs.Commits.{CommitCut, Committed, CommittedArePast, KnowsEntries, LeavesCommitted}
 use Rattle.pm_call.specs.Did.{IsAtSo, IsOver, next}
-use Rattle.pm_call.specs.Finishing.{CanFinish, Finished, HasNumber, StandsAs, numbered}
+use Rattle.pm_call.specs.Finishing.{CanFinish, Finished, IsCutShort, StandsAs, TellsNumber, numbered}
 use Rattle.pm_call.specs.Plans.{commits, finishes}
 use Rattle.pm_call.specs.Stages.{Leaves, unlisted}
+use Rattle.pm_call.proofs.FinishedLanes.{cut_silent, stops_silent, stops_then}
 use Rattle.pm_call.proofs.LoggedCommits.{can_finish, outermost_levels_may_be_committed}
 use Rattle.pm_call.proofs.OverCalls.{over_as}
 use Rattle.pm_call.proofs.RollbackLanes.{keeps_at, ran_err, ran_then}
+use Rattle.pm_call.proofs.SilentPlans.{silent_persists}
 use Rattle.pm_call.proofs.TakenBack.{persisted_log}
 
 -- the lane's fields after it, from those before it
@@ -85,44 +87,61 @@ module _ {M : Type 0} (at : M → View → Type 0) (old : Lane M) where
         → fields_of new ≡ record (fields_at stage.Work s) { generation = new.log.generation; records = new.log.records.items; entries = new.entries.items; drawn = new.drawn; last = new.last }
     cut_fields new s works e = e ∙ ap (λ (g : Fields). record g { generation = new.log.generation; records = new.log.records.items; entries = new.entries.items; drawn = new.drawn; last = new.last }) works.fields
 
+    -- it tells its number as it begins
+    tells : (s : Standing) → Works at old s → At s → TellsNumber old s.view
+    tells s works is = record {
+      drawn = ap (λ (f : Fields). f.drawn) works.fields ∙ sym is.number.none;
+      last = ap (λ (f : Fields). f.last) works.fields;
+    }
+
+    cut_so : (new : Lane M) (s : Standing) (found : ℕ → ℕ) (n : ℕ) → Works at old s → At s
+        → LeavesCommitted s found n
+        → Stops (λ w. at new.memory w × IsCutShort old new s.view w) s.view
+        (commits s.entries found n s.view)
+        → CommitCut at new s false
+    cut_so new s found n works is law cut = record {
+      found = found;
+      number = n;
+      ready = law.ready;
+      stops = record {
+        made = cut.made;
+        fewer = cut.fewer;
+        seen = cut.seen.0;
+        stopped = cut.stopped;
+        due = cut.due;
+      };
+      numbered = cut.seen.1.numbered (tells s works is);
+      fields = cut_fields new s works cut.seen.1.same;
+      facts = law.over.facts;
+    }
+
     pub persist_cut : (stopped : Stopped) (result : Result (Unit {0}) Stopped) → IsErr result → Runs {T = Unit {0}} (at old.memory) (at mem) persists_all (Err stopped) → Committed at old (record old { memory = mem }) result
     unfolding Committed Runs
     persist_cut stopped (Ok done) error runs s works is one knows = absurd (search rules)
     persist_cut stopped (Err e) error runs s works is one knows =
+        let new : Lane M = record old { memory = mem } in
         let law : LeavesCommitted s (λ i. 0) 0 = outermost_levels_may_be_committed s (λ i. 0) 0 is one knows in
-        record {
-          found = λ i. 0;
-          number = 0;
-          ready = law.ready;
-          stops = ran_err (at mem) s.view persists_all (finishes s.entries (λ i. 0) 0) stopped law.ready (runs s.view works.memory (persists_all_lawful s.view).0);
-          numbered = inl (ap (λ (f : Fields). f.drawn) works.fields, ap (λ (f : Fields). f.last) works.fields);
-          fields = cut_fields (record old { memory = mem }) s works refl;
-          facts = law.over.facts;
-        }
-
-    number_so : (new : Lane M) (s : Standing) (n : ℕ) → Works at old s → HasNumber new old.drawn old.last n → HasNumber new None (last_number s.view.entries) n
-    number_so new s n works h = ⊎_elim
-        (λ (z : (new.drawn ≡ old.drawn) × (new.last ≡ old.last)). inl (z.0 ∙ ap (λ (f : Fields). f.drawn) works.fields, z.1 ∙ ap (λ (f : Fields). f.last) works.fields))
-        (λ (z : (new.drawn ≡ Some (n + 1)) × (new.last ≡ n + 1)). inr z)
-        h
+        cut_so new s (λ i. 0) 0 works is law
+        (ran_err (λ w. at mem w × IsCutShort old new s.view w) s.view persists_all
+        (finishes s.entries (λ i. 0) 0) stopped law.ready
+        (stops_silent old new at s.view (persists_all s.view) (silent_persists s.view)
+        (runs s.view works.memory (persists_all_lawful s.view).0) refl))
 
     pub finish_cut : (new : Lane M) (stopped : Stopped) (result : Result (Unit {0}) Stopped) → IsErr result → IsMade (at old.memory) (at mem) persists_all → Finished at (record old { memory = mem }) new (Err stopped) → Committed at old new result
     unfolding Committed Finished
     finish_cut new stopped (Ok done) error runs finished s works is one knows = absurd (search rules)
     finish_cut new stopped (Err e) error runs finished s works is one knows =
         let p : View = after_all s.view (persists_all s.view) in
+        let mid : Lane M = record old { memory = mem } in
         let m = finished.2 p (persisted runs s works is) (may_finish s works is one knows) in
         let law : LeavesCommitted s finished.0 finished.1 = outermost_levels_may_be_committed s finished.0 finished.1 is one knows in
-        record {
-          found = finished.0;
-          number = finished.1;
-          ready = law.ready;
-          stops = ran_then {T = Unit {0}} (at new.memory) s.view persists_all (finishes s.entries finished.0 finished.1) (Err stopped) law.ready
-              (subst (λ (es : List Redo). Stops (at new.memory) p (finishes es finished.0 finished.1 p)) (entries_are s works) m.0);
-          numbered = number_so new s finished.1 works m.1.number;
-          fields = cut_fields new s works m.1.same;
-          facts = law.over.facts;
-        }
+        cut_so new s finished.0 finished.1 works is law
+        (ran_then {T = Unit {0}} (λ w. at new.memory w × IsCutShort old new s.view w) s.view
+        persists_all (finishes s.entries finished.0 finished.1) (Err stopped) law.ready
+        (stops_then old new at mid s.view p (finishes s.entries finished.0 finished.1 p)
+        (cut_silent old mid s.view (persists_all s.view) (silent_persists s.view) refl)
+        (subst (λ (es : List Redo). Stops (λ w. at new.memory w × IsCutShort mid new p w) p
+        (finishes es finished.0 finished.1 p)) (entries_are s works) m)))
 
 -- ---- A CALL THAT WAS COMMITTED is past its work
 pub committed_are_past : {M : Type 0} (at : M → View → Type 0) → CommittedArePast at

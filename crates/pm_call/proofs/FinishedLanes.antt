@@ -1,14 +1,16 @@
 -- How the parts of a commit leave their lane, from how their own parts leave it.
-use Rattle.std.proofs.Common.{◌≡◌, ◌≢◌, ℕ, zero, suc, ◌+◌, ◌^◌, ◌<◌, ◌==◌, inl, inr, cond, List, [], ◌∷◌, ◌++◌, length, map, refl, sym, ap, ◌∙◌, subst, arith, rules, None, Some, Result, Ok, Err, IsErr}
+use Rattle.std.proofs.Common.{◌≡◌, ◌≢◌, ℕ, suc, ◌+◌, ◌^◌, ◌<◌, ◌==◌, cond, List, [], ◌∷◌, length, map, take, refl, sym, ap, ◌∙◌, subst, arith, rules, None, Some, Result, Ok, Err, IsErr}
 use Rattle.std.proofs.lemmas.Bool.{cond-false, ne_eqb}
+use Rattle.pm_memory.specs.Runs.{Stops}
 use Rattle.pm_memory.specs.declared.lane_mem.Stopped.{Stopped}
 use Rattle.pm_objects.specs.declared.calls.Operation.{Operation}
 use Rattle.pm_objects.specs.declared.calls.Operation.TheVariants.{Commit}
 use Rattle.pm_record.specs.declared.redo.Redo.{Redo}
 use Rattle.pm_view.specs.Log.{Idle, Recorded, next_log}
+use Rattle.pm_view.specs.Steps.{Step}
 use Rattle.pm_view.specs.View.{View}
 use Rattle.pm_view.specs.Views.{after_all}
-use Rattle.pm_world.specs.LaneFields.{Fields, IsSeenAs, fields_of, kept_of}
+use Rattle.pm_world.specs.LaneFields.{Fields, IsSeenAs, fields_of, kept_of, last_number}
 use Rattle.pm_world.specs.declared.lane.Lane.{Lane}
 use Rattle.pm_plan.specs.Plans.{IsMade, Ready, Runs, in_turn, one}
 use Rattle.pm_plan.proofs.Plans.{after_all-append, ready_both}
@@ -27,6 +29,7 @@ use Rattle.pm_call.specs.Finishing.{CanEndRecords, CanFinish, CanLogCall, CanNum
 use Rattle.pm_call.specs.GivenUp.{MayEnd, MovesLog}
 use Rattle.pm_call.specs.Plans.{ends_call, ends_records, finishes, logs_entries, performs_call}
 use Rattle.pm_call.proofs.RollbackLanes.{ran_err, ran_then, records_so, same_moves}
+use Rattle.pm_call.proofs.SilentPlans.{AreSilent, IsAsTold, silent_ends_records, silent_log, silent_performs, silent_so_far, silent_steps}
 
 pub no_items : {A : Type 0} (xs : List A) → length xs ≡ 0 → xs ≡ []
 no_items [] e = refl
@@ -83,29 +86,92 @@ same_shape : (op : Operation) (v : View) (n : ℕ) → (after_all v (ends_call o
 unfolding in_turn one after_all
 same_shape op v n = refl
 
+-- ---- CUT SHORT, on the way from one view to another
+
+module _ {M : Type 0} (old new : Lane M) where
+  -- of the fields these may be others
+  abbrev cut_of : Fields → Fields
+  cut_of f = record f {
+    generation = new.log.generation;
+    records = new.log.records.items;
+    entries = new.entries.items;
+    drawn = new.drawn;
+    last = new.last;
+  }
+
+  -- nothing was told, and no number was taken
+  cut_untold : (v w : View) → IsAsTold v w → new.drawn ≡ old.drawn → new.last ≡ old.last
+      → fields_of new ≡ cut_of (fields_of old) → IsCutShort old new v w
+  cut_untold v w told drawn last same = record {
+    numbered = λ tells. record {
+      drawn = drawn ∙ (tells.drawn ∙ sym told.number);
+      last = last ∙ (tells.last ∙ ap last_number (sym told.entries));
+    };
+    same = same;
+  }
+
+  -- all of these steps were made
+  pub cut_silent : (v : View) (steps : List Step) → AreSilent steps
+      → fields_of new ≡ fields_of old → IsCutShort old new v (after_all v steps)
+  cut_silent v steps silent same = cut_untold v (after_all v steps) (silent_steps v steps silent)
+      (ap (λ (f : Fields). f.drawn) same) (ap (λ (f : Fields). f.last) same) (ap cut_of same)
+
+  -- once the call took its number
+  cut_drawn : (op : Operation) (n : ℕ) (v : View)
+      → new ≡ record old { memory = new.memory; drawn = Some (n + 1); last = n + 1 }
+      → IsCutShort old new v (after_all v (ends_call op None n v))
+  unfolding in_turn one after_all
+  cut_drawn op n v same =
+      let more : n + 1 ≡ suc n = omega arith in record {
+        numbered = λ tells. record {
+          drawn = ap (λ (l : Lane M). l.drawn) same ∙ ap (λ k. Some k) more;
+          last = ap (λ (l : Lane M). l.last) same ∙ more;
+        };
+        same = ap (λ (l : Lane M). cut_of (fields_of l)) same;
+      }
+
+  -- a part before, and a part after
+  cut_then : (mid : Lane M) (v w z : View) → IsCutShort old mid v w → IsCutShort mid new w z
+      → IsCutShort old new v z
+  cut_then mid v w z first more = record {
+    numbered = λ tells. more.numbered (first.numbered tells);
+    same = more.same ∙ ap cut_of first.same;
+  }
+
+  module _ (at : M → View → Type 0) where
+    -- it stopped in silent steps, with its fields as before
+    pub stops_silent : (v : View) (steps : List Step) → AreSilent steps
+        → Stops (at new.memory) v steps → fields_of new ≡ fields_of old
+        → Stops (λ w. at new.memory w × IsCutShort old new v w) v steps
+    stops_silent v steps silent stops same = record {
+      made = stops.made;
+      fewer = stops.fewer;
+      seen = (
+        stops.seen,
+        cut_untold v (after_all v (take stops.made steps))
+            (silent_so_far v steps stops.made silent) (ap (λ (f : Fields). f.drawn) same)
+            (ap (λ (f : Fields). f.last) same) (ap cut_of same),
+      );
+      stopped = stops.stopped;
+      due = stops.due;
+    }
+
+    -- it stopped after a part that was made
+    pub stops_then : (mid : Lane M) (v w : View) (steps : List Step) → IsCutShort old mid v w
+        → Stops (λ z. at new.memory z × IsCutShort mid new w z) w steps
+        → Stops (λ z. at new.memory z × IsCutShort old new v z) w steps
+    stops_then mid v w steps first stops = record {
+      made = stops.made;
+      fewer = stops.fewer;
+      seen = (
+        stops.seen.0,
+        cut_then mid v w (after_all w (take stops.made steps)) first stops.seen.1,
+      );
+      stopped = stops.stopped;
+      due = stops.due;
+    }
+
 module _ {M : Type 0} (at : M → View → Type 0) (old : Lane M) where
-  -- ---- cut short
-  cut_fields : (new mid : Lane M) → fields_of new ≡ fields_of mid → fields_of new ≡ record (fields_of mid) { generation = new.log.generation; records = new.log.records.items; entries = new.entries.items; drawn = new.drawn; last = new.last }
-  cut_fields new mid e = ap (λ (g : Fields). record g { generation = new.log.generation; records = new.log.records.items; entries = new.entries.items; drawn = new.drawn; last = new.last }) e
-
-  cut_none : (new : Lane M) (n : ℕ) → fields_of new ≡ fields_of old → IsCutShort old new n
-  cut_none new n e = record { number = inl (ap (λ (f : Fields). f.drawn) e, ap (λ (f : Fields). f.last) e); same = cut_fields new old e }
-
-  cut_numbered : (mid new : Lane M) (n : ℕ) → mid ≡ record old { memory = mid.memory; drawn = Some (n + 1); last = n + 1 } → fields_of new ≡ fields_of mid → IsCutShort old new n
-  cut_numbered mid new n same e = record {
-    number = inr (ap (λ (f : Fields). f.drawn) e ∙ ap (λ (l : Lane M). l.drawn) same, ap (λ (f : Fields). f.last) e ∙ ap (λ (l : Lane M). l.last) same);
-    same = cut_fields new mid e ∙ ap (λ (l : Lane M). record (fields_of l) { generation = new.log.generation; records = new.log.records.items; entries = new.entries.items; drawn = new.drawn; last = new.last }) same;
-  }
-
-  cut_after : (mid new : Lane M) (n : ℕ) → mid ≡ record old { memory = mid.memory; entries = mid.entries } → IsCutShort mid new n → IsCutShort old new n
-  cut_after mid new n same cut = record {
-    number = Rattle.std.proofs.Common.⊎_elim
-        (λ (z : (new.drawn ≡ mid.drawn) × (new.last ≡ mid.last)). inl (z.0 ∙ ap (λ (l : Lane M). l.drawn) same, z.1 ∙ ap (λ (l : Lane M). l.last) same))
-        (λ (z : (new.drawn ≡ Some (n + 1)) × (new.last ≡ n + 1)). inr z)
-        cut.number;
-    same = cut.same ∙ ap (λ (l : Lane M). record (fields_of l) { generation = new.log.generation; records = new.log.records.items; entries = new.entries.items; drawn = new.drawn; last = new.last }) same;
-  }
-
   -- ---- records end
   some_records : (v : View) → KeepsLog at old v → length old.log.records.items ≢ 0 → v.log.records ≢ []
   some_records v keeps some e = some (ap length (records_so at old v keeps) ∙ ap (λ rs. length (map (kept_of v.fixed.shape) rs)) e)
@@ -163,6 +229,17 @@ module _ {M : Type 0} (at : M → View → Type 0) (old : Lane M) where
     pub call_stands : StandsAs (KeepsCall at old) (λ v. CanNumber v op CanSeal) → StandsAs (KeepsCall at mid) CanSeal
     call_stands is = (after_all is.0 (ends_call op None n is.0), call_numbered is.0 is.1 (is.2.ready n), is.2.then n)
 
+    -- it stopped in silent steps after that
+    stops_numbered : (new : Lane M) (v : View) (steps : List Step) → AreSilent steps
+        → Stops (at new.memory) (after_all v (ends_call op None n v)) steps
+        → fields_of new ≡ fields_of mid
+        → Stops (λ z. at new.memory z × IsCutShort old new v z)
+        (after_all v (ends_call op None n v)) steps
+    stops_numbered new v steps silent stops fields =
+        let w : View = after_all v (ends_call op None n v) in
+        stops_then old new at mid v w steps (cut_drawn old mid op n v same)
+        (stops_silent mid new at w steps silent stops fields)
+
     pub finished_records : (new : Lane M) (result : Result (Unit {0}) Stopped) → old.entries.items ≡ [] → EndedRecords at mid new result → FinishedRecords at op old new result
     unfolding FinishedRecords EndedRecords in_turn
     finished_records new (Ok done) empty ended = (
@@ -181,10 +258,12 @@ module _ {M : Type 0} (at : M → View → Type 0) (old : Lane M) where
       n,
       λ v keeps can.
           let w : View = after_all v (ends_call op None n v) in
-          let m = ended w (keeps_numbered v keeps (can.ready n)) (can.then n) in (
-            ran_then {T = Unit {0}} (at new.memory) v (ends_call op None n) ends_records (Err stopped) (ready_both v (ends_call op None n v) (ends_records w) (can.ready n) (ends_ready w (can.then n))) m.0,
-            cut_numbered mid new n same m.1,
-          ),
+          let m = ended w (keeps_numbered v keeps (can.ready n)) (can.then n) in
+          ran_then {T = Unit {0}} (λ z. at new.memory z × IsCutShort old new v z) v
+          (ends_call op None n) ends_records (Err stopped)
+          (ready_both v (ends_call op None n v) (ends_records w) (can.ready n)
+          (ends_ready w (can.then n)))
+          (stops_numbered new v (ends_records w) (silent_ends_records w) m.0 m.1),
     )
 
     pub performed_call : (new : Lane M) (result : Result (Unit {0}) Stopped) → PerformedEntries at mid new result → PerformedCall at op old new result
@@ -205,10 +284,13 @@ module _ {M : Type 0} (at : M → View → Type 0) (old : Lane M) where
       n,
       λ v keeps can.
           let w : View = after_all v (ends_call op None n v) in
-          let m = performed.1 w (call_numbered v keeps (can.ready n)) (can.then n) in (
-            ran_then {T = Unit {0}} (at new.memory) v (ends_call op None n) (performs performed.0) (Err stopped) (ready_both v (ends_call op None n v) (performs performed.0 w) (can.ready n) (perform_lawful w performed.0 (can.then n)).0) m.0,
-            cut_numbered mid new n same m.1,
-          ),
+          let m = performed.1 w (call_numbered v keeps (can.ready n)) (can.then n) in
+          ran_then {T = Unit {0}} (λ z. at new.memory z × IsCutShort old new v z) v
+          (ends_call op None n) (performs performed.0) (Err stopped)
+          (ready_both v (ends_call op None n v) (performs performed.0 w) (can.ready n)
+          (perform_lawful w performed.0 (can.then n)).0)
+          (stops_numbered new v (performs performed.0 w) (silent_performs performed.0 w) m.0
+          m.1),
     )
 
   -- ---- entries are performed
@@ -260,6 +342,14 @@ module _ {M : Type 0} (at : M → View → Type 0) (old : Lane M) where
     unfolding Logged
     logged_same logged v may = (logged v may).1
 
+    logged_cut : Logged at old.log.generation old mid (Ok tt) → (v : View) → MayLog at old old.log.generation v → IsCutShort old mid v (after_all v (writes_log old.entries.items v))
+    logged_cut logged v may =
+        let same = logged_same logged v may in
+        cut_untold old mid v (after_all v (writes_log old.entries.items v))
+        (silent_steps v (writes_log old.entries.items v) (silent_log old.entries.items v))
+        (ap (λ (l : Lane M). l.drawn) same) (ap (λ (l : Lane M). l.last) same)
+        (ap (λ (l : Lane M). cut_of old mid (fields_of l)) same)
+
     pub logged_stands : StandsAs (MayLog at old old.log.generation) (λ v. CanLogCall v op old.entries.items) → Logged at old.log.generation old mid (Ok tt) → StandsAs (KeepsCall at mid) (λ v. CanNumber v op CanSeal)
     logged_stands is logged = (after_all is.0 (writes_log old.entries.items is.0), logged_keeps logged is.0 is.1 is.2, is.2.numbers)
 
@@ -281,10 +371,12 @@ module _ {M : Type 0} (at : M → View → Type 0) (old : Lane M) where
       performed.1,
       λ v may can.
           let w : View = after_all v (writes_log old.entries.items v) in
-          let m = performed.2 w (logged_keeps logged v may can) can.numbers in (
-            ran_then {T = Unit {0}} (at new.memory) v (writes_log old.entries.items) (performs_call op performed.0 performed.1) (Err stopped) (logged_ready op v old.entries.items performed.0 performed.1 can) m.0,
-            cut_after mid new performed.1 (logged_same logged v may) m.1,
-          ),
+          let m = performed.2 w (logged_keeps logged v may can) can.numbers in
+          ran_then {T = Unit {0}} (λ z. at new.memory z × IsCutShort old new v z) v
+          (writes_log old.entries.items) (performs_call op performed.0 performed.1)
+          (Err stopped) (logged_ready op v old.entries.items performed.0 performed.1 can)
+          (stops_then old new at mid v w (performs_call op performed.0 performed.1 w)
+          (logged_cut logged v may) m),
     )
 
     pub logged_err : (stopped : Stopped) (result : Result (Unit {0}) Stopped) → IsErr result → Logged at old.log.generation old mid (Err stopped) → FinishedEntries at op old mid result
@@ -293,10 +385,13 @@ module _ {M : Type 0} (at : M → View → Type 0) (old : Lane M) where
     logged_err stopped (Err e) error logged = (
       (λ i. 0),
       0,
-      λ v may can. let r = logged v may in (
-        ran_err (at mid.memory) v (writes_log old.entries.items) (performs_call op (λ i. 0) 0) stopped (logged_ready op v old.entries.items (λ i. 0) 0 can) r.0,
-        cut_none mid 0 (ap fields_of r.1),
-      ),
+      λ v may can.
+          let r = logged v may in
+          ran_err (λ w. at mid.memory w × IsCutShort old mid v w) v (writes_log old.entries.items)
+          (performs_call op (λ i. 0) 0) stopped
+          (logged_ready op v old.entries.items (λ i. 0) 0 can)
+          (stops_silent old mid at v (writes_log old.entries.items v)
+          (silent_log old.entries.items v) r.0 (ap fields_of r.1)),
     )
 
   -- ---- the call is finished

@@ -77,8 +77,11 @@ pub mod PublicationFacts
 pub mod LonePublications
 pub mod SilentPlans
 pub mod ToldPlans
+pub mod ToldLooks
 pub mod RefusedPublishes
 pub mod WordsSet
 pub mod LookedWords
+pub mod StoppedNumbers
 pub mod StoppedLanes
 pub mod Standing
+pub mod NewLanes

@@ -5,6 +5,7 @@ use Rattle.std.specs.List.{AllByRecursion}
 use Rattle.std.proofs.lemmas.Bool.{both_ways}
 use Rattle.pm_layout.specs.Areas.{line_of_slot, word_of_entry, word_of_generation, word_of_seal}
 use Rattle.pm_layout.specs.declared.shape.Shape.{Shape}
+use Rattle.pm_model.specs.Transaction.{covered_words}
 use Rattle.pm_record.specs.Redo.{redo_words}
 use Rattle.pm_record.specs.declared.redo.Op.{Op}
 use Rattle.pm_record.specs.declared.redo.Op.TheVariants as op
@@ -15,7 +16,7 @@ use Rattle.pm_view.specs.declared.occ.Occ.{Occ}
 use Rattle.pm_view.specs.Steps.Step.{Load, Store, Or, And, Flush, Drain, TakeWrite, TakeRead, Raise, Give, ZoneTry, ZoneGive, Occupied, Occupy, Vacate, Draw, NumberSeen, StopSeen, SetStop, Tell}
 use Rattle.pm_view.specs.View.{View}
 use Rattle.pm_view.specs.Views.{after, after_all, occupied}
-use Rattle.pm_plan.specs.Plans.{Plan, drains, flushes, in_turn, looks, makes_room, nothing, one, persists, persists_all, repeated, stores, stores_from, ors, ands}
+use Rattle.pm_plan.specs.Plans.{Plan, drains, flushes, in_turn, known_word, looks, makes_room, nothing, one, persists, persists_all, repeated, stores, stores_from, ors, ands}
 use Rattle.pm_undo.specs.Plans.{ends_word, logs, logs_here, looks_at, looks_first, looks_from, puts_back, records_all, restores, restores_record, retires, snapshots, writes_all, writes_record, writes_records, writes_slot}
 use Rattle.pm_undo.specs.Records.{kept_by, kept_in, record_at, slot_of}
 use Rattle.pm_world.specs.declared.lane.KeptRecord.{KeptRecord}
@@ -23,6 +24,8 @@ use Rattle.pm_undo.specs.Spans.{plan_of, span_at}
 use Rattle.pm_undo.specs.declared.spans.Span.{Span}
 use Rattle.pm_redo.specs.Entries.{ending, entry_at, listed_entries}
 use Rattle.pm_redo.specs.Plans.{applies, applies_all, applies_each, applies_entry, clears, does, ends_entries, performs, seals, writes_entries, writes_log, writes_pair, writes_pairs, writes_seal}
+use Rattle.pm_crash.specs.Writes.{written_word}
+use Rattle.pm_call.specs.Plans.{ends_records, takes_back, writes_word, writes_words}
 
 -- a step that tells nothing, takes no number, and opens no call
 abbrev pub is_silent : Step → Bool
@@ -40,8 +43,15 @@ pub record IsAsTold (v w : View) : Type 0 where
   pub entries : w.entries ≡ v.entries
   pub number : w.number ≡ v.number
 
-told_same : (v : View) → IsAsTold v v
+pub told_same : (v : View) → IsAsTold v v
 told_same v = record { call = refl; entries = refl; number = refl }
+
+pub told_then : (u v w : View) → IsAsTold u v → IsAsTold v w → IsAsTold u w
+told_then u v w one more = record {
+  call = more.call ∙ one.call;
+  entries = more.entries ∙ one.entries;
+  number = more.number ∙ one.number;
+}
 
 occupied_same : (won : Bool) (v : View) (at : Occ) (bits : ℕ)
     → IsAsTold v (occupied won v at bits)
@@ -76,14 +86,17 @@ pub silent_steps : (v : View) (steps : List Step) → AreSilent steps
     → IsAsTold v (after_all v steps)
 unfolding after_all
 silent_steps v [] are = told_same v
-silent_steps v (s ∷ steps) are =
-    let one = silent_step v s are.0 in
-    let more = silent_steps (after v s) steps are.1 in
-    record {
-      call = more.call ∙ one.call;
-      entries = more.entries ∙ one.entries;
-      number = more.number ∙ one.number;
-    }
+silent_steps v (s ∷ steps) are = told_then v (after v s) (after_all (after v s) steps)
+    (silent_step v s are.0) (silent_steps (after v s) steps are.1)
+
+-- and so do the first of them
+pub silent_so_far : (v : View) (steps : List Step) (k : ℕ) → AreSilent steps
+    → IsAsTold v (after_all v (take k steps))
+unfolding after_all
+silent_so_far v steps zero are = told_same v
+silent_so_far v [] (suc k) are = told_same v
+silent_so_far v (s ∷ steps) (suc k) are = told_then v (after v s) _ (silent_step v s are.0)
+    (silent_so_far (after v s) steps k are.1)
 
 -- ---- PLANS of such steps
 
@@ -95,7 +108,7 @@ pub silent_both : (one two : List Step) → AreSilent one → AreSilent two
 silent_both [] two a b = b
 silent_both (s ∷ one) two a b = (a.0, silent_both one two a.1 b)
 
-silent_map : {A : Type 0} (f : A → Step) → ((x : A) → is_silent (f x) ≡ true)
+pub silent_map : {A : Type 0} (f : A → Step) → ((x : A) → is_silent (f x) ≡ true)
     → (xs : List A) → AreSilent (map f xs)
 silent_map f each [] = tt
 silent_map f each (x ∷ xs) = (each x, silent_map f each xs)
@@ -273,3 +286,28 @@ silent_performs found = silent_turn seals (in_turn (applies found) clears)
     (λ v. silent_seal (word_of_seal v.fixed.shape v.fixed.lane) (length v.log.entries) v)
     (silent_turn (applies found) clears (silent_applies found)
     (λ v. silent_seal (word_of_seal v.fixed.shape v.fixed.lane) 0 v))
+
+-- ---- parts of a transaction
+
+silent_word : (place : ℕ) (bytes : List ℕ) (w : ℕ) → IsSilentPlan (writes_word place bytes w)
+unfolding writes_word
+silent_word place bytes w v =
+    let x : ℕ = written_word place bytes w (known_word v w) in
+    silent_turn (looks w) (stores w x) (silent_look w) (silent_store w x) v
+
+pub silent_writes : (place : ℕ) (bytes : List ℕ) → IsSilentPlan (writes_words place bytes)
+unfolding writes_words
+silent_writes place bytes = silent_times (λ i. writes_word place bytes (place / 8 + i))
+    (λ i. silent_word place bytes (place / 8 + i)) (length (covered_words place (length bytes)))
+
+pub silent_back : IsSilentPlan takes_back
+silent_back v = by (length v.log.records == 0) where
+  by : (b : Bool) → AreSilent (if b then persists_all v else in_turn restores retires v)
+  by true = silent_persists v
+  by false = silent_turn restores retires silent_restores silent_retires v
+
+pub silent_ends_records : IsSilentPlan ends_records
+silent_ends_records v = by (length v.log.records == 0) where
+  by : (b : Bool) → AreSilent (if b then [] else retires v)
+  by true = tt
+  by false = silent_retires v

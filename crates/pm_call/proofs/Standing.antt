@@ -1,18 +1,20 @@
--- A LANE STANDS at each stage, and after a call, from what the call says that it did.
-use Rattle.std.proofs.Common.{◌≡◌, ◌≢◌, ℕ, zero, suc, ◌==◌, ◌≤◌, Bool, true, false, if◌then◌else◌, ⊎_elim, Option, Some, None, Result, Ok, Err, refl, sym, ap, ◌∙◌, subst, arith}
+-- A LANE STANDS WITH ITS HISTORY at each stage, and after a call, from what the call says that it did.
+use Rattle.std.proofs.Common.{◌≡◌, ◌≢◌, ℕ, zero, suc, ◌==◌, ◌≤◌, Bool, true, false, if◌then◌else◌, ⊎_elim, List, [], ◌∷◌, map, take, Option, Some, None, Result, Ok, Err, refl, sym, ap, ◌∙◌, subst, arith}
 use Rattle.std.proofs.lemmas.Bool.{both_ways}
 use Rattle.pm_model.specs.Transaction.{is_working}
 use Rattle.pm_model.specs.declared.stage.Stage.{Stage}
 use Rattle.pm_model.specs.declared.stage.Stage.TheVariants as stage
 use Rattle.pm_objects.specs.declared.calls.Operation.{Operation}
+use Rattle.pm_objects.specs.declared.calls.Operation.TheVariants.{Commit}
 use Rattle.pm_objects.specs.declared.history.TxErr.{TxErr}
 use Rattle.pm_objects.specs.declared.history.TxErr.TheVariants as error
 use Rattle.pm_objects.specs.declared.history.Value.{Value}
 use Rattle.pm_objects.specs.declared.history.Value.TheVariants.{Refused}
 use Rattle.pm_objects.specs.declared.refusal.Refusal.{Refusal}
 use Rattle.pm_objects.specs.declared.refusal.Refusal.TheVariants as refusal
-use Rattle.pm_view.specs.View.{View}
-use Rattle.pm_world.specs.LaneFields.{Fields, Rests, Standing, Works, at_work, fields_of, moved}
+use Rattle.pm_view.specs.View.{Numbered, View}
+use Rattle.pm_view.specs.Views.{after_all}
+use Rattle.pm_world.specs.LaneFields.{Fields, Rests, Standing, Works, at_work, fields_of, last_number, moved}
 use Rattle.pm_world.specs.declared.lane.Lane.{Lane}
 use Rattle.pm_plan.specs.Plans.{Plan}
 use Rattle.pm_call.specs.At.{At}
@@ -20,12 +22,16 @@ use Rattle.pm_call.specs.Between.{IsLaneBetween, MayOpen, saw_number}
 use Rattle.pm_call.specs.Commits.{CommitCut, WasCommitted}
 use Rattle.pm_call.specs.Did.{Cut, Did, DidSo, Ends, GaveUp, IsAt, IsOver, next, stage_refusal, work_refusal}
 use Rattle.pm_call.specs.GivenUp.{WasGivenUp}
+use Rattle.pm_call.specs.Histories.{LaneHistory, PlanTellsMore, calls_ended, ended_of, history_of, last_ended, told_by, told_last, told_more, turned, unless}
 use Rattle.pm_call.specs.Opening.{NoneIsLeft}
 use Rattle.pm_call.specs.Plans.{commits, gives_up}
 use Rattle.pm_call.specs.Stages.{Ended, EndedAs, EndedBy, EndedSo, IsLanePast, IsPastAt, Leaves, at_level, closed, end_refusal, fields_past, stage_end_refusal, unlisted}
-use Rattle.pm_call.specs.Standing.{IsLaneStopped, Stands}
+use Rattle.pm_call.specs.Standing.{IsLaneStopped, IsOverFor, Stands, StandsWith}
 use Rattle.pm_call.proofs.OpenedCalls.{between_may_open, look_may_open}
 use Rattle.pm_call.proofs.StoppedLanes.{commit_is_stopped, cut_is_stopped, may_open_facts}
+use Rattle.pm_call.proofs.StoppedNumbers.{gives_up_unnumbered}
+use Rattle.pm_call.proofs.ToldLooks.{gives_told, looks_told, saw_history, told_history, told_open}
+use Rattle.pm_call.proofs.ToldPlans.{commits_tell, rollbacks_tell}
 
 -- ---- WHAT IS REFUSED, by the lane's fields
 
@@ -43,23 +49,51 @@ not_in_work : (st : Stage) (level : ℕ) → is_working st ≡ false → stage_r
 not_in_work stage.Work level past e = cc
 not_in_work st level past e = either_way (level == 0) _ _ e
 
+-- ---- HISTORIES
+
+last_same : (entries : List Numbered) → last_number entries ≡ last_ended (map ended_of entries)
+last_same [] = refl
+last_same (e ∷ entries) = refl
+
+pub over_for : (level : ℕ) (e : TxErr) (h : LaneHistory) → h.call ≡ [] → IsOverFor level e h
+over_for zero e h none = none
+over_for (suc zero) e h none = none
+over_for (suc (suc n)) error.None h none = tt
+over_for (suc (suc n)) e h none = none
+
+-- an inner level that was committed leaves the call open
+pub over_inner : (level : ℕ) (h : LaneHistory) → 2 ≤ level → IsOverFor level error.None h
+over_inner zero h inner = absurd (omega arith)
+over_inner (suc zero) h inner = absurd (omega arith)
+over_inner (suc (suc n)) h inner = tt
+
 -- ---- AT EACH STAGE
 
 module _ {M : Type 0} (at : M → View → Type 0) (lane : Lane M) where
   level_of : (f : Fields) → fields_of lane ≡ f → lane.level ≡ f.level
   level_of f fields = ap (λ (g : Fields). g.level) fields
 
-  goes : (f : Fields) → fields_of lane ≡ f → f.stopped ≡ false → lane.stopped ≡ true
-      → IsLaneStopped at lane
+  goes : {A : Type 0} (f : Fields) → fields_of lane ≡ f → f.stopped ≡ false
+      → lane.stopped ≡ true → A
   goes f fields going e = absurd (both_ways lane.stopped (ap (λ (g : Fields). g.stopped) fields
       ∙ going) e)
 
-  pub stopped_stands : lane.stopped ≡ true → IsLaneStopped at lane → Stands at lane
-  stopped_stands is stopped = record {
+  -- its last number, where the fields tell that of the view
+  numbers : (v : View) (h : LaneHistory) → lane.last ≡ last_number v.entries → history_of v ≡ h
+      → lane.last ≡ last_ended h.done
+  numbers v h last is = last ∙ last_same v.entries ∙ ap (λ (x : LaneHistory). last_ended x.done) is
+
+  last_of : (f : Fields) → fields_of lane ≡ f → lane.last ≡ f.last
+  last_of f fields = ap (λ (g : Fields). g.last) fields
+
+  pub stopped_stands : (h : LaneHistory) → lane.stopped ≡ true → (x : IsLaneStopped at lane)
+      → calls_ended x.view ≡ h.done → StandsWith at lane h
+  stopped_stands h is stopped calls = record {
     work = λ e. absurd (let s = stops stage_refusal in cc);
     past = λ e. absurd (let s = stops stage_end_refusal in cc);
     between = λ e low. absurd (cc);
-    stopped = λ e. stopped;
+    stopped = λ e. (stopped, calls);
+    last = λ e. absurd (cc);
   }
     where
       stops : (by : Stage → ℕ → Option Refusal)
@@ -67,51 +101,82 @@ module _ {M : Type 0} (at : M → View → Type 0) (lane : Lane M) where
           ≡ Some refusal.Stopped
       stops by = ap (λ b. if b then Some refusal.Stopped else by lane.stage lane.level) is
 
-  pub working_stands : (s : Standing) → Works at lane s → At s → Stands at lane
-  working_stands s works is = record {
-    work = λ e. record { standing = s; works = works; stands = is };
+  pub working_stands : (h : LaneHistory) (s : Standing) → Works at lane s → At s
+      → history_of s.view ≡ h → StandsWith at lane h
+  working_stands h s works is same = record {
+    work = λ e. (record { standing = s; works = works; stands = is }, same);
     past = λ e. absurd (either_way (s.level == 0) _ _ (sym (ap end_by works.fields) ∙ e));
     between = λ e low. absurd (let l = level_of (at_work s) works.fields in
         let some = is.some in omega (arith, l, low, some));
-    stopped = goes (at_work s) works.fields refl;
+    stopped = λ e. goes (at_work s) works.fields refl e;
+    last = λ e. numbers s.view h (last_of (at_work s) works.fields) same;
   }
 
-  pub past_stands : (s : Standing) (st : Stage) (x : TxErr) → IsPastAt at lane s st x
-      → Stands at lane
-  past_stands s st x is = record {
+  pub past_stands : (h : LaneHistory) (s : Standing) (st : Stage) (x : TxErr)
+      → IsPastAt at lane s st x → history_of s.view ≡ h → IsOverFor s.level x h
+      → StandsWith at lane h
+  past_stands h s st x is same over = record {
     work = λ e. absurd (not_in_work st s.level is.past.past (sym (ap work_by is.sees.fields) ∙ e));
-    past = λ e. record { standing = s; stage = st; error = x; stands = is };
+    past = λ e. (record { standing = s; stage = st; error = x; stands = is }, same, over);
     between = λ e low. absurd (let l = level_of (fields_past st x s) is.sees.fields in
         let some = is.past.some in omega (arith, l, low, some));
-    stopped = goes (fields_past st x s) is.sees.fields refl;
+    stopped = λ e. goes (fields_past st x s) is.sees.fields refl e;
+    last = λ e. numbers s.view h (last_of (fields_past st x s) is.sees.fields) same;
   }
 
-  pub idle_stands : (s : Standing) → s.level ≡ 0 → Rests at lane s → MayOpen s → Stands at lane
-  idle_stands s outside rests may = record {
+  pub idle_stands : (h : LaneHistory) (s : Standing) → s.level ≡ 0 → Rests at lane s → MayOpen s
+      → history_of s.view ≡ h → h.call ≡ [] → StandsWith at lane h
+  idle_stands h s outside rests may same none = record {
     work = λ e. absurd (either_way (s.level == 0) _ _ (sym (ap work_by rests.fields) ∙ e));
     past = λ e. absurd (let n : stage_end_refusal stage.None 0 ≡ None =
         subst (λ k. stage_end_refusal stage.None k ≡ None) outside
         (sym (ap end_by rests.fields) ∙ e) in cc);
-    between = λ e low. record { standing = s; rests = rests; between = may };
-    stopped = λ e. record { view = s.view; seen = rests.memory; facts = may_open_facts s may };
+    between = λ e low. (record { standing = s; rests = rests; between = may }, same, none);
+    stopped = λ e. (
+      record { view = s.view; seen = rests.memory; facts = may_open_facts s may },
+      ap (λ (x : LaneHistory). x.done) same,
+    );
+    last = λ e. numbers s.view h (ap (λ (g : Fields). g.last) rests.fields) same;
   }
 
   -- no number is left for a call
-  pub spent_stands : (s : Standing) → s.level ≡ 0 → MayOpen s → NoneIsLeft at lane s
-      → Stands at lane
-  spent_stands s outside may none = ⊎_elim
-      (λ z. idle_stands s outside z.1 may)
-      (λ z. idle_stands (saw_number s z.0) outside z.2 (look_may_open s z.0 may))
+  pub spent_stands : (h : LaneHistory) (s : Standing) → s.level ≡ 0 → MayOpen s
+      → NoneIsLeft at lane s → history_of s.view ≡ h → h.call ≡ [] → StandsWith at lane h
+  spent_stands h s outside may none same empty = ⊎_elim
+      (λ z. idle_stands h s outside z.1 may same empty)
+      (λ z. idle_stands h (saw_number s z.0) outside z.2 (look_may_open s z.0 may)
+      (saw_history s z.0 h same empty) empty)
       none
 
-  -- it came to its stop, and says so
-  pub cut_stands : (s : Standing) (plan : Plan) → Cut at lane s plan true → Stands at lane
-  cut_stands s plan cut = stopped_stands (ap (λ (f : Fields). f.stopped) cut.fields)
-      (cut_is_stopped at lane s plan true cut)
+  -- ---- it came to its stop, and says so
 
-  pub cut_commit_stands : (s : Standing) → CommitCut at lane s true → Stands at lane
-  cut_commit_stands s cut = stopped_stands (ap (λ (f : Fields). f.stopped) cut.fields)
-      (commit_is_stopped at lane s true cut)
+  -- in an operation that goes on
+  pub cut_stands : (h : LaneHistory) (s : Standing) (op : Operation) (plan : Plan)
+      → (cut : Cut at lane s plan true)
+      → calls_ended (after_all s.view (take cut.stops.made (plan s.view))) ≡ h.done
+      → StandsWith at lane (told_by lane.drawn op None h)
+  cut_stands h s op plan cut calls = stopped_stands (told_by lane.drawn op None h)
+      (ap (λ (f : Fields). f.stopped) cut.fields) (cut_is_stopped at lane s plan true cut)
+      (calls ∙ sym (ap (λ d. (told_by d op None h).done)
+      (ap (λ (f : Fields). f.drawn) cut.fields)))
+
+  -- as it gave its call up
+  pub cut_rollback_stands : (h : LaneHistory) (s : Standing) (op : Operation)
+      (reply : Option Value) (n : ℕ) → s.view.number ≡ None → history_of s.view ≡ h
+      → Cut at lane s (gives_up op reply n) true → StandsWith at lane (told_by lane.drawn op None h)
+  cut_rollback_stands h s op reply n none same cut =
+      let w : View = after_all s.view (take cut.stops.made (gives_up op reply n s.view)) in
+      let told = gives_up_unnumbered op reply n s.view cut.stops.made cut.stops.due in
+      cut_stands h s op (gives_up op reply n) cut
+      (ap (λ (x : LaneHistory). x.done) (told_history s.view w h told same))
+
+  pub cut_commit_stands : (h : LaneHistory) (s : Standing) → s.view.number ≡ None
+      → history_of s.view ≡ h → CommitCut at lane s true
+      → StandsWith at lane (told_by lane.drawn Commit None h)
+  cut_commit_stands h s none same cut = stopped_stands (told_by lane.drawn Commit None h)
+      (ap (λ (f : Fields). f.stopped) cut.fields) (commit_is_stopped at lane s true cut)
+      ((commits_tell s.entries cut.found cut.number).on_the_way s.view cut.stops.made none
+      ∙ λ i. (told_by (sym cut.numbered.drawn i) Commit None (same i)).done)
 
   -- ---- its call is over, and its locks are held still
 
@@ -138,13 +203,24 @@ module _ {M : Type 0} (at : M → View → Type 0) (lane : Lane M) where
   leaves_aborted error.None aborted n s over = absurd (aborted refl)
   leaves_aborted x aborted n s over = (over_unlisted s over, refl)
 
+  -- the history as the lane's field tells the number
+  pub by_last : (h before : LaneHistory) (v : View) (n : ℕ) (op : Operation)
+      (reply : Option Value) → lane.last ≡ last_number v.entries
+      → history_of v ≡ told_last (suc n) op reply before → before ≡ h
+      → history_of v ≡ told_last lane.last op reply h
+  by_last h before v n op reply last is same =
+      let number : lane.last ≡ suc n =
+      numbers v (told_last (suc n) op reply before) last is in
+      is ∙ λ i. told_last (sym number i) op reply (same i)
+
   -- it was aborted, at whatever level
-  pub aborted_call_stands : (s : Standing) (op : Operation) (reply : Option Value) (x : TxErr)
-      → 1 ≤ s.level → s.level ≤ 64 → x ≢ error.None → WasGivenUp at lane s op reply x
-      → Stands at lane
-  aborted_call_stands s op reply x some most aborted up =
+  pub aborted_call_stands : (h : LaneHistory) (s : Standing) (op : Operation)
+      (reply : Option Value) (x : TxErr) → 1 ≤ s.level → s.level ≤ 64 → x ≢ error.None
+      → s.view.number ≡ None → history_of s.view ≡ h → WasGivenUp at lane s op reply x
+      → StandsWith at lane (told_last lane.last op reply h)
+  aborted_call_stands h s op reply x some most aborted none same up =
       let t : Standing = next s (gives_up op reply up.number) in
-      past_stands (unlisted t) stage.OnAbort x (record {
+      past_stands (told_last lane.last op reply h) (unlisted t) stage.OnAbort x (record {
         sees = record { memory = up.sees.memory; fields = up.sees.fields };
         past = record {
           past = refl;
@@ -153,18 +229,25 @@ module _ {M : Type 0} (at : M → View → Type 0) (lane : Lane M) where
           leaves = leaves_aborted x aborted s.level t up.over;
         };
       })
+      (by_last h (history_of s.view) t.view up.number op reply
+      (ap (λ (g : Fields). g.last) up.sees.fields)
+      ((rollbacks_tell op reply up.number).whole s.view none) same)
+      (over_for s.level x (told_last lane.last op reply h) refl)
 
-  pub refused_stands : (s : Standing) → 1 ≤ s.level → s.level ≤ 64 → (op : Operation)
-      (r : Refusal) → GaveUp at lane s op r → Stands at lane
-  refused_stands s some most op r up =
-      aborted_call_stands s op (Some (Refused r)) (error.Refused r) some most (λ e. cc)
+  pub refused_stands : (h : LaneHistory) (s : Standing) → 1 ≤ s.level → s.level ≤ 64
+      → (op : Operation) (r : Refusal) → s.view.number ≡ None → history_of s.view ≡ h
+      → GaveUp at lane s op r → StandsWith at lane (told_last lane.last op (Some (Refused r)) h)
+  refused_stands h s some most op r none same up =
+      aborted_call_stands h s op (Some (Refused r)) (error.Refused r) some most (λ e. cc) none same
       (record { number = up.number; ready = up.ready; sees = up.sees; over = up.over })
 
   -- it was committed at its outermost level
-  pub committed_call_stands : (s : Standing) → s.level ≡ 1 → WasCommitted at lane s → Stands at lane
-  committed_call_stands s outermost by =
+  pub committed_call_stands : (h : LaneHistory) (s : Standing) → s.level ≡ 1
+      → s.view.number ≡ None → history_of s.view ≡ h → WasCommitted at lane s
+      → StandsWith at lane (told_last lane.last Commit None h)
+  committed_call_stands h s outermost none same by =
       let t : Standing = next s (commits s.entries by.found by.number) in
-      past_stands (unlisted t) stage.OnCommit error.None (record {
+      past_stands (told_last lane.last Commit None h) (unlisted t) stage.OnCommit error.None (record {
         sees = record { memory = by.sees.memory; fields = by.sees.fields };
         past = record {
           past = refl;
@@ -174,76 +257,104 @@ module _ {M : Type 0} (at : M → View → Type 0) (lane : Lane M) where
               (over_unlisted t by.over, refl);
         };
       })
+      (by_last h (history_of s.view) t.view by.number Commit None
+      (ap (λ (g : Fields). g.last) by.sees.fields)
+      ((commits_tell s.entries by.found by.number).whole s.view none) same)
+      (over_for s.level error.None (told_last lane.last Commit None h) refl)
 
 -- ---- WHAT A LANE THAT STANDS MAY BE ASKED
 
 module _ {M : Type 0} {at : M → View → Type 0} {lane : Lane M} where
   pub stands_work : Stands at lane → work_refusal lane ≡ None → IsAt at lane
-  stands_work stands = stands.work
+  stands_work stands none = (stands.1.work none).0
 
   pub stands_past : Stands at lane → end_refusal lane ≡ None → IsLanePast at lane
-  stands_past stands = stands.past
+  stands_past stands none = (stands.1.past none).0
 
   pub stands_between : Stands at lane → lane.stopped ≡ false → lane.level ≡ 0
       → IsLaneBetween at lane
-  stands_between stands = stands.between
+  stands_between stands going outside = (stands.1.between going outside).0
 
   pub stands_stopped : Stands at lane → lane.stopped ≡ true → IsLaneStopped at lane
-  stands_stopped stands = stands.stopped
+  stands_stopped stands is = (stands.1.stopped is).0
 
 -- ---- AFTER EACH CALL
 
-module _ {M : Type 0} (at : M → View → Type 0) (old new : Lane M) where
-  pub same_stands : Stands at old → new ≡ old → Stands at new
-  same_stands stands same = subst (Stands at) (sym same) stands
+module _ {M : Type 0} (at : M → View → Type 0) (old new : Lane M) (h : LaneHistory) where
+  pub same_stands : StandsWith at old h → new ≡ old → StandsWith at new h
+  same_stands stands same = subst (λ (lane : Lane M). StandsWith at lane h) (sym same) stands
 
   -- ---- an operation that is done, aborts the transaction, or stops
 
-  module _ {T : Type 0} (op : Operation) (plan : View → Plan) (Is : View → T → Type 0) where
-    ends_stands : (s : Standing) → 1 ≤ s.level → s.level ≤ 64 → (result : Result T Refusal)
-        → Ends at new op plan Is result s → Stands at new
-    ends_stands s some most (Ok x) ends =
-        working_stands at new (next s (plan s.view)) ends.0.works ends.0.stands
-    ends_stands s some most (Err refusal.Stopped) ends = ⊎_elim
-        (λ c. cut_stands at new s (plan s.view) c.1)
-        (λ c. cut_stands at new s (gives_up op (Some (Refused c.0)) c.1) c.3)
+  module _ {T : Type 0} (op : Operation) (plan : View → Plan) (Is : View → T → Type 0)
+      (said : View → View → Option Value) (reply : T → Option Value)
+      (tells : (v : View) → PlanTellsMore (plan v) op (said v))
+      (replies : (v : View) (x : T) → Is v x → said v v ≡ reply x) where
+    ends_stands : (s : Standing) → 1 ≤ s.level → s.level ≤ 64 → s.view.number ≡ None
+        → history_of s.view ≡ h → (result : Result T Refusal) → Ends at new op plan Is result s
+        → StandsWith at new (turned new op reply result h)
+    ends_stands s some most none same (Ok x) ends =
+        working_stands at new (told_more op (reply x) h) (next s (plan s.view)) ends.0.works
+        ends.0.stands ((tells s.view).whole s.view none
+        ∙ λ i. told_more op (replies s.view x ends.1 i) (same i))
+    ends_stands s some most none same (Err refusal.Stopped) ends = ⊎_elim
+        (λ c. cut_stands at new h s op (plan s.view) c.1
+        ((tells s.view).on_the_way s.view c.1.stops.made none
+        ∙ ap (λ (x : LaneHistory). x.done) same))
+        (λ c. cut_rollback_stands at new h s op (Some (Refused c.0)) c.1 none same c.3)
         ends
-    ends_stands s some most (Err r) ends = refused_stands at new s some most op r ends
+    ends_stands s some most none same (Err r) ends =
+        refused_stands at new h s some most op r none same ends
 
-    pub did_stands : (result : Result T Refusal) → Stands at old
-        → Did at old new op plan Is result → Stands at new
+    pub did_turns : (result : Result T Refusal) → StandsWith at old h
+        → Did at old new op plan Is result
+        → StandsWith at new (unless (work_refusal old) (turned new op reply result h) h)
     unfolding Did
-    did_stands result stands did = by (work_refusal old) refl did where
+    did_turns result stands did = by (work_refusal old) refl did where
       by : (w : Option Refusal) → work_refusal old ≡ w → DidSo w at old new op plan Is result
-          → Stands at new
+          → StandsWith at new (unless w (turned new op reply result h) h)
       by (Some r) some d = same_stands stands d.1
       by None none d =
           let here = stands.work none in
-          let t = d here.standing here.works here.stands in
-          ends_stands (moved here.standing t.view) here.stands.some here.stands.most result t.holds
+          let s = here.0.standing in
+          let t = d s here.0.works here.0.stands in
+          let looked = looks_told t.looks s.view t.view t.looked in
+          ends_stands (moved s t.view) here.0.stands.some here.0.stands.most
+          (told_open s.view t.view looked here.0.stands.number.none)
+          (told_history s.view t.view h looked here.1) result t.holds
 
   -- ---- the end of a level
 
-  end_stands : (s : Standing) (x : TxErr) (n : ℕ) → EndedAs at new x n s → Stands at new
-  end_stands s x zero ends = absurd ends
-  end_stands s x (suc zero) ends =
-      idle_stands at new (closed s) refl ends.0 (between_may_open (closed s) ends.1)
-  end_stands s error.None (suc (suc n)) ends =
-      working_stands at new (at_level (suc n) s) ends.0 ends.1
-  end_stands s x (suc (suc n)) ends = past_stands at new (at_level (suc n) s) stage.OnAbort x ends
+  end_stands : (s : Standing) (x : TxErr) (n : ℕ) → history_of s.view ≡ h → IsOverFor n x h
+      → EndedAs at new x n s → StandsWith at new h
+  end_stands s x zero same over ends = absurd ends
+  end_stands s x (suc zero) same over ends =
+      idle_stands at new h (closed s) refl ends.0 (between_may_open (closed s) ends.1)
+      (told_history s.view (closed s).view h (gives_told s.view s.locks) same) over
+  end_stands s error.None (suc (suc n)) same over ends =
+      working_stands at new h (at_level (suc n) s) ends.0 ends.1 same
+  end_stands s x (suc (suc n)) same over ends =
+      past_stands at new h (at_level (suc n) s) stage.OnAbort x ends same (over_for (suc n) x h over)
 
   answer_stands : (s : Standing) (x : TxErr) (result : Result TxErr Refusal)
-      → EndedBy at new result x s → Stands at new
-  answer_stands s x (Ok answer) d = end_stands s x s.level d.1
-  answer_stands s x (Err r) d = absurd d
+      → history_of s.view ≡ h → IsOverFor s.level x h → EndedBy at new result x s
+      → StandsWith at new h
+  answer_stands s x (Ok answer) same over d = end_stands s x s.level same over d.1
+  answer_stands s x (Err r) same over d = absurd d
 
-  pub ended_stands : (result : Result TxErr Refusal) → Stands at old → Ended at old new result
-      → Stands at new
+  pub ended_turns : (result : Result TxErr Refusal) → StandsWith at old h
+      → Ended at old new result → StandsWith at new h
   unfolding Ended
-  ended_stands result stands ended = by (end_refusal old) refl ended where
-    by : (w : Option Refusal) → end_refusal old ≡ w → EndedSo w at old new result → Stands at new
+  ended_turns result stands ended = by (end_refusal old) refl ended where
+    by : (w : Option Refusal) → end_refusal old ≡ w → EndedSo w at old new result
+        → StandsWith at new h
     by (Some r) some d = same_stands stands d.1
     by None none d =
         let here = stands.past none in
-        answer_stands here.standing here.error result
-        (d here.standing here.stage here.error here.stands)
+        answer_stands here.0.standing here.0.error result here.1 here.2
+        (d here.0.standing here.0.stage here.0.error here.0.stands)
+
+pub ended_stands : {M : Type 0} (at : M → View → Type 0) (old new : Lane M)
+    (result : Result TxErr Refusal) → Stands at old → Ended at old new result → Stands at new
+ended_stands at old new result stands did =
+    (stands.0, ended_turns at old new stands.0 result stands.1 did)

@@ -92,7 +92,7 @@ facts_on_the_way v (s ∷ steps) (suc k) f = facts_on_the_way (after v s) steps 
 -- ---- A LANE THAT STOPPED in a plan
 
 module _ {M : Type 0} (at : M → View → Type 0) (lane : Lane M) (s : Standing) where
-  pub cut_is_stopped : (plan : Plan) (stopped : Bool) → Cut at lane s plan stopped
+  abbrev pub cut_is_stopped : (plan : Plan) (stopped : Bool) → Cut at lane s plan stopped
       → IsLaneStopped at lane
   cut_is_stopped plan stopped cut = record {
     view = after_all s.view (take cut.stops.made (plan s.view));
@@ -100,7 +100,7 @@ module _ {M : Type 0} (at : M → View → Type 0) (lane : Lane M) (s : Standing
     facts = facts_on_the_way s.view (plan s.view) cut.stops.made cut.facts;
   }
 
-  pub commit_is_stopped : (stopped : Bool) → CommitCut at lane s stopped → IsLaneStopped at lane
+  abbrev pub commit_is_stopped : (stopped : Bool) → CommitCut at lane s stopped → IsLaneStopped at lane
   commit_is_stopped stopped cut = record {
     view = after_all s.view (take cut.stops.made (commits s.entries cut.found cut.number s.view));
     seen = cut.stops.seen;
@@ -115,7 +115,7 @@ tried_has : (v : View) (line : ℕ) (write : Bool) → HaveFacts v
 tried_has v line true f = f
 tried_has v line false f = f
 
-stops_have : (v : View) (n line : ℕ) (write : Bool) → HaveFacts v
+pub stops_have : (v : View) (n line : ℕ) (write : Bool) → HaveFacts v
     → HaveFacts (after_all v (stops n line write))
 unfolding stops
 stops_have v n line write f =
@@ -125,7 +125,7 @@ stops_have v n line write f =
     subst HaveFacts (sym (all_then v (refusals n line write) then
     ∙ twice_more u (takes line write false) (StopSeen true))) (tried_has u line write on)
 
-pub wait_is_stopped : {M : Type 0} (at : M → View → Type 0) (lane : Lane M) (s : Standing)
+abbrev pub wait_is_stopped : {M : Type 0} (at : M → View → Type 0) (lane : Lane M) (s : Standing)
     (wants : List Want) → HaveFacts s.view → WaitWasStopped at lane s wants
     → IsLaneStopped at lane
 wait_is_stopped at lane s wants f w =

@@ -1,35 +1,70 @@
 -- WHAT THE PLANS OF OPERATIONS TELL: each is of silent steps, and of the one that tells it; and
 -- where
 -- it ends its call the number is taken at once then.
-use Rattle.std.proofs.Common.{◌≡◌, ℕ, zero, suc, ◌+◌, ◌/◌, ◌==◌, Bool, true, false, if◌then◌else◌, inl, inr, ⊎_elim, List, [], ◌∷◌, ◌++◌, length, map, take, refl, sym, ap, ◌∙◌, subst, Option, None}
-use Rattle.pm_model.specs.Transaction.{covered_words}
+use Rattle.std.proofs.Common.{◌≡◌, ◌⊎◌, ℕ, zero, suc, ◌+◌, inl, inr, ⊎_elim, List, [], ◌∷◌, ◌++◌, map, take, refl, sym, ap, ◌∙◌, subst, Option, None, Some}
 use Rattle.pm_objects.specs.declared.calls.Operation.{Operation}
-use Rattle.pm_objects.specs.declared.calls.Operation.TheVariants.{AddRange, Cancel, Commit, Write}
+use Rattle.pm_objects.specs.declared.calls.Operation.TheVariants.{AddRange, Cancel, Commit, Publish, Read, Write}
 use Rattle.pm_objects.specs.declared.history.Value.{Value}
+use Rattle.pm_objects.specs.declared.history.Value.TheVariants.{Bytes}
 use Rattle.pm_record.specs.declared.redo.Redo.{Redo}
 use Rattle.pm_view.specs.Steps.{Step}
 use Rattle.pm_view.specs.Steps.Step.{Draw, Tell}
-use Rattle.pm_view.specs.View.{Numbered, Told, View}
+use Rattle.pm_view.specs.View.{Told, View}
 use Rattle.pm_view.specs.Views.{after, after_all}
-use Rattle.pm_crash.specs.Writes.{written_word}
-use Rattle.pm_plan.specs.Plans.{Plan, in_turn, known_word, looks, one, persists_all, stores}
-use Rattle.pm_undo.specs.Plans.{restores, retires, snapshots}
+use Rattle.pm_crash.specs.Looked.{bytes_seen}
+use Rattle.pm_plan.specs.Plans.{Plan, in_turn, known_word, one, persists_all}
+use Rattle.pm_undo.specs.Plans.{snapshots}
 use Rattle.pm_redo.specs.Plans.{performs, writes_log}
-use Rattle.pm_call.specs.Histories.{AddsTell, CancelsTell, CommitsTell, InnerCommitsTell, LogsTell, LoneCallsTell, PlanTellsLast, PlanTellsMore, ReadsTell, RollbacksTell, TellsLast, TellsMore, ToldOnTheWay, WritesTell, calls_told, told}
-use Rattle.pm_call.specs.Plans.{commits, ends_call, ends_records, finishes, gives_up, logs_entries, performs_call, takes_back, tells, writes_word, writes_words}
-use Rattle.pm_call.proofs.SilentPlans.{AreSilent, IsAsTold, IsSilentPlan, silent_both, silent_log, silent_look, silent_performs, silent_persists, silent_restores, silent_retires, silent_snapshots, silent_step, silent_steps, silent_store, silent_times, silent_turn}
+use Rattle.pm_call.specs.At.{set_entry}
+use Rattle.pm_call.specs.Histories.{AddsTell, CancelsTell, CommitsTell, InnerCommitsTell, LaneHistory, LogsTell, LoneCallsTell, PlanTellsLast, PlanTellsMore, PublishesTell, ReadsTell, RollbacksTell, WritesTell, calls_ended, ended_of, history_of, open_call, told, told_by, told_last, told_more}
+use Rattle.pm_call.specs.Plans.{commits, ends_call, ends_records, finishes, gives_up, logs_entries, performs_call, takes_back, tells, writes_words}
+use Rattle.pm_call.proofs.SilentPlans.{AreSilent, IsAsTold, IsSilentPlan, silent_back, silent_both, silent_ends_records, silent_log, silent_performs, silent_persists, silent_snapshots, silent_step, silent_steps, silent_writes}
 
-calls_same : (v w : View) → IsAsTold v w → calls_told w ≡ calls_told v
-calls_same v w s = ap (map (λ (e : Numbered). e.call)) s.entries
+calls_same : (v w : View) → IsAsTold v w → calls_ended w ≡ calls_ended v
+calls_same v w s = ap (map ended_of) s.entries
+
+-- SILENT STEPS leave the history as it is
+pub silent_history : (v w : View) → IsAsTold v w → history_of w ≡ history_of v
+silent_history v w s = λ i. record {
+  done = calls_same v w s i;
+  call = open_call (s.number i) (s.call i);
+}
+
+pub after_append : (v : View) (first last : List Step)
+    → after_all v (first ++ last) ≡ after_all (after_all v first) last
+unfolding after_all
+after_append v [] last = refl
+after_append v (s ∷ first) last = after_append (after v s) first last
+
+pub silent_take : (k : ℕ) (steps : List Step) → AreSilent steps → AreSilent (take k steps)
+silent_take zero steps are = tt
+silent_take (suc k) [] are = tt
+silent_take (suc k) (s ∷ steps) are = (are.0, silent_take k steps are.1)
 
 -- ---- AN OPERATION IS TOLD after silent steps
 
 module _ (op : Operation) (reply : Option Value) where
-  tells_more : (v u : View) → IsAsTold v u → TellsMore v (after u (Tell op reply)) op reply
-  tells_more v u s = record {
-    call = ap (λ (call : List Told). call ++ told op reply ∷ []) s.call;
-    calls = calls_same v u s;
-  }
+  -- the open call told one more operation
+  record TellsMore (v w : View) : Type 0 where
+    call : w.call ≡ v.call ++ told op reply ∷ []
+    calls : calls_ended w ≡ calls_ended v
+    number : w.number ≡ v.number
+
+  pub tells_history : (v : View) → v.number ≡ None
+      → history_of (after v (Tell op reply)) ≡ told_more op reply (history_of v)
+  tells_history v none = more_history v (after v (Tell op reply)) none
+      (record { call = refl; calls = refl; number = refl })
+    where
+      more_history : (v w : View) → v.number ≡ None → TellsMore v w
+          → history_of w ≡ told_more op reply (history_of v)
+      more_history v w none m =
+          let opens : open_call w.number w.call ≡ v.call ++ told op reply ∷ [] =
+          ap (λ n. open_call n w.call) (m.number ∙ none) ∙ m.call in
+          let before : open_call v.number v.call ≡ v.call = ap (λ n. open_call n v.call) none in
+          λ i. record {
+            done = m.calls i;
+            call = (opens ∙ ap (λ (call : List Told). call ++ told op reply ∷ []) (sym before)) i;
+          }
 
   after_one : (v : View) (steps : List Step)
       → after_all v (steps ++ Tell op reply ∷ []) ≡ after (after_all v steps) (Tell op reply)
@@ -37,59 +72,95 @@ module _ (op : Operation) (reply : Option Value) where
   after_one v [] = refl
   after_one v (s ∷ steps) = after_one (after v s) steps
 
+  more_way : (v : View) (a : List Step) (k : ℕ) → AreSilent a
+      → calls_ended (after_all v (take k (a ++ Tell op reply ∷ []))) ≡ calls_ended v
+  unfolding after_all
+  more_way v [] zero are = refl
+  more_way v [] (suc zero) are = refl
+  more_way v [] (suc (suc k)) are = refl
+  more_way v (s ∷ a) zero are = refl
+  more_way v (s ∷ a) (suc k) are = more_way (after v s) a k are.1
+      ∙ calls_same v (after v s) (silent_step v s are.0)
+
   pub plan_more : (a : Plan) → IsSilentPlan a
       → PlanTellsMore (in_turn a (tells op reply)) op (λ v. reply)
   unfolding in_turn one
-  plan_more a silent v = subst (λ w. TellsMore v w op reply) (sym (after_one v (a v)))
-      (tells_more v (after_all v (a v)) (silent_steps v (a v) (silent v)))
+  plan_more a silent = record {
+    whole = λ v none.
+        let u : View = after_all v (a v) in
+        let s = silent_steps v (a v) (silent v) in
+        ap history_of (after_one v (a v)) ∙ tells_history u (s.number ∙ none)
+        ∙ ap (told_more op reply) (silent_history v u s);
+    on_the_way = λ v k none. more_way v (a v) k (silent v);
+  }
 
 -- ---- AND THE NUMBER IS TAKEN at once
-
-silent_take : (k : ℕ) (steps : List Step) → AreSilent steps → AreSilent (take k steps)
-silent_take zero steps are = tt
-silent_take (suc k) [] are = tt
-silent_take (suc k) (s ∷ steps) are = (are.0, silent_take k steps are.1)
 
 module _ (op : Operation) (reply : Option Value) (n : ℕ) where
   abbrev last_of : List Step → List Step
   last_of b = Tell op reply ∷ Draw n ∷ b
 
-  last_from : (v w : View) → calls_told w ≡ calls_told v → w.call ≡ v.call
-      → (z : View) → TellsLast w z op reply → TellsLast v z op reply
-  last_from v w calls call z l =
-      record { calls = l.calls ∙ (λ i. (call i ++ told op reply ∷ []) ∷ calls i) }
+  -- the call told its last operation, and has its number
+  record TellsLast (v w : View) : Type 0 where
+    calls : calls_ended w
+        ≡ record { number = suc n; call = v.call ++ told op reply ∷ [] } ∷ calls_ended v
+    number : w.number ≡ Some (suc n)
 
-  told_numbered : (v : View) (b : List Step) → AreSilent b
-      → TellsLast v (after_all v (last_of b)) op reply
-  unfolding after_all
-  told_numbered v b are = record {
-    calls = calls_same (after (after v (Tell op reply)) (Draw n))
-        (after_all (after (after v (Tell op reply)) (Draw n)) b)
-        (silent_steps (after (after v (Tell op reply)) (Draw n)) b are);
+  -- or not yet
+  abbrev ToldOnTheWay : View → View → Type 0
+  ToldOnTheWay v w = ((calls_ended w ≡ calls_ended v) × (w.number ≡ v.number)) ⊎ TellsLast v w
+
+  last_history : (v w : View) → v.number ≡ None → TellsLast v w
+      → history_of w ≡ told_last (suc n) op reply (history_of v)
+  last_history v w none l =
+      let before : open_call v.number v.call ≡ v.call = ap (λ m. open_call m v.call) none in
+      λ i. record {
+        done = (l.calls ∙ ap (λ (call : List Told).
+            record { number = suc n; call = call ++ told op reply ∷ [] } ∷ calls_ended v)
+            (sym before)) i;
+        call = open_call (l.number i) w.call;
+      }
+
+  way_history : (v w : View) → v.number ≡ None → ToldOnTheWay v w
+      → calls_ended w ≡ (told_by w.number op reply (history_of v)).done
+  way_history v w none on = ⊎_elim
+      (λ e. e.0 ∙ sym (ap (λ m. (told_by m op reply (history_of v)).done) (e.1 ∙ none)))
+      (λ (l : TellsLast v w). ap (λ (h : LaneHistory). h.done) (last_history v w none l)
+      ∙ sym (ap (λ m. (told_by m op reply (history_of v)).done) l.number)) on
+
+  last_from : (v w : View) → IsAsTold v w → (z : View) → TellsLast w z → TellsLast v z
+  last_from v w s z l = record {
+    calls = l.calls ∙ (λ i. record { number = suc n; call = s.call i ++ told op reply ∷ [] }
+        ∷ calls_same v w s i);
+    number = l.number;
   }
 
+  told_numbered : (v : View) (b : List Step) → AreSilent b → TellsLast v (after_all v (last_of b))
+  unfolding after_all
+  told_numbered v b are =
+      let u : View = after (after v (Tell op reply)) (Draw n) in
+      let s = silent_steps u b are in
+      record { calls = calls_same u (after_all u b) s; number = s.number }
+
   whole_so : (v : View) (a b : List Step) → AreSilent a → AreSilent b
-      → TellsLast v (after_all v (a ++ last_of b)) op reply
+      → TellsLast v (after_all v (a ++ last_of b))
   unfolding after_all
   whole_so v [] b one two = told_numbered v b two
-  whole_so v (s ∷ a) b one two =
-      let first = silent_step v s one.0 in
-      last_from v (after v s) (calls_same v (after v s) first) first.call _
+  whole_so v (s ∷ a) b one two = last_from v (after v s) (silent_step v s one.0) _
       (whole_so (after v s) a b one.1 two)
 
-  way_from : (v w z : View) → IsAsTold v w → ToldOnTheWay w z op reply
-      → ToldOnTheWay v z op reply
+  way_from : (v w z : View) → IsAsTold v w → ToldOnTheWay w z → ToldOnTheWay v z
   way_from v w z s on = ⊎_elim
-      (λ (e : calls_told z ≡ calls_told w). inl (e ∙ calls_same v w s))
-      (λ (l : TellsLast w z op reply). inr (last_from v w (calls_same v w s) s.call z l)) on
+      (λ e. inl (e.0 ∙ calls_same v w s, e.1 ∙ s.number))
+      (λ (l : TellsLast w z). inr (last_from v w s z l)) on
 
   way_so : (v : View) (a b : List Step) (k : ℕ) → AreSilent a → AreSilent b
-      → ToldOnTheWay v (after_all v (take k (a ++ last_of b))) op reply
+      → ToldOnTheWay v (after_all v (take k (a ++ last_of b)))
   unfolding after_all
-  way_so v [] b zero one two = inl refl
-  way_so v [] b (suc zero) one two = inl refl
+  way_so v [] b zero one two = inl (refl, refl)
+  way_so v [] b (suc zero) one two = inl (refl, refl)
   way_so v [] b (suc (suc k)) one two = inr (told_numbered v (take k b) (silent_take k b two))
-  way_so v (s ∷ a) b zero one two = inl refl
+  way_so v (s ∷ a) b zero one two = inl (refl, refl)
   way_so v (s ∷ a) b (suc k) one two = way_from v (after v s) _ (silent_step v s one.0)
       (way_so (after v s) a b k one.1 two)
 
@@ -101,13 +172,14 @@ module _ (op : Operation) (reply : Option Value) (n : ℕ) where
     pub silent_front : (v : View) → AreSilent (front v)
     pub silent_back : (v : View) → AreSilent (back v)
 
-  pub plan_last : (plan : Plan) → Ends plan → PlanTellsLast plan op reply
+  pub plan_last : (plan : Plan) → Ends plan → PlanTellsLast plan op reply n
   plan_last plan e = record {
-    whole = λ v. subst (λ (steps : List Step). TellsLast v (after_all v steps) op reply)
-        (sym (e.are v)) (whole_so v (e.front v) (e.back v) (e.silent_front v) (e.silent_back v));
-    on_the_way = λ v k. subst
-        (λ (steps : List Step). ToldOnTheWay v (after_all v (take k steps)) op reply)
-        (sym (e.are v)) (way_so v (e.front v) (e.back v) k (e.silent_front v) (e.silent_back v));
+    whole = λ v none. last_history v (after_all v (plan v)) none
+        (subst (λ (steps : List Step). TellsLast v (after_all v steps)) (sym (e.are v))
+        (whole_so v (e.front v) (e.back v) (e.silent_front v) (e.silent_back v)));
+    on_the_way = λ v k none. way_history v (after_all v (take k (plan v))) none
+        (subst (λ (steps : List Step). ToldOnTheWay v (after_all v (take k steps)))
+        (sym (e.are v)) (way_so v (e.front v) (e.back v) k (e.silent_front v) (e.silent_back v)));
   }
 
   -- the call ends
@@ -155,33 +227,6 @@ module _ (op : Operation) (reply : Option Value) (n : ℕ) where
       append_in [] ys zs = refl
       append_in (x ∷ xs) ys zs = ap (λ (steps : List Step). x ∷ steps) (append_in xs ys zs)
 
--- ---- THE PLANS OF A CALL
-
-silent_writes_word : (place : ℕ) (bytes : List ℕ) (w : ℕ)
-    → IsSilentPlan (writes_word place bytes w)
-unfolding writes_word
-silent_writes_word place bytes w v =
-    let x : ℕ = written_word place bytes w (known_word v w) in
-    silent_turn (looks w) (stores w x) (silent_look w) (silent_store w x) v
-
-silent_writes : (place : ℕ) (bytes : List ℕ) → IsSilentPlan (writes_words place bytes)
-unfolding writes_words
-silent_writes place bytes = silent_times (λ i. writes_word place bytes (place / 8 + i))
-    (λ i. silent_writes_word place bytes (place / 8 + i))
-    (length (covered_words place (length bytes)))
-
-silent_back : IsSilentPlan takes_back
-silent_back v = by (length v.log.records == 0) where
-  by : (b : Bool) → AreSilent (if b then persists_all v else in_turn restores retires v)
-  by true = silent_persists v
-  by false = silent_turn restores retires silent_restores silent_retires v
-
-silent_ends_records : IsSilentPlan ends_records
-silent_ends_records v = by (length v.log.records == 0) where
-  by : (b : Bool) → AreSilent (if b then [] else retires v)
-  by true = tt
-  by false = silent_retires v
-
 -- THE LAWS
 pub adds_tell : AddsTell
 adds_tell id off len = plan_more (AddRange id off len) None (snapshots (id.off + off) len)
@@ -193,14 +238,22 @@ writes_tell id off bytes = plan_more (Write id off bytes) None (writes_words (id
 
 pub reads_tell : ReadsTell
 unfolding one after_all
-reads_tell id off len v = record { call = refl; calls = refl }
+reads_tell id off len = record {
+  whole = λ v none. tells_history (Read id off len)
+      (Some (Bytes (bytes_seen (known_word v) id.off off len))) v none;
+  on_the_way = λ v k none. more_way (Read id off len)
+      (Some (Bytes (bytes_seen (known_word v) id.off off len))) v [] k tt;
+}
 
 pub cancels_tell : CancelsTell
 cancels_tell = plan_more Cancel None persists_all silent_persists
 
 pub inner_commits_tell : InnerCommitsTell
 unfolding one after_all
-inner_commits_tell v = record { call = refl; calls = refl }
+inner_commits_tell = record {
+  whole = λ v none. tells_history Commit None v none;
+  on_the_way = λ v k none. more_way Commit None v [] k tt;
+}
 
 pub rollbacks_tell : RollbacksTell
 rollbacks_tell op reply n = plan_last op reply n (gives_up op reply n)
@@ -232,3 +285,7 @@ commits_tell entries found n = plan_last Commit None n (commits entries found n)
         (performs_call Commit found n) (silent_log (e ∷ es))
         (ends_before Commit None n (ends_call Commit None n) (performs found)
         (silent_performs found) (lone_ends Commit None n))
+
+pub publishes_tell : PublishesTell
+publishes_tell [] found n = lone_calls_tell Publish None n
+publishes_tell (a ∷ words) found n = logs_tell Publish (map set_entry (a ∷ words)) found n

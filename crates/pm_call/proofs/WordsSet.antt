@@ -1,6 +1,6 @@
 -- THE PENDING WORDS ARE SET by one log, or the number alone is taken where there is none; then the
 -- locks are given back.
-use Rattle.std.proofs.Common.{◌≡◌, ◌≢◌, ℕ, suc, ◌+◌, ◌≤◌, inl, inr, ⊎_elim, true, List, [], ◌∷◌, ◌++◌, length, map, refl, sym, ap, ◌∙◌, subst, arith, None, Some, Result, Ok, Err}
+use Rattle.std.proofs.Common.{◌≡◌, ◌≢◌, ℕ, suc, ◌+◌, ◌≤◌, true, List, [], ◌∷◌, ◌++◌, length, map, refl, sym, ap, ◌∙◌, subst, arith, None, Result, Ok, Err}
 use Rattle.std.specs.List.{AllByRecursion}
 use Rattle.std.proofs.lemmas.List.{length-map}
 use Rattle.pm_memory.specs.declared.lane_mem.Stopped.{Stopped}
@@ -22,7 +22,7 @@ use Rattle.pm_undo.specs.Records.{with_log}
 use Rattle.pm_call.specs.At.{set_entry}
 use Rattle.pm_call.specs.Did.{next}
 use Rattle.pm_call.specs.Entering.{HasPlace, entries_of}
-use Rattle.pm_call.specs.Finishing.{CanLogCall, FinishedAs, FinishedEntries, StandsAs}
+use Rattle.pm_call.specs.Finishing.{CanLogCall, FinishedAs, FinishedEntries, StandsAs, TellsNumber}
 use Rattle.pm_call.specs.GivenUp.{MayEnd}
 use Rattle.pm_call.specs.Plans.{ends_call, logs_entries}
 use Rattle.pm_call.specs.Publications.{HoldsWords, LeavesPublished, SeesWords, publishes, wants_to_set}
@@ -101,6 +101,12 @@ module _ {M : Type 0} (at : M → View → Type 0) (old : Lane M) where
 
       mid_fields : fields_of mid ≡ record (at_rest s) { entries = entries; pending = [] }
       mid_fields = same ∙ (λ i. record (rests.fields i) { entries = entries; pending = left i })
+
+      tells : TellsNumber mid s.view
+      tells = record {
+        drawn = ap (λ (f : Fields). f.drawn) mid_fields ∙ sym (begun_at s h).number.none;
+        last = ap (λ (f : Fields). f.last) mid_fields;
+      }
 
       -- ---- there is none
       module _ (empty : length mid.entries.items ≡ 0) where
@@ -196,15 +202,16 @@ module _ {M : Type 0} (at : M → View → Type 0) (old : Lane M) where
               number = n;
               passes = l.passes;
               ready = l.ready;
-              stops = f.0;
-              numbered = ⊎_elim
-                  (λ (z : (new.drawn ≡ mid.drawn) × (new.last ≡ mid.last)).
-                  inl (
-                    z.0 ∙ ap (λ (g : Fields). g.drawn) mid_fields,
-                    z.1 ∙ ap (λ (g : Fields). g.last) mid_fields,
-                  ))
-                  (λ (z : (new.drawn ≡ Some (n + 1)) × (new.last ≡ n + 1)). inr z) f.1.number;
-              fields = ap (λ (g : Fields). record g { stopped = true }) f.1.same
+              stops = record {
+                made = f.made;
+                fewer = f.fewer;
+                seen = f.seen.0;
+                stopped = f.stopped;
+                due = f.due;
+              };
+              numbered = let t = f.seen.1.numbered tells in
+                  record { drawn = t.drawn; last = t.last };
+              fields = ap (λ (g : Fields). record g { stopped = true }) f.seen.1.same
                   ∙ (λ i. record (mid_fields i) {
                     generation = new.log.generation;
                     records = new.log.records.items;

@@ -1,5 +1,5 @@
 -- A LEVEL IS COMMITTED, as laws of data.
-use Rattle.std.specs.Prelude.{◌≡◌, Bool, false, None, Result, Ok, Err, ℕ, suc, ◌+◌, ◌-◌, ◌/◌, ◌≤◌, List, [], ◌∷◌}
+use Rattle.std.specs.Prelude.{◌≡◌, Bool, false, Result, Ok, Err, ℕ, suc, ◌+◌, ◌-◌, ◌/◌, ◌≤◌, List, [], ◌∷◌, take}
 use Rattle.std.specs.List.{AllByRecursion}
 use Rattle.pm_record.specs.declared.redo.Redo.{Redo}
 use Rattle.pm_view.specs.Log.{Recorded}
@@ -16,7 +16,7 @@ use Rattle.pm_crash.specs.Facts.{HaveFacts}
 use Rattle.pm_plan.specs.Plans.{Ready}
 use Rattle.pm_call.specs.At.{At, IsAt}
 use Rattle.pm_call.specs.Did.{After, IsOver, IsUnrefused, next}
-use Rattle.pm_call.specs.Finishing.{HasNumber}
+use Rattle.pm_call.specs.Finishing.{TellsNumber}
 use Rattle.pm_call.specs.GivenUp.{generation_after}
 use Rattle.pm_call.specs.Plans.{commits, commits_inner}
 use Rattle.pm_call.specs.Ranges.{KnowsWord}
@@ -77,7 +77,8 @@ pub record CommitCut {M : Type 0} (at : M → View → Type 0) (lane : Lane M) (
   pub number : ℕ
   pub ready : Ready s.view (commits s.entries found number s.view)
   pub stops : Stops (at lane.memory) s.view (commits s.entries found number s.view)
-  pub numbered : HasNumber lane None (last_number s.view.entries) number
+  pub numbered : TellsNumber lane
+      (after_all s.view (take stops.made (commits s.entries found number s.view)))
   pub fields : fields_of lane ≡ record (fields_at stage.Work s) { generation = lane.log.generation; records = lane.log.records.items; entries = lane.entries.items; drawn = lane.drawn; last = lane.last; stopped = stopped }
   pub facts : HaveFacts (next s (commits s.entries found number)).view
 

@@ -1,6 +1,6 @@
 -- WHAT THE PARTS OF A COMMIT, or of a publish, DO to a lane whose call is drained: the call takes its number, and its records and entries end. Each over the
 -- views that the lane's memory may be seen as.
-use Rattle.std.specs.Prelude.{◌≡◌, ◌≢◌, ◌⊎◌, ℕ, ◌+◌, List, [], ◌∷◌, Option, Some, None, Result, Ok, Err}
+use Rattle.std.specs.Prelude.{◌≡◌, ◌≢◌, ℕ, ◌+◌, List, [], ◌∷◌, Some, None, Result, Ok, Err}
 use Rattle.pm_memory.specs.Runs.{Stops}
 use Rattle.pm_memory.specs.declared.lane_mem.Stopped.{Stopped}
 use Rattle.pm_objects.specs.declared.calls.Operation.{Operation}
@@ -8,7 +8,7 @@ use Rattle.pm_objects.specs.declared.calls.Operation.TheVariants.{Commit}
 use Rattle.pm_record.specs.declared.redo.Redo.{Redo}
 use Rattle.pm_view.specs.View.{View}
 use Rattle.pm_view.specs.Views.{after_all}
-use Rattle.pm_world.specs.LaneFields.{Fields, IsSeenAs, fields_of}
+use Rattle.pm_world.specs.LaneFields.{Fields, IsSeenAs, fields_of, last_number}
 use Rattle.pm_world.specs.declared.lane.Lane.{Lane}
 use Rattle.pm_plan.specs.Plans.{Plan, Ready, in_turn}
 use Rattle.pm_redo.specs.Calls.{KeepsEntries, MayLog}
@@ -50,18 +50,22 @@ StandsAs Keeps P = (v : View) × Keeps v × P v
 abbrev pub numbered : ℕ → View → Fields → Fields
 numbered n w f = record (with_log w f) { entries = []; drawn = Some (n + 1); last = n + 1 }
 
--- the call has this number, or has none yet
-abbrev pub HasNumber : {M : Type 0} → Lane M → Option ℕ → ℕ → ℕ → Type 0
-HasNumber lane drawn last n = ((lane.drawn ≡ drawn) × (lane.last ≡ last)) ⊎ ((lane.drawn ≡ Some (n + 1)) × (lane.last ≡ n + 1))
+-- the lane's fields tell the number of its open call, and the last number of a call, as this view
+-- does
+pub record TellsNumber {M : Type 0} (lane : Lane M) (v : View) : Type 0 where
+  pub drawn : lane.drawn ≡ v.number
+  pub last : lane.last ≡ last_number v.entries
 
--- the lane came to its stop on the way
-pub record IsCutShort {M : Type 0} (old new : Lane M) (n : ℕ) : Type 0 where
-  pub number : HasNumber new old.drawn old.last n
+-- the lane came to its stop on the way, from this view to that one: it tells its number there, where
+-- it told it here
+pub record IsCutShort {M : Type 0} (old new : Lane M) (v w : View) : Type 0 where
+  pub numbered : TellsNumber old v → TellsNumber new w
   pub same : fields_of new ≡ record (fields_of old) { generation = new.log.generation; records = new.log.records.items; entries = new.entries.items; drawn = new.drawn; last = new.last }
 
 abbrev pub FinishedAs : {M : Type 0} → (M → View → Type 0) → Lane M → Lane M → Plan → ℕ → View → Result (Unit {0}) Stopped → Type 0
 FinishedAs at old new plan n v (Ok done) = IsSeenAs at new (after_all v (plan v)) (numbered n (after_all v (plan v)) (fields_of old))
-FinishedAs at old new plan n v (Err stopped) = Stops (at new.memory) v (plan v) × IsCutShort old new n
+FinishedAs at old new plan n v (Err stopped) =
+    Stops (λ w. at new.memory w × IsCutShort old new v w) v (plan v)
 
 -- the log was performed, and lists no entry and no record
 abbrev pub PerformedAs : {M : Type 0} → (M → View → Type 0) → Lane M → Lane M → Plan → View → Result (Unit {0}) Stopped → Type 0

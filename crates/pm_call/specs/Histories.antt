@@ -1,50 +1,138 @@
--- WHAT THE PLANS OF OPERATIONS TELL, as laws of data: what the open call told, and what those told
--- that have their numbers. All else of a plan tells nothing.
-use Rattle.std.specs.Prelude.{◌≡◌, ◌⊎◌, ℕ, List, [], ◌∷◌, ◌++◌, map, take, Option, None, Some}
+-- THE HISTORY OF A LANE, by its view; and what the plans of operations make of it, as laws of data.
+-- All else of a plan leaves it as it is.
+use Rattle.std.specs.Prelude.{◌≡◌, ℕ, zero, suc, List, [], ◌∷◌, ◌++◌, map, take, Option, None, Some, Result, Ok, Err}
+use Rattle.pm_model.specs.Pending.{SetWord}
 use Rattle.pm_objects.specs.declared.calls.Operation.{Operation}
-use Rattle.pm_objects.specs.declared.calls.Operation.TheVariants.{AddRange, Cancel, Commit, Read, Write}
+use Rattle.pm_objects.specs.declared.calls.Operation.TheVariants.{AddRange, Cancel, Commit, Publish, Read, Write}
 use Rattle.pm_objects.specs.declared.history.Value.{Value}
-use Rattle.pm_objects.specs.declared.history.Value.TheVariants.{Bytes}
+use Rattle.pm_objects.specs.declared.history.Value.TheVariants.{Bytes, Refused}
 use Rattle.pm_objects.specs.declared.ids.Oid.{Oid}
+use Rattle.pm_objects.specs.declared.refusal.Refusal.{Refusal}
+use Rattle.pm_objects.specs.declared.refusal.Refusal.TheVariants as refusal
 use Rattle.pm_record.specs.declared.redo.Redo.{Redo}
 use Rattle.pm_view.specs.View.{Numbered, Told, View}
 use Rattle.pm_view.specs.Views.{after_all}
+use Rattle.pm_world.specs.declared.lane.Lane.{Lane}
 use Rattle.pm_crash.specs.Looked.{bytes_seen}
 use Rattle.pm_plan.specs.Plans.{Plan, known_word}
+use Rattle.pm_call.specs.Publications.{publishes}
 use Rattle.pm_call.specs.Plans.{adds, cancels, commits, commits_inner, ends_call, gets, gives_up, logs_entries, puts}
 
--- ---- THE HISTORY OF A LANE, by its view
+-- ---- WHAT A LANE TOLD
 
--- what its calls told that have their numbers, the last first
-abbrev pub calls_told : View → List (List Told)
-calls_told v = map (λ (e : Numbered). e.call) v.entries
+-- a call that has its number, with its operations and their replies
+pub record Ended : Type 0 where
+  pub number : ℕ
+  pub call : List Told
+
+-- its calls that have their numbers, the last first; and the open call so far
+pub record LaneHistory : Type 0 where
+  pub done : List Ended
+  pub call : List Told
+
+abbrev pub ended_of : Numbered → Ended
+ended_of e = record { number = e.number; call = e.call }
+
+abbrev pub calls_ended : View → List Ended
+calls_ended v = map ended_of v.entries
+
+-- a call that has its number is not open any more
+abbrev pub open_call : Option ℕ → List Told → List Told
+open_call None call = call
+open_call (Some n) call = []
+
+abbrev pub history_of : View → LaneHistory
+history_of v = record { done = calls_ended v; call = open_call v.number v.call }
+
+-- of a lane that made no call
+abbrev pub nothing_told : LaneHistory
+nothing_told = record { done = []; call = [] }
+
+-- the last number
+abbrev pub last_ended : List Ended → ℕ
+last_ended [] = 0
+last_ended (e ∷ done) = e.number
+
+-- ---- HOW IT GROWS
 
 -- an operation, with its reply
 abbrev pub told : Operation → Option Value → Told
 told op reply = record { operation = op; reply = reply }
 
--- ---- what a plan leaves of it
-
 -- the open call told one more operation
-pub record TellsMore (v w : View) (op : Operation) (reply : Option Value) : Type 0 where
-  pub call : w.call ≡ v.call ++ told op reply ∷ []
-  pub calls : calls_told w ≡ calls_told v
+abbrev pub told_more : Operation → Option Value → LaneHistory → LaneHistory
+told_more op reply h = record h { call = h.call ++ told op reply ∷ [] }
 
--- the call told its last operation, and has its number
-pub record TellsLast (v w : View) (op : Operation) (reply : Option Value) : Type 0 where
-  pub calls : calls_told w ≡ (v.call ++ told op reply ∷ []) ∷ calls_told v
+-- it told its last operation, and has this number
+abbrev pub told_last : ℕ → Operation → Option Value → LaneHistory → LaneHistory
+told_last n op reply h = record {
+  done = record { number = n; call = h.call ++ told op reply ∷ [] } ∷ h.done;
+  call = [];
+}
 
--- a lane that stopped on the way: its call has no number, or told that operation last
-abbrev pub ToldOnTheWay : View → View → Operation → Option Value → Type 0
-ToldOnTheWay v w op reply = (calls_told w ≡ calls_told v) ⊎ TellsLast v w op reply
+-- on the way of its last operation: it told that once it has a number
+abbrev pub told_by : Option ℕ → Operation → Option Value → LaneHistory → LaneHistory
+told_by None op reply h = h
+told_by (Some n) op reply h = told_last n op reply h
 
--- ---- THE LAWS: a plan of an operation that goes on, and of one that ends its call
-abbrev pub PlanTellsMore : Plan → Operation → (View → Option Value) → Type 0
-PlanTellsMore plan op reply = (v : View) → TellsMore v (after_all v (plan v)) op (reply v)
+-- ---- HOW A CALL TURNS IT, by what the call returned, and by the lane's numbers then
 
-pub record PlanTellsLast (plan : Plan) (op : Operation) (reply : Option Value) : Type 0 where
-  pub whole : (v : View) → TellsLast v (after_all v (plan v)) op reply
-  pub on_the_way : (v : View) (k : ℕ) → ToldOnTheWay v (after_all v (take k (plan v))) op reply
+-- no reply
+abbrev pub no_value : Unit {0} → Option Value
+no_value done = None
+
+-- an operation of a transaction: it is done; or the lane stopped in it; or it is refused, which ends
+-- the call
+abbrev pub turned : {M T : Type 0} → Lane M → Operation → (T → Option Value) → Result T Refusal
+    → LaneHistory → LaneHistory
+turned lane op reply (Ok x) h = told_more op (reply x) h
+turned lane op reply (Err refusal.Stopped) h = told_by lane.drawn op None h
+turned lane op reply (Err r) h = told_last lane.last op (Some (Refused r)) h
+
+-- the same of an operation that ends its call
+abbrev pub turned_last : {M : Type 0} → Lane M → Operation → Result (Unit {0}) Refusal
+    → LaneHistory → LaneHistory
+turned_last lane op (Ok done) h = told_last lane.last op None h
+turned_last lane op (Err refusal.Stopped) h = told_by lane.drawn op None h
+turned_last lane op (Err r) h = told_last lane.last op (Some (Refused r)) h
+
+-- and of one outside a transaction, for which perhaps no number is left
+abbrev pub turned_alone : {M : Type 0} → Lane M → Operation → Result (Unit {0}) Refusal
+    → LaneHistory → LaneHistory
+turned_alone lane op (Err refusal.Spent) h = h
+turned_alone lane op result h = turned_last lane op result h
+
+-- the same of a begin outside a transaction
+abbrev pub turned_open : {M : Type 0} → Lane M → Operation → Result (Unit {0}) Refusal
+    → LaneHistory → LaneHistory
+turned_open lane op (Err refusal.Spent) h = h
+turned_open lane op result h = turned lane op no_value result h
+
+-- a commit ends the call at the outermost level
+abbrev pub turned_commit : {M : Type 0} → ℕ → Lane M → Result (Unit {0}) Refusal → LaneHistory
+    → LaneHistory
+turned_commit (suc zero) lane result h = turned_last lane Commit result h
+turned_commit level lane result h = turned lane Commit no_value result h
+
+-- where the stage refuses it nothing is told
+abbrev pub unless : Option Refusal → LaneHistory → LaneHistory → LaneHistory
+unless (Some r) next h = h
+unless None next h = next
+
+-- ---- THE LAWS: a plan of an operation that goes on, and of one that ends its call, whole and on the
+-- way
+pub record PlanTellsMore (plan : Plan) (op : Operation) (reply : View → Option Value) : Type 0 where
+  pub whole : (v : View) → v.number ≡ None
+      → history_of (after_all v (plan v)) ≡ told_more op (reply v) (history_of v)
+  pub on_the_way : (v : View) (k : ℕ) → v.number ≡ None
+      → calls_ended (after_all v (take k (plan v))) ≡ calls_ended v
+
+pub record PlanTellsLast (plan : Plan) (op : Operation) (reply : Option Value) (n : ℕ) : Type 0 where
+  pub whole : (v : View) → v.number ≡ None
+      → history_of (after_all v (plan v)) ≡ told_last (suc n) op reply (history_of v)
+  pub on_the_way : (v : View) (k : ℕ) → v.number ≡ None
+      → calls_ended (after_all v (take k (plan v)))
+      ≡ (told_by (after_all v (take k (plan v))).number op reply (history_of v)).done
 
 abbrev pub none_replied : View → Option Value
 none_replied v = None
@@ -70,16 +158,20 @@ InnerCommitsTell = PlanTellsMore commits_inner Commit none_replied
 
 abbrev pub RollbacksTell : Type 0
 RollbacksTell = (op : Operation) (reply : Option Value) (n : ℕ)
-    → PlanTellsLast (gives_up op reply n) op reply
+    → PlanTellsLast (gives_up op reply n) op reply n
 
 abbrev pub CommitsTell : Type 0
 CommitsTell = (entries : List Redo) (found : ℕ → ℕ) (n : ℕ)
-    → PlanTellsLast (commits entries found n) Commit None
+    → PlanTellsLast (commits entries found n) Commit None n
 
 abbrev pub LogsTell : Type 0
 LogsTell = (op : Operation) (entries : List Redo) (found : ℕ → ℕ) (n : ℕ)
-    → PlanTellsLast (logs_entries op entries found n) op None
+    → PlanTellsLast (logs_entries op entries found n) op None n
 
 abbrev pub LoneCallsTell : Type 0
 LoneCallsTell = (op : Operation) (reply : Option Value) (n : ℕ)
-    → PlanTellsLast (ends_call op reply n) op reply
+    → PlanTellsLast (ends_call op reply n) op reply n
+
+abbrev pub PublishesTell : Type 0
+PublishesTell = (words : List SetWord) (found : ℕ → ℕ) (n : ℕ)
+    → PlanTellsLast (publishes words found n) Publish None n

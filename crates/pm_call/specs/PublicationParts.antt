@@ -1,6 +1,6 @@
 -- THE PARTS OF A PUBLISH OUTSIDE A TRANSACTION: a lane that holds the objects of its pending words
 -- looks at each word, and sets them by one log, or the publish is refused; then it gives the locks back.
-use Rattle.std.specs.Prelude.{◌≡◌, ℕ, Bool, true, false, Contains, List, [], ◌∷◌, None, Some, Result, Ok, Err}
+use Rattle.std.specs.Prelude.{◌≡◌, ℕ, Bool, true, false, Contains, List, [], ◌∷◌, take, Some, Result, Ok, Err}
 use Rattle.std.specs.List.{flat_map}
 use Rattle.pm_memory.specs.Runs.{Stops}
 use Rattle.pm_model.specs.Pending.{SetWord, want_to_write}
@@ -11,14 +11,15 @@ use Rattle.pm_objects.specs.declared.history.Value.TheVariants.{Refused}
 use Rattle.pm_objects.specs.declared.refusal.Refusal.{Refusal}
 use Rattle.pm_objects.specs.declared.refusal.Refusal.TheVariants as refusal
 use Rattle.pm_view.specs.View.{View}
-use Rattle.pm_world.specs.LaneFields.{Rests, Standing, at_rest, fields_of, last_number}
+use Rattle.pm_view.specs.Views.{after_all}
+use Rattle.pm_world.specs.LaneFields.{Rests, Standing, at_rest, fields_of}
 use Rattle.pm_world.specs.declared.lane.Lane.{Lane}
 use Rattle.pm_world.specs.declared.lane.PendingAction.{PendingAction}
 use Rattle.pm_world.specs.declared.lane.PendingAction.TheVariants.{Set}
 use Rattle.pm_crash.specs.Facts.{HaveFacts}
 use Rattle.pm_plan.specs.Plans.{Ready}
 use Rattle.pm_call.specs.Did.{After, next}
-use Rattle.pm_call.specs.Finishing.{HasNumber}
+use Rattle.pm_call.specs.Finishing.{TellsNumber}
 use Rattle.pm_call.specs.GivenUp.{with_locks}
 use Rattle.pm_call.specs.Outside.{IsOpenWith, IsPublishRefusal}
 use Rattle.pm_call.specs.Plans.{ends_call}
@@ -47,7 +48,8 @@ pub record PublishWasCut {M : Type 0} (at : M → View → Type 0) (lane : Lane 
   pub passes : PassesTests s.view
   pub ready : Ready s.view (publishes (words_pending s) found number s.view)
   pub stops : Stops (at lane.memory) s.view (publishes (words_pending s) found number s.view)
-  pub numbered : HasNumber lane None (last_number s.view.entries) number
+  pub numbered : TellsNumber lane
+      (after_all s.view (take stops.made (publishes (words_pending s) found number s.view)))
   pub fields : fields_of lane ≡ record (at_rest s) {
     generation = lane.log.generation;
     records = lane.log.records.items;

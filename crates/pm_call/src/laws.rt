@@ -1,6 +1,6 @@
 ghost use Rattle.pm_call.specs.Commits.{CommittedArePast, InnerLevelsMayBeCommitted, OutermostLevelsMayBeCommitted};
 ghost use Rattle.pm_call.specs.GivenUp.{TransactionsMayBeGivenUp};
-ghost use Rattle.pm_call.specs.Histories.{AddsTell, CancelsTell, CommitsTell, InnerCommitsTell, LogsTell, LoneCallsTell, ReadsTell, RollbacksTell, WritesTell};
+ghost use Rattle.pm_call.specs.Histories.{AddsTell, CancelsTell, CommitsTell, InnerCommitsTell, LogsTell, LoneCallsTell, PublishesTell, ReadsTell, RollbacksTell, WritesTell};
 ghost use Rattle.pm_call.specs.Stages.{GivenUpArePast};
 
 use pm_world::LawfulMem;
@@ -36,10 +36,11 @@ pub fn committed_calls_are_past_work<M: LawfulMem>()
     ensures { CommittedArePast M.at }
 {}
 
-/// A law: what the plan of each operation tells. One that goes on tells the operation alone, and
-/// leaves the calls that have their numbers; one that ends its call tells the operation last, and the
-/// call has its number then. A lane that stops on the way of such a plan has told the operation last
-/// where its call has a number, and else has no more calls than before. No code runs.
+/// A law: what the plan of each operation makes of its lane's history. One that goes on tells the
+/// operation alone, and leaves the calls that have their numbers; one that ends its call tells the
+/// operation last, and the call has its number then. A lane that stops on the way of such a plan has
+/// told the operation last where its call has a number, and else has no more calls than before. No
+/// code runs.
 pub fn operations_tell()
     ensures adds { AddsTell }
     ensures writes { WritesTell }
@@ -50,4 +51,5 @@ pub fn operations_tell()
     ensures commits { CommitsTell }
     ensures logs { LogsTell }
     ensures lone_calls { LoneCallsTell }
+    ensures publishes { PublishesTell }
 {}

@@ -73,7 +73,7 @@ module _ {M : Type 0} (at : M → View → Type 0) (old : Lane M) where
         number = c.number;
         ready = c.ready;
         stops = c.stops;
-        numbered = c.numbered;
+        numbered = record { drawn = c.numbered.drawn; last = c.numbered.last };
         fields = ap (λ (f : Fields). record f { stopped = true }) c.fields;
         facts = c.facts;
       })) (committed s works is one))))

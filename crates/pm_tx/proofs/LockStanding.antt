@@ -1,6 +1,6 @@
--- A LANE STANDS after a call that locks objects: a lock, and a begin of an inner level or of the
--- outermost one.
-use Rattle.std.proofs.Common.{◌≡◌, ℕ, ◌+◌, ◌≤◌, false, ⊎_elim, List, Option, Some, None, Result, Ok, Err, refl, sym, ap, ◌∙◌, arith}
+-- A LANE STANDS WITH ITS HISTORY TURNED after a call that locks objects: a lock, and a begin of an
+-- inner level or of the outermost one.
+use Rattle.std.proofs.Common.{◌≡◌, ℕ, ◌+◌, ◌≤◌, false, ⊎_elim, List, [], Option, Some, None, Result, Ok, Err, refl, sym, ap, ◌∙◌, subst, arith}
 use Rattle.pm_objects.specs.declared.calls.Operation.{Operation}
 use Rattle.pm_objects.specs.declared.calls.Operation.TheVariants.{Begin}
 use Rattle.pm_objects.specs.declared.calls.Want.{Want}
@@ -11,112 +11,160 @@ use Rattle.pm_objects.specs.declared.refusal.Refusal.TheVariants as refusal
 use Rattle.pm_view.specs.View.{View}
 use Rattle.pm_world.specs.LaneFields.{Fields, Standing, moved}
 use Rattle.pm_world.specs.declared.lane.Lane.{Lane}
+use Rattle.pm_call.specs.At.{At}
 use Rattle.pm_call.specs.Between.{MayOpen, saw_number}
 use Rattle.pm_call.specs.Did.{work_refusal}
 use Rattle.pm_call.specs.GivenUp.{with_locks}
+use Rattle.pm_call.specs.Histories.{LaneHistory, history_of, no_value, told_by, told_last, told_more, turned, turned_open, unless}
 use Rattle.pm_call.specs.LockOps.{BeganInner, DeepAs, LockedAs}
 use Rattle.pm_call.specs.Locking.{IsOpened, locked_with}
 use Rattle.pm_call.specs.Opening.{BegunAs, OutermostBegun, OutermostBegunAs}
-use Rattle.pm_call.specs.Plans.{gives_up}
 use Rattle.pm_call.specs.Stages.{at_level}
-use Rattle.pm_call.specs.Standing.{Stands}
-use Rattle.pm_call.proofs.Standing.{aborted_call_stands, cut_stands, same_stands, spent_stands, stopped_stands, working_stands}
+use Rattle.pm_call.specs.Standing.{Stands, StandsWith}
+use Rattle.pm_call.proofs.Standing.{aborted_call_stands, cut_rollback_stands, same_stands, spent_stands, stopped_stands, working_stands}
 use Rattle.pm_call.proofs.StoppedLanes.{wait_is_stopped}
+use Rattle.pm_call.proofs.ToldLooks.{saw_history, taken_told, told_history, told_open, tried_told, wait_told}
+use Rattle.pm_call.proofs.ToldPlans.{tells_history}
 use Rattle.pm_tx.specs.Begins.{LevelBegun, LevelBegunSo}
 use Rattle.pm_tx.specs.Locks.{DidLock, DidLockSo}
+use Rattle.pm_tx.specs.Standing.{turned_begin}
 use Rattle.pm_tx.proofs.LevelBegins.{outside}
 
-module _ {M : Type 0} (at : M → View → Type 0) (old new : Lane M) where
+module _ {M : Type 0} (at : M → View → Type 0) (old new : Lane M) (h : LaneHistory) where
   -- ---- a lock
 
-  locked_stands : (s : Standing) (op : Operation) (wants : List Want) (level : ℕ) → 1 ≤ s.level
-      → s.level ≤ 64 → (result : Result (Unit {0}) Refusal)
-      → LockedAs at new s op wants level result → Stands at new
-  locked_stands s op wants level some most (Ok done) l =
-      working_stands at new (locked_with s op wants level l.0) l.4 l.5
-  locked_stands s op wants level some most (Err refusal.Stopped) l =
-      cut_stands at new (with_locks l.1.all (moved s l.1.view))
-      (gives_up op (Some (Refused l.0)) l.2) l.3
-  locked_stands s op wants level some most (Err r) l =
-      aborted_call_stands at new (with_locks l.0.all (moved s l.0.view)) op (Some (Refused r))
-      (error.Refused r) some most (λ e. cc) l.1
+  locked_turns : (s : Standing) (op : Operation) (wants : List Want) (level : ℕ) → 1 ≤ s.level
+      → s.level ≤ 64 → s.view.number ≡ None → history_of s.view ≡ h
+      → (result : Result (Unit {0}) Refusal) → LockedAs at new s op wants level result
+      → StandsWith at new (turned new op no_value result h)
+  locked_turns s op wants level some most none same (Ok done) l =
+      let took = taken_told s wants l.0 l.1 in
+      working_stands at new (told_more op None h) (locked_with s op wants level l.0) l.4 l.5
+      (tells_history op None l.0 (told_open s.view l.0 took none)
+      ∙ ap (told_more op None) (told_history s.view l.0 h took same))
+  locked_turns s op wants level some most none same (Err refusal.Stopped) l =
+      let tried = tried_told s wants l.1.all l.1.view l.1.tried in
+      cut_rollback_stands at new h (with_locks l.1.all (moved s l.1.view)) op (Some (Refused l.0))
+      l.2 (told_open s.view l.1.view tried none) (told_history s.view l.1.view h tried same) l.3
+  locked_turns s op wants level some most none same (Err r) l =
+      let tried = tried_told s wants l.0.all l.0.view l.0.tried in
+      aborted_call_stands at new h (with_locks l.0.all (moved s l.0.view)) op (Some (Refused r))
+      (error.Refused r) some most (λ e. cc) (told_open s.view l.0.view tried none)
+      (told_history s.view l.0.view h tried same) l.1
 
-  pub lock_stands : (op : Operation) (wants : List Want) (result : Result (Unit {0}) Refusal)
-      → Stands at old → DidLock at old new op wants result → Stands at new
+  pub lock_turns : (op : Operation) (wants : List Want) (result : Result (Unit {0}) Refusal)
+      → StandsWith at old h → DidLock at old new op wants result
+      → StandsWith at new (unless (work_refusal old) (turned new op no_value result h) h)
   unfolding DidLock
-  lock_stands op wants result stands did = by (work_refusal old) refl did where
+  lock_turns op wants result stands did = by (work_refusal old) refl did where
     by : (w : Option Refusal) → work_refusal old ≡ w → DidLockSo w at old new op wants result
-        → Stands at new
-    by (Some r) some d = same_stands at old new stands d.1
+        → StandsWith at new (unless w (turned new op no_value result h) h)
+    by (Some r) some d = same_stands at old new h stands d.1
     by None none d =
         let here = stands.work none in
-        locked_stands here.standing op wants here.standing.level here.stands.some here.stands.most
-        result (d here.standing here.works here.stands)
+        let s = here.0.standing in
+        locked_turns s op wants s.level here.0.stands.some here.0.stands.most
+        here.0.stands.number.none here.1 result (d s here.0.works here.0.stands)
 
   module _ (wants : List Want) where
     -- ---- the begin of an inner level
 
-    deep_stands : (s : Standing) → 1 ≤ s.level → s.level ≤ 64
-        → (result : Result (Unit {0}) Refusal) → DeepAs at new s wants result → Stands at new
-    deep_stands s some most (Ok done) d = absurd d
-    deep_stands s some most (Err refusal.Stopped) d =
-        cut_stands at new s (gives_up (Begin wants) (Some (Refused refusal.Deep)) d.0) d.1
-    deep_stands s some most (Err r) d =
-        aborted_call_stands at new s (Begin wants) (Some (Refused refusal.Deep))
-        (error.Refused refusal.Deep) some most (λ e. cc) d.1
+    deep_turns : (s : Standing) → At s → history_of s.view ≡ h
+        → (result : Result (Unit {0}) Refusal) → DeepAs at new s wants result
+        → StandsWith at new (turned new (Begin wants) no_value result h)
+    deep_turns s is same (Ok done) d = absurd d
+    deep_turns s is same (Err refusal.Stopped) d =
+        cut_rollback_stands at new h s (Begin wants) (Some (Refused refusal.Deep)) d.0
+        is.number.none same d.1
+    deep_turns s is same (Err r) d =
+        subst (λ q. StandsWith at new (told_last new.last (Begin wants) (Some (Refused q)) h))
+        (sym d.0)
+        (aborted_call_stands at new h s (Begin wants) (Some (Refused refusal.Deep))
+        (error.Refused refusal.Deep) is.some is.most (λ e. cc) is.number.none same d.1)
 
-    pub began_inner_stands : (result : Result (Unit {0}) Refusal) → work_refusal old ≡ None
-        → Stands at old → BeganInner at old new wants result → Stands at new
+    began_inner_turns : (result : Result (Unit {0}) Refusal) → work_refusal old ≡ None
+        → StandsWith at old h → BeganInner at old new wants result
+        → StandsWith at new (turned new (Begin wants) no_value result h)
     unfolding BeganInner
-    began_inner_stands result none stands began =
+    began_inner_turns result none stands began =
         let here = stands.work none in
-        let s = here.standing in
-        let some = here.stands.some in
-        let most = here.stands.most in
+        let s = here.0.standing in
+        let is = here.0.stands in
         ⊎_elim
-        (λ d. deep_stands s some most result d.1)
-        (λ l. locked_stands s (Begin wants) wants (s.level + 1) some most result l.1)
-        (began s here.works here.stands)
+        (λ d. deep_turns s is here.1 result d.1)
+        (λ l. locked_turns s (Begin wants) wants (s.level + 1) is.some is.most is.number.none here.1
+        result l.1)
+        (began s here.0.works is)
 
     -- ---- the begin of the outermost level
 
-    begun_stands : (s : Standing) → IsOpened s → (result : Result (Unit {0}) Refusal)
-        → BegunAs at new wants result s → Stands at new
-    begun_stands s opened (Ok done) b =
-        working_stands at new (locked_with s (Begin wants) wants 1 b.view) b.works b.leads.stands
-    begun_stands s opened (Err refusal.Stopped) b =
-        stopped_stands at new (ap (λ (f : Fields). f.stopped) b.fields)
-        (wait_is_stopped at new s wants opened.facts b)
-    begun_stands s opened (Err r) b =
-        aborted_call_stands at new (at_level 1 (with_locks b.all (moved s b.view))) (Begin wants)
-        (Some (Refused r)) (error.Refused r) (omega arith) (omega arith) (λ e. cc) b.ended
+    begun_turns : (s : Standing) → IsOpened s → history_of s.view ≡ h
+        → (result : Result (Unit {0}) Refusal) → BegunAs at new wants result s
+        → StandsWith at new (turned new (Begin wants) no_value result h)
+    begun_turns s opened same (Ok done) b =
+        let took = taken_told s wants b.view b.takes in
+        working_stands at new (told_more (Begin wants) None h)
+        (locked_with s (Begin wants) wants 1 b.view) b.works b.leads.stands
+        (tells_history (Begin wants) None b.view (told_open s.view b.view took opened.number.none)
+        ∙ ap (told_more (Begin wants) None) (told_history s.view b.view h took same))
+    begun_turns s opened same (Err refusal.Stopped) b =
+        stopped_stands at new (told_by new.drawn (Begin wants) None h)
+        (ap (λ (f : Fields). f.stopped) b.fields) (wait_is_stopped at new s wants opened.facts b)
+        (ap (λ (x : LaneHistory). x.done)
+        (told_history s.view _ h (wait_told at new s wants b) same)
+        ∙ sym (ap (λ d. (told_by d (Begin wants) None h).done)
+        (ap (λ (f : Fields). f.drawn) b.fields)))
+    begun_turns s opened same (Err r) b =
+        let tried = tried_told s wants b.all b.view b.tried in
+        aborted_call_stands at new h (at_level 1 (with_locks b.all (moved s b.view))) (Begin wants)
+        (Some (Refused r)) (error.Refused r) (omega arith) (omega arith) (λ e. cc)
+        (told_open s.view b.view tried opened.number.none)
+        (told_history s.view b.view h tried same) b.ended
 
-    opened_stands : (s : Standing) → s.level ≡ 0 → MayOpen s
-        → (result : Result (Unit {0}) Refusal) → OutermostBegunAs at new wants result s
-        → Stands at new
-    opened_stands s outside may (Err refusal.Spent) b = spent_stands at new s outside may b
-    opened_stands s outside may result b =
-        begun_stands (saw_number s b.number) b.opened result b.holds
+    opened_turns : (s : Standing) → s.level ≡ 0 → MayOpen s → history_of s.view ≡ h
+        → h.call ≡ [] → (result : Result (Unit {0}) Refusal)
+        → OutermostBegunAs at new wants result s
+        → StandsWith at new (turned_open new (Begin wants) result h)
+    opened_turns s outside may same none (Err refusal.Spent) b =
+        spent_stands at new h s outside may b same none
+    opened_turns s outside may same none result b =
+        begun_turns (saw_number s b.number) b.opened (saw_history s b.number h same none) result
+        b.holds
 
-    pub begun_outermost_stands : (result : Result (Unit {0}) Refusal) → old.stopped ≡ false
-        → old.level ≡ 0 → Stands at old → OutermostBegun at old new wants result → Stands at new
+    begun_outermost_turns : (result : Result (Unit {0}) Refusal) → old.stopped ≡ false
+        → old.level ≡ 0 → StandsWith at old h → OutermostBegun at old new wants result
+        → StandsWith at new (turned_open new (Begin wants) result h)
     unfolding OutermostBegun
-    begun_outermost_stands result going outside stands begun =
+    begun_outermost_turns result going outside stands begun =
         let here = stands.between going outside in
-        let s = here.standing in
-        opened_stands s (sym (ap (λ (f : Fields). f.level) here.rests.fields) ∙ outside) here.between
-        result (begun s here.rests here.between)
+        let s = here.0.standing in
+        opened_turns s (sym (ap (λ (f : Fields). f.level) here.0.rests.fields) ∙ outside)
+        here.0.between here.1 here.2 result (begun s here.0.rests here.0.between)
 
     -- ---- a begin
 
-    pub begun_level_stands : (result : Result (Unit {0}) Refusal) → Stands at old
-        → LevelBegun at old new wants result → Stands at new
+    pub begun_level_turns : (result : Result (Unit {0}) Refusal) → StandsWith at old h
+        → LevelBegun at old new wants result
+        → StandsWith at new (turned_begin (work_refusal old) new wants result h)
     unfolding LevelBegun
-    begun_level_stands result stands begun = by (work_refusal old) refl begun where
+    begun_level_turns result stands begun = by (work_refusal old) refl begun where
       by : (w : Option Refusal) → work_refusal old ≡ w → LevelBegunSo w at old new wants result
-          → Stands at new
-      by None none b = began_inner_stands result none stands b
+          → StandsWith at new (turned_begin w new wants result h)
+      by None none b = began_inner_turns result none stands b
       by (Some refusal.NoTx) is b =
           let o = outside old.stopped old.stage old.level is in
-          begun_outermost_stands result o.0 o.1 stands b
-      by (Some r) is b = same_stands at old new stands b.1
+          begun_outermost_turns result o.0 o.1 stands b
+      by (Some r) is b = same_stands at old new h stands b.1
+
+-- ---- SO IT STANDS, with whatever history
+
+module _ {M : Type 0} (at : M → View → Type 0) (old new : Lane M) where
+  pub lock_stands : (op : Operation) (wants : List Want) (result : Result (Unit {0}) Refusal)
+      → Stands at old → DidLock at old new op wants result → Stands at new
+  lock_stands op wants result stands did =
+      (_, lock_turns at old new stands.0 op wants result stands.1 did)
+
+  pub begun_level_stands : (wants : List Want) (result : Result (Unit {0}) Refusal) → Stands at old
+      → LevelBegun at old new wants result → Stands at new
+  begun_level_stands wants result stands did =
+      (_, begun_level_turns at old new stands.0 wants result stands.1 did)

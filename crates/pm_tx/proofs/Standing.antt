@@ -1,78 +1,130 @@
--- A LANE STANDS after each call that commits, publishes or aborts, from what the call says that it
--- did.
-use Rattle.std.proofs.Common.{◌≡◌, ◌≢◌, ℕ, zero, suc, ◌==◌, ◌≤◌, Bool, true, false, if◌then◌else◌, Option, Some, None, Result, Ok, Err, refl}
+-- A LANE STANDS WITH ITS HISTORY TURNED after each call on a range, and each that commits, publishes
+-- or aborts, from what the call says that it did.
+use Rattle.std.proofs.Common.{◌≡◌, ◌≢◌, ℕ, zero, suc, ◌==◌, ◌≤◌, Bool, true, false, if◌then◌else◌, List, Option, Some, None, Result, Ok, Err, refl, sym, ap, ◌∙◌, subst, arith}
 use Rattle.pm_model.specs.Inside.{error_for}
 use Rattle.pm_model.specs.declared.stage.Stage.{Stage}
 use Rattle.pm_model.specs.declared.stage.Stage.TheVariants as stage
-use Rattle.pm_objects.specs.declared.calls.Operation.TheVariants.{Abort, Publish}
+use Rattle.pm_objects.specs.declared.calls.Operation.TheVariants.{Abort, AddRange, Commit, Publish, Read, Write}
 use Rattle.pm_objects.specs.declared.history.TxErr.TheVariants as error
-use Rattle.pm_objects.specs.declared.history.Value.TheVariants.{Refused}
+use Rattle.pm_objects.specs.declared.history.Value.TheVariants.{Bytes, Refused}
+use Rattle.pm_objects.specs.declared.ids.Oid.{Oid}
 use Rattle.pm_objects.specs.declared.refusal.Refusal.{Refusal}
 use Rattle.pm_objects.specs.declared.refusal.Refusal.TheVariants as refusal
 use Rattle.pm_view.specs.View.{View}
-use Rattle.pm_world.specs.LaneFields.{Standing, moved}
+use Rattle.pm_world.specs.LaneFields.{Fields, Standing, moved}
 use Rattle.pm_world.specs.declared.lane.Lane.{Lane}
-use Rattle.pm_call.specs.Did.{next, work_refusal}
-use Rattle.pm_call.specs.Plans.{commits_inner, gives_up}
+use Rattle.pm_call.specs.Adding.{HasCounted}
+use Rattle.pm_call.specs.At.{At}
+use Rattle.pm_call.specs.Did.{Did, next, work_refusal}
+use Rattle.pm_call.specs.Histories.{LaneHistory, history_of, no_value, told_more, turned, turned_commit, turned_last, unless}
+use Rattle.pm_call.specs.Plans.{adds, commits_inner, gets, puts}
 use Rattle.pm_call.specs.Publishing.{words_entered}
+use Rattle.pm_call.specs.Reading.{HasRead}
 use Rattle.pm_call.specs.Stages.{end_refusal, next_stage}
-use Rattle.pm_call.specs.Standing.{Stands}
-use Rattle.pm_call.proofs.Standing.{aborted_call_stands, committed_call_stands, cut_commit_stands, cut_stands, past_stands, refused_stands, same_stands, working_stands}
+use Rattle.pm_call.specs.Standing.{Stands, StandsWith}
+use Rattle.pm_call.proofs.Standing.{aborted_call_stands, committed_call_stands, cut_commit_stands, cut_rollback_stands, did_turns, over_inner, past_stands, refused_stands, same_stands, working_stands}
+use Rattle.pm_call.proofs.ToldLooks.{looks_told, told_history, told_open}
+use Rattle.pm_call.proofs.ToldPlans.{adds_tell, inner_commits_tell, reads_tell, tells_history, writes_tell}
 use Rattle.pm_tx.specs.Commits.{InnerEnds, LevelCommitted, LevelCommittedSo, LevelEnds, OutermostEnds, PassedSo, Processed, ProcessedFrom}
 use Rattle.pm_tx.specs.Outcome.{Aborted, AbortedAs, AbortedSo}
 use Rattle.pm_tx.specs.Publishing.{Published, PublishedAs, PublishedSo}
+use Rattle.pm_tx.specs.Standing.{read_bytes, turned_level, turned_stage, uncounted}
 
-module _ {M : Type 0} (at : M → View → Type 0) (old new : Lane M) where
+module _ {M : Type 0} (at : M → View → Type 0) (old new : Lane M) (h : LaneHistory) where
+  -- ---- ranges
+
+  pub added_turns : (id : Oid) (off len : ℕ) (result : Result ℕ Refusal) → StandsWith at old h
+      → Did at old new (AddRange id off len) (λ v. adds id off len) (HasCounted id off len) result
+      → StandsWith at new
+      (unless (work_refusal old) (turned new (AddRange id off len) uncounted result h) h)
+  added_turns id off len = did_turns at old new h (AddRange id off len) (λ v. adds id off len)
+      (HasCounted id off len) (λ v w. None) uncounted (λ v. adds_tell id off len) (λ v n is. refl)
+
+  pub written_turns : (id : Oid) (off : ℕ) (bytes : List ℕ) (result : Result (Unit {0}) Refusal)
+      → StandsWith at old h
+      → Did at old new (Write id off bytes) (λ v. puts id off bytes) (λ v done. Unit) result
+      → StandsWith at new
+      (unless (work_refusal old) (turned new (Write id off bytes) no_value result h) h)
+  written_turns id off bytes = did_turns at old new h (Write id off bytes)
+      (λ v. puts id off bytes) (λ v (done : Unit {0}). Unit {0}) (λ v w. None) no_value
+      (λ v. writes_tell id off bytes) (λ v n is. refl)
+
+  pub read_turns : (id : Oid) (off len : ℕ) (into : List ℕ) (result : Result (Unit {0}) Refusal)
+      → StandsWith at old h
+      → Did at old new (Read id off len) (λ v. gets id off len) (HasRead id off len into) result
+      → StandsWith at new
+      (unless (work_refusal old) (turned new (Read id off len) (read_bytes into) result h) h)
+  read_turns id off len into = did_turns at old new h (Read id off len) (λ v. gets id off len)
+      (HasRead id off len into) _ (read_bytes into) (λ v. reads_tell id off len)
+      (λ v n is. ap (λ bytes. Some (Bytes bytes)) (sym is))
+
   -- ---- a commit
 
-  inner_stands : (s : Standing) (result : Result (Unit {0}) Refusal) → InnerEnds at new result s
-      → Stands at new
-  inner_stands s (Ok done) ends =
-      past_stands at new (next s commits_inner) stage.OnCommit error.None ends.1
-  inner_stands s (Err r) ends = absurd ends
+  inner_turns : (s : Standing) (result : Result (Unit {0}) Refusal) → At s → 2 ≤ s.level
+      → history_of s.view ≡ h → InnerEnds at new result s
+      → StandsWith at new (turned new Commit no_value result h)
+  inner_turns s (Ok done) is inner same ends =
+      past_stands at new (told_more Commit None h) (next s commits_inner) stage.OnCommit error.None
+      ends.1 (inner_commits_tell.whole s.view is.number.none ∙ ap (told_more Commit None) same)
+      (over_inner s.level (told_more Commit None h) inner)
+  inner_turns s (Err r) is inner same ends = absurd ends
 
-  outermost_stands : (s : Standing) → s.level ≡ 1 → (result : Result (Unit {0}) Refusal)
-      → OutermostEnds at new result s → Stands at new
-  outermost_stands s outermost (Ok done) ends = committed_call_stands at new s outermost ends
-  outermost_stands s outermost (Err refusal.Stopped) ends = cut_commit_stands at new s ends
-  outermost_stands s outermost (Err r) ends = absurd ends
+  outermost_turns : (s : Standing) → s.level ≡ 1 → s.view.number ≡ None → history_of s.view ≡ h
+      → (result : Result (Unit {0}) Refusal) → OutermostEnds at new result s
+      → StandsWith at new (turned_last new Commit result h)
+  outermost_turns s outermost none same (Ok done) ends =
+      committed_call_stands at new h s outermost none same ends
+  outermost_turns s outermost none same (Err refusal.Stopped) ends =
+      cut_commit_stands at new h s none same ends
+  outermost_turns s outermost none same (Err r) ends = absurd ends
 
-  level_stands : (s : Standing) (result : Result (Unit {0}) Refusal) (n : ℕ) → s.level ≡ n
-      → LevelEnds at new result n s → Stands at new
-  level_stands s result zero is ends = inner_stands s result ends
-  level_stands s result (suc zero) is ends =
-      outermost_stands (moved s ends.view) is result ends.holds
-  level_stands s result (suc (suc n)) is ends = inner_stands s result ends
+  level_turns : (s : Standing) (result : Result (Unit {0}) Refusal) (n : ℕ) → s.level ≡ n → At s
+      → history_of s.view ≡ h → LevelEnds at new result n s
+      → StandsWith at new (turned_commit n new result h)
+  level_turns s result zero is work same ends =
+      absurd (let some = work.some in omega (arith, is, some))
+  level_turns s result (suc zero) is work same ends =
+      let looked = looks_told ends.looks s.view ends.view ends.looked in
+      outermost_turns (moved s ends.view) is (told_open s.view ends.view looked work.number.none)
+      (told_history s.view ends.view h looked same) result ends.holds
+  level_turns s result (suc (suc n)) is work same ends =
+      inner_turns s result work (omega (arith, is)) same ends
 
-  pub committed_stands : (result : Result (Unit {0}) Refusal) → Stands at old
-      → LevelCommitted at old new result → Stands at new
+  pub committed_turns : (result : Result (Unit {0}) Refusal) → StandsWith at old h
+      → LevelCommitted at old new result → StandsWith at new (turned_level old new result h)
   unfolding LevelCommitted
-  committed_stands result stands committed = by (work_refusal old) refl committed where
+  committed_turns result stands committed = by (work_refusal old) refl committed where
     by : (w : Option Refusal) → work_refusal old ≡ w → LevelCommittedSo w at old new result
-        → Stands at new
-    by (Some r) some d = same_stands at old new stands d.1
+        → StandsWith at new (unless w (turned_commit old.level new result h) h)
+    by (Some r) some d = same_stands at old new h stands d.1
     by None none d =
         let here = stands.work none in
-        let s = here.standing in level_stands s result s.level refl (d s here.works here.stands)
+        let s = here.0.standing in
+        let level : old.level ≡ s.level = ap (λ (f : Fields). f.level) here.0.works.fields in
+        level_turns s result old.level (sym level) here.0.stands here.1
+        (subst (λ n. LevelEnds at new result n s) (sym level) (d s here.0.works here.0.stands))
 
   -- ---- a step to the next stage
 
-  passed_stands : (result : Result (Unit {0}) Refusal) → Stands at old
-      → PassedSo (end_refusal old) at old new result → Stands at new
+  passed_stands : (result : Result (Unit {0}) Refusal) → StandsWith at old h
+      → PassedSo (end_refusal old) at old new result → StandsWith at new h
   passed_stands result stands passed = by (end_refusal old) refl passed where
-    by : (w : Option Refusal) → end_refusal old ≡ w → PassedSo w at old new result → Stands at new
-    by (Some r) some d = same_stands at old new stands d.1
+    by : (w : Option Refusal) → end_refusal old ≡ w → PassedSo w at old new result
+        → StandsWith at new h
+    by (Some r) some d = same_stands at old new h stands d.1
     by None none d =
         let here = stands.past none in
-        past_stands at new here.standing (next_stage here.stage) here.error
-        (d here.standing here.stage here.error here.stands).1
+        let p = here.0 in
+        past_stands at new h p.standing (next_stage p.stage) p.error
+        (d p.standing p.stage p.error p.stands).1 here.1 here.2
 
-  pub processed_stands : (result : Result (Unit {0}) Refusal) → Stands at old
-      → Processed at old new result → Stands at new
+  pub processed_turns : (result : Result (Unit {0}) Refusal) → StandsWith at old h
+      → Processed at old new result → StandsWith at new (turned_stage old.stage old new result h)
   unfolding Processed
-  processed_stands result stands processed = by old.stage processed where
-    by : (st : Stage) → ProcessedFrom st at old new result → Stands at new
-    by stage.Work p = committed_stands result stands p
+  processed_turns result stands processed = by old.stage processed where
+    by : (st : Stage) → ProcessedFrom st at old new result
+        → StandsWith at new (turned_stage st old new result h)
+    by stage.Work p = committed_turns result stands p
     by st p = passed_stands result stands p
 
   -- ---- an abort
@@ -83,44 +135,98 @@ module _ {M : Type 0} (at : M → View → Type 0) (old new : Lane M) where
     by true e = cc
     by false e = cc
 
-  abort_stands : (errnum : ℕ) (s : Standing) → 1 ≤ s.level → s.level ≤ 64
-      → (result : Result (Unit {0}) Refusal) → AbortedAs at new errnum result s → Stands at new
-  abort_stands errnum s some most (Ok done) a =
-      aborted_call_stands at new s (Abort errnum) None (error_for errnum) some most
-      (is_error errnum) a
-  abort_stands errnum s some most (Err refusal.Stopped) a =
-      cut_stands at new s (gives_up (Abort errnum) None a.0) a.1
-  abort_stands errnum s some most (Err r) a = absurd a
+  abort_turns : (errnum : ℕ) (s : Standing) → At s → history_of s.view ≡ h
+      → (result : Result (Unit {0}) Refusal) → AbortedAs at new errnum result s
+      → StandsWith at new (turned_last new (Abort errnum) result h)
+  abort_turns errnum s is same (Ok done) a =
+      aborted_call_stands at new h s (Abort errnum) None (error_for errnum) is.some is.most
+      (is_error errnum) is.number.none same a
+  abort_turns errnum s is same (Err refusal.Stopped) a =
+      cut_rollback_stands at new h s (Abort errnum) None a.0 is.number.none same a.1
+  abort_turns errnum s is same (Err r) a = absurd a
 
-  pub aborted_stands : (errnum : ℕ) (result : Result (Unit {0}) Refusal) → Stands at old
-      → Aborted at old new errnum result → Stands at new
+  pub aborted_turns : (errnum : ℕ) (result : Result (Unit {0}) Refusal) → StandsWith at old h
+      → Aborted at old new errnum result
+      → StandsWith at new (unless (work_refusal old) (turned_last new (Abort errnum) result h) h)
   unfolding Aborted
-  aborted_stands errnum result stands aborted = by (work_refusal old) refl aborted where
+  aborted_turns errnum result stands aborted = by (work_refusal old) refl aborted where
     by : (w : Option Refusal) → work_refusal old ≡ w → AbortedSo w at old new errnum result
-        → Stands at new
-    by (Some r) some d = same_stands at old new stands d.1
+        → StandsWith at new (unless w (turned_last new (Abort errnum) result h) h)
+    by (Some r) some d = same_stands at old new h stands d.1
     by None none d =
         let here = stands.work none in
-        abort_stands errnum here.standing here.stands.some here.stands.most result
-        (d here.standing here.works here.stands)
+        abort_turns errnum here.0.standing here.0.stands here.1 result
+        (d here.0.standing here.0.works here.0.stands)
 
   -- ---- a publish
 
-  publish_stands : (s : Standing) → 1 ≤ s.level → s.level ≤ 64
-      → (result : Result (Unit {0}) Refusal) → PublishedAs at new result s → Stands at new
-  publish_stands s some most (Ok done) p = working_stands at new (words_entered s) p.works p.stands
-  publish_stands s some most (Err refusal.Stopped) p =
-      cut_stands at new s (gives_up Publish (Some (Refused p.refusal)) p.number) p.cut
-  publish_stands s some most (Err r) p = refused_stands at new s some most Publish r p
+  publish_turns : (s : Standing) → 1 ≤ s.level → s.level ≤ 64 → s.view.number ≡ None
+      → history_of s.view ≡ h → (result : Result (Unit {0}) Refusal) → PublishedAs at new result s
+      → StandsWith at new (turned new Publish no_value result h)
+  publish_turns s some most none same (Ok done) p =
+      working_stands at new (told_more Publish None h) (words_entered s) p.works p.stands
+      (tells_history Publish None s.view none ∙ ap (told_more Publish None) same)
+  publish_turns s some most none same (Err refusal.Stopped) p =
+      cut_rollback_stands at new h s Publish (Some (Refused p.refusal)) p.number none same p.cut
+  publish_turns s some most none same (Err r) p =
+      refused_stands at new h s some most Publish r none same p
+
+  pub published_turns : (result : Result (Unit {0}) Refusal) → StandsWith at old h
+      → Published at old new result
+      → StandsWith at new (unless (work_refusal old) (turned new Publish no_value result h) h)
+  unfolding Published
+  published_turns result stands published = by (work_refusal old) refl published where
+    by : (w : Option Refusal) → work_refusal old ≡ w → PublishedSo w at old new result
+        → StandsWith at new (unless w (turned new Publish no_value result h) h)
+    by (Some r) some d = same_stands at old new h stands d.1
+    by None none d =
+        let here = stands.work none in
+        let s = here.0.standing in
+        let t = d s here.0.works here.0.stands in
+        let looked = looks_told t.looks s.view t.view t.looked in
+        publish_turns (moved s t.view) here.0.stands.some here.0.stands.most
+        (told_open s.view t.view looked here.0.stands.number.none)
+        (told_history s.view t.view h looked here.1) result t.holds
+
+-- ---- SO IT STANDS, with whatever history
+
+module _ {M : Type 0} (at : M → View → Type 0) (old new : Lane M) where
+  pub added_stands : (id : Oid) (off len : ℕ) (result : Result ℕ Refusal) → Stands at old
+      → Did at old new (AddRange id off len) (λ v. adds id off len) (HasCounted id off len) result
+      → Stands at new
+  added_stands id off len result stands did =
+      (_, added_turns at old new stands.0 id off len result stands.1 did)
+
+  pub written_stands : (id : Oid) (off : ℕ) (bytes : List ℕ) (result : Result (Unit {0}) Refusal)
+      → Stands at old
+      → Did at old new (Write id off bytes) (λ v. puts id off bytes) (λ v done. Unit) result
+      → Stands at new
+  written_stands id off bytes result stands did =
+      (_, written_turns at old new stands.0 id off bytes result stands.1 did)
+
+  pub read_stands : (id : Oid) (off len : ℕ) (into : List ℕ) (result : Result (Unit {0}) Refusal)
+      → Stands at old
+      → Did at old new (Read id off len) (λ v. gets id off len) (HasRead id off len into) result
+      → Stands at new
+  read_stands id off len into result stands did =
+      (_, read_turns at old new stands.0 id off len into result stands.1 did)
+
+  pub committed_stands : (result : Result (Unit {0}) Refusal) → Stands at old
+      → LevelCommitted at old new result → Stands at new
+  committed_stands result stands did =
+      (_, committed_turns at old new stands.0 result stands.1 did)
+
+  pub processed_stands : (result : Result (Unit {0}) Refusal) → Stands at old
+      → Processed at old new result → Stands at new
+  processed_stands result stands did =
+      (_, processed_turns at old new stands.0 result stands.1 did)
+
+  pub aborted_stands : (errnum : ℕ) (result : Result (Unit {0}) Refusal) → Stands at old
+      → Aborted at old new errnum result → Stands at new
+  aborted_stands errnum result stands did =
+      (_, aborted_turns at old new stands.0 errnum result stands.1 did)
 
   pub published_stands : (result : Result (Unit {0}) Refusal) → Stands at old
       → Published at old new result → Stands at new
-  unfolding Published
-  published_stands result stands published = by (work_refusal old) refl published where
-    by : (w : Option Refusal) → work_refusal old ≡ w → PublishedSo w at old new result
-        → Stands at new
-    by (Some r) some d = same_stands at old new stands d.1
-    by None none d =
-        let here = stands.work none in
-        let t = d here.standing here.works here.stands in
-        publish_stands (moved here.standing t.view) here.stands.some here.stands.most result t.holds
+  published_stands result stands did =
+      (_, published_turns at old new stands.0 result stands.1 did)

@@ -1,4 +1,4 @@
-use Rattle.pm_call.proofs.ToldPlans.{adds_tell, cancels_tell, commits_tell, inner_commits_tell, logs_tell, lone_calls_tell, reads_tell, rollbacks_tell, writes_tell}
+use Rattle.pm_call.proofs.ToldPlans.{adds_tell, cancels_tell, commits_tell, inner_commits_tell, logs_tell, lone_calls_tell, publishes_tell, reads_tell, rollbacks_tell, writes_tell}
 use Rattle.pm_call.proofs.laws.operations_tell.Goals as goal
 
 pub returns-clause-adds : goal.returns-clause-adds
@@ -27,3 +27,6 @@ returns-clause-logs c = logs_tell
 
 pub returns-clause-lone_calls : goal.returns-clause-lone_calls
 returns-clause-lone_calls c = lone_calls_tell
+
+pub returns-clause-publishes : goal.returns-clause-publishes
+returns-clause-publishes c = publishes_tell

@@ -5,7 +5,7 @@ use Rattle.pm_shared.specs.Seats.{IsSeen}
 use Rattle.pm_shared.specs.declared.rule.Beginning.{Beginning}
 use Rattle.pm_world.specs.LaneFields.{IsUnused}
 use Rattle.pm_world.specs.OwnedBits.{none_owned}
-use Rattle.pm_tx.proofs.NewLanes.{new_lane_stands}
+use Rattle.pm_call.proofs.NewLanes.{new_lane_stands}
 use Rattle.pm_transfers.proofs.pool.on_first.Goals as goal
 
 pub new-requires : goal.new-requires

@@ -4,7 +4,7 @@ use Rattle.pm_layout.specs.Chunks.{words_of}
 use Rattle.pm_view.specs.View.{Constants}
 use Rattle.pm_world.specs.OwnedBits.{none_owned}
 use Rattle.pm_world.specs.SoloLanes.{StandsAs, only_lane}
-use Rattle.pm_tx.proofs.NewLanes.{new_lane_stands}
+use Rattle.pm_call.proofs.NewLanes.{new_lane_stands}
 use Rattle.pm_walks.proofs.pools.single_lane.Goals as goal
 
 pub new-requires : goal.new-requires

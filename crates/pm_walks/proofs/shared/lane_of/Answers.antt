@@ -2,7 +2,7 @@ use Rattle.std.proofs.Common.{◌/◌}
 use Rattle.pm_layout.specs.Chunks.{words_of}
 use Rattle.pm_shared.specs.Openings.{fixed_of, generation_of}
 use Rattle.pm_shared.specs.Seats.{IsSeen}
-use Rattle.pm_tx.proofs.NewLanes.{new_lane_stands}
+use Rattle.pm_call.proofs.NewLanes.{new_lane_stands}
 use Rattle.pm_world.specs.OwnedBits.{none_owned}
 use Rattle.pm_walks.proofs.shared.lane_of.Goals as goal
 

@@ -13,8 +13,9 @@ use Rattle.pm_world.specs.declared.lane.Lane.{Lane}
 use Rattle.pm_crash.specs.Calls.{pending_after, pending_of}
 use Rattle.pm_crash.specs.Facts.{EntriesHaveFacts}
 use Rattle.pm_plan.proofs.AreaParts.{part_generation, part_seal}
+use Rattle.pm_call.specs.Histories.{nothing_told}
 use Rattle.pm_call.specs.Stages.{IsBetween}
-use Rattle.pm_call.specs.Standing.{Stands}
+use Rattle.pm_call.specs.Standing.{Stands, StandsWith}
 use Rattle.pm_call.proofs.Standing.{idle_stands}
 
 module _ (fixed : Constants) (generation : ℕ) where
@@ -92,16 +93,28 @@ module _ (fixed : Constants) (generation : ℕ) where
     new_between = subst (λ (v : View). IsBetween (unused v none)) is_looked between_looked
 
     pub new_stands : {M : Type 0} (at : M → View → Type 0) (lane : Lane M)
-        → Rests at lane (unused (opened fixed generation) none) → Stands at lane
-    new_stands at lane rests = idle_stands at lane (unused (opened fixed generation) none) refl rests
+        → Rests at lane (unused (opened fixed generation) none) → StandsWith at lane nothing_told
+    new_stands at lane rests = idle_stands at lane nothing_told
+        (unused (opened fixed generation) none) refl rests
         (record {
           before = unused (opened fixed generation) none;
           between = new_between;
           saw = [];
           since = refl;
         })
+        refl refl
 
--- SO A LANE STANDS over a memory of which nothing was asked
+-- SO A LANE STANDS over a memory of which nothing was asked, and told nothing
+pub new_lane_stands_with : {M : Type 0} (at : M → View → Type 0) (memory : M) (shape : Shape)
+    (none : Owned) (lane : Lane M) (fixed : Constants) (generation : ℕ)
+    → IsUnused at memory shape fixed generation
+    → (IsUnused at memory shape fixed generation
+    → Rests at lane (unused (opened fixed generation) none))
+    → StandsWith at lane nothing_told
+new_lane_stands_with at memory shape none lane fixed generation is rests =
+    new_stands fixed generation none
+    (subst (λ (h : Shape). fixed.lane < h.lanes) (sym is.shape) is.lane) at lane (rests is)
+
 pub new_lane_stands : {M : Type 0} (at : M → View → Type 0) (memory : M) (shape : Shape)
     (none : Owned) (lane : Lane M) (fixed : Constants) (generation : ℕ)
     → IsUnused at memory shape fixed generation
@@ -109,5 +122,4 @@ pub new_lane_stands : {M : Type 0} (at : M → View → Type 0) (memory : M) (sh
     → Rests at lane (unused (opened fixed generation) none))
     → Stands at lane
 new_lane_stands at memory shape none lane fixed generation is rests =
-    new_stands fixed generation none
-    (subst (λ (h : Shape). fixed.lane < h.lanes) (sym is.shape) is.lane) at lane (rests is)
+    (nothing_told, new_lane_stands_with at memory shape none lane fixed generation is rests)
