@@ -3,14 +3,12 @@ use Rattle.std.proofs.Common.{◌≡◌, ℕ, zero, suc, Bool, true, false, List
 use Rattle.pm_objects.specs.declared.calls.Want.{Want}
 use Rattle.pm_view.specs.Log.{Phase, Idle, Open, Drawn, Sealing, Applying, Clearing, Retiring, Voiding}
 use Rattle.pm_view.specs.Steps.{Step}
-use Rattle.pm_view.specs.Steps.Step.{Give, Load, Raise, StopSeen}
+use Rattle.pm_view.specs.Steps.Step.{Give, Raise, StopSeen}
 use Rattle.pm_view.specs.View.{View}
 use Rattle.pm_view.specs.Views.{after_all, begun}
 use Rattle.pm_world.specs.LaneFields.{Standing}
 use Rattle.pm_world.specs.declared.lane.HeldLock.{HeldLock}
 use Rattle.pm_world.specs.declared.lane.Lane.{Lane}
-use Rattle.pm_crash.specs.Looked.{word_place}
-use Rattle.pm_view.specs.Places.{word_of}
 use Rattle.pm_lock.specs.Locking.{lock_at}
 use Rattle.pm_lock.specs.Steps.{AreWaits, gives, refusals, stops, takes, waits}
 use Rattle.pm_call.specs.Between.{saw_number}
@@ -19,22 +17,20 @@ use Rattle.pm_call.specs.Histories.{LaneHistory, history_of}
 use Rattle.pm_call.specs.LockRefusals.{TriedLocks}
 use Rattle.pm_call.specs.Locking.{TakesLocks, to_take}
 use Rattle.pm_call.specs.Opening.{WaitWasStopped}
-use Rattle.pm_call.proofs.SilentPlans.{AreSilent, IsAsTold, is_silent, silent_both, silent_map, silent_step, silent_steps, told_then, told_same}
+use Rattle.pm_call.proofs.HeldWords.{looks_claims}
+use Rattle.pm_call.proofs.SilentPlans.{AreSilent, IsAsTold, is_silent, silent_both, silent_map, silent_steps, told_then}
 use Rattle.pm_call.proofs.ToldPlans.{silent_history}
 use Rattle.pm_call.proofs.TriedLocks.{view_on}
 
 -- ---- LOOKS
 
 pub looks_told : (n : ℕ) (v w : View) → Looks n v w → IsAsTold v w
-unfolding Looks
-looks_told zero v w l = subst (IsAsTold v) (sym l) (told_same v)
-looks_told (suc n) v w l =
-    let at = l.1 in
-    let u : View = l.0 in
-    let one : IsAsTold v u = subst (IsAsTold v) (sym at.then)
-    (silent_step v (Load (word_of v.fixed.shape (word_place v at.block at.index)) at.value)
-    refl) in
-    told_then v u w one (looks_told n u w l.2)
+looks_told n v w looks =
+    let same = looks_claims n v w looks in record {
+      call = ap (λ (y : View). y.call) same;
+      entries = ap (λ (y : View). y.entries) same;
+      number = ap (λ (y : View). y.number) same;
+    }
 
 -- how many numbers were drawn: where no call is open none is as one opens
 begun_history : (phase : Phase) (v : View) → (history_of v).call ≡ []
