@@ -25,7 +25,7 @@ use Rattle.pm_call.specs.Publications.{publishes, unlocked, wants_to_set}
 use Rattle.pm_call.specs.Publishing.{words_pending}
 use Rattle.pm_call.specs.Standing.{IsLaneStopped, Stands, StandsWith}
 use Rattle.pm_call.proofs.OpenedCalls.{between_may_open}
-use Rattle.pm_call.proofs.Standing.{by_last, cut_stands, idle_stands, same_stands, spent_stands, stopped_stands, working_stands}
+use Rattle.pm_call.proofs.Standing.{by_last, cut_stands, idle_stands, same_stands, spent_stands, stands_turned, stopped_stands, working_stands}
 use Rattle.pm_call.proofs.StoppedLanes.{facts_on_the_way, may_open_facts, wait_is_stopped}
 use Rattle.pm_call.proofs.SilentPlans.{told_then}
 use Rattle.pm_call.proofs.ToldLooks.{gives_told, looks_told, saw_history, taken_told, told_history, told_open, tried_told, wait_told}
@@ -311,15 +311,18 @@ module _ {M : Type 0} (at : M → View → Type 0) (old new : Lane M) where
       → ByLevel old (AskedOutside at old new op result) (Asked at old new op result)
       → Stands at new
   asked_by_level_stands op result stands did =
-      (_, asked_by_level_turns at old new stands.0 op result stands.1 did)
+      stands_turned at old new _
+      (λ h w. asked_by_level_turns at old new h op result w did) stands
 
   pub cancelled_by_level_stands : (result : Result (Unit {0}) Refusal) → Stands at old
       → ByLevel old (AskedOutside at old new Cancel result) (Cancelled at old new result)
       → Stands at new
   cancelled_by_level_stands result stands did =
-      (_, cancelled_by_level_turns at old new stands.0 result stands.1 did)
+      stands_turned at old new _
+      (λ h w. cancelled_by_level_turns at old new h result w did) stands
 
   pub published_outside_stands : (result : Result (Unit {0}) Refusal) → Stands at old
       → PublishedOutside at old new result → Stands at new
   published_outside_stands result stands did =
-      (_, published_outside_turns at old new stands.0 result stands.1 did)
+      stands_turned at old new _
+      (λ h w. published_outside_turns at old new h result w did) stands

@@ -16,7 +16,7 @@ use Rattle.pm_plan.proofs.AreaParts.{part_generation, part_seal}
 use Rattle.pm_call.specs.Histories.{nothing_told}
 use Rattle.pm_call.specs.Stages.{IsBetween}
 use Rattle.pm_call.specs.Standing.{Stands, StandsWith}
-use Rattle.pm_call.proofs.Standing.{idle_stands}
+use Rattle.pm_call.proofs.Standing.{idle_stands, stands_so}
 
 module _ (fixed : Constants) (generation : ℕ) where
   abbrev sh : Shape
@@ -122,4 +122,5 @@ pub new_lane_stands : {M : Type 0} (at : M → View → Type 0) (memory : M) (sh
     → Rests at lane (unused (opened fixed generation) none))
     → Stands at lane
 new_lane_stands at memory shape none lane fixed generation is rests =
-    (nothing_told, new_lane_stands_with at memory shape none lane fixed generation is rests)
+    stands_so at lane nothing_told
+    (new_lane_stands_with at memory shape none lane fixed generation is rests)

@@ -266,17 +266,17 @@ module _ {M : Type 0} (at : M → View → Type 0) (lane : Lane M) where
 
 module _ {M : Type 0} {at : M → View → Type 0} {lane : Lane M} where
   pub stands_work : Stands at lane → work_refusal lane ≡ None → IsAt at lane
-  stands_work stands none = (stands.1.work none).0
+  stands_work stands = stands.work
 
   pub stands_past : Stands at lane → end_refusal lane ≡ None → IsLanePast at lane
-  stands_past stands none = (stands.1.past none).0
+  stands_past stands = stands.past
 
   pub stands_between : Stands at lane → lane.stopped ≡ false → lane.level ≡ 0
       → IsLaneBetween at lane
-  stands_between stands going outside = (stands.1.between going outside).0
+  stands_between stands = stands.between
 
   pub stands_stopped : Stands at lane → lane.stopped ≡ true → IsLaneStopped at lane
-  stands_stopped stands is = (stands.1.stopped is).0
+  stands_stopped stands = stands.stopped
 
 -- ---- AFTER EACH CALL
 
@@ -354,7 +354,28 @@ module _ {M : Type 0} (at : M → View → Type 0) (old new : Lane M) (h : LaneH
         answer_stands here.0.standing here.0.error result here.1 here.2
         (d here.0.standing here.0.stage here.0.error here.0.stands)
 
+-- ---- WITH WHATEVER HISTORY
+
+pub stands_so : {M : Type 0} (at : M → View → Type 0) (lane : Lane M) (h : LaneHistory)
+    → StandsWith at lane h → Stands at lane
+stands_so at lane h stands = record {
+  history = h;
+  stands = stands;
+  work = λ none. (stands.work none).0;
+  past = λ none. (stands.past none).0;
+  between = λ going outside. (stands.between going outside).0;
+  stopped = λ is. (stands.stopped is).0;
+}
+
+-- so it stands after a call that turns its history
+pub stands_turned : {M : Type 0} (at : M → View → Type 0) (old new : Lane M)
+    (turn : LaneHistory → LaneHistory)
+    → ((h : LaneHistory) → StandsWith at old h → StandsWith at new (turn h)) → Stands at old
+    → Stands at new
+stands_turned at old new turn turns stands =
+    stands_so at new (turn stands.history) (turns stands.history stands.stands)
+
 pub ended_stands : {M : Type 0} (at : M → View → Type 0) (old new : Lane M)
     (result : Result TxErr Refusal) → Stands at old → Ended at old new result → Stands at new
-ended_stands at old new result stands did =
-    (stands.0, ended_turns at old new stands.0 result stands.1 did)
+ended_stands at old new result stands did = stands_turned at old new (λ h. h)
+    (λ h w. ended_turns at old new h result w did) stands

@@ -38,9 +38,14 @@ pub record StandsWith {M : Type 0} (at : M → View → Type 0) (lane : Lane M) 
   -- the lane's field tells its last number
   pub last : lane.stopped ≡ false → lane.last ≡ last_ended h.done
 
--- with some history
-abbrev pub Stands : {M : Type 0} → (M → View → Type 0) → Lane M → Type 0
-Stands at lane = (h : LaneHistory) × StandsWith at lane h
+-- with some history; and what its calls may ask of it, which follows from that
+pub record Stands {M : Type 0} (at : M → View → Type 0) (lane : Lane M) : Type 0 where
+  pub history : LaneHistory
+  pub stands : StandsWith at lane history
+  pub work : work_refusal lane ≡ None → IsAt at lane
+  pub past : end_refusal lane ≡ None → IsLanePast at lane
+  pub between : lane.stopped ≡ false → lane.level ≡ 0 → IsLaneBetween at lane
+  pub stopped : lane.stopped ≡ true → IsLaneStopped at lane
 
 -- A LAW of a call: a lane that stands with a history does so, with the history turned, after a call
 -- that did this, whatever it returned

@@ -8,7 +8,6 @@ use pm_world::{Lane, LawfulMem};
 use std::sync::Wait;
 
 /// Records a range of an object: pmemobj_tx_add_range(3).
-#[tactic(auto, using(pm_tx::proofs::Standing::added_stands, pm_call::proofs::Standing::stands_work))]
 pub fn add_range<M: LawfulMem>(
     lane: &mut Lane<M>,
     id: Oid,
@@ -22,7 +21,6 @@ pub fn add_range<M: LawfulMem>(
 }
 
 /// Writes bytes into a recorded range of an object.
-#[tactic(auto, using(pm_tx::proofs::Standing::written_stands, pm_call::proofs::Standing::stands_work))]
 pub fn write<M: LawfulMem>(
     lane: &mut Lane<M>,
     id: Oid,
@@ -36,7 +34,6 @@ pub fn write<M: LawfulMem>(
 }
 
 /// Reads bytes of an object.
-#[tactic(auto, using(pm_tx::proofs::Standing::read_stands, pm_call::proofs::Standing::stands_work))]
 pub fn read<M: LawfulMem>(
     lane: &mut Lane<M>,
     id: Oid,

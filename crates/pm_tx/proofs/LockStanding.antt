@@ -21,7 +21,7 @@ use Rattle.pm_call.specs.Locking.{IsOpened, locked_with}
 use Rattle.pm_call.specs.Opening.{BegunAs, OutermostBegun, OutermostBegunAs}
 use Rattle.pm_call.specs.Stages.{at_level}
 use Rattle.pm_call.specs.Standing.{Stands, StandsWith}
-use Rattle.pm_call.proofs.Standing.{aborted_call_stands, cut_rollback_stands, same_stands, spent_stands, stopped_stands, working_stands}
+use Rattle.pm_call.proofs.Standing.{aborted_call_stands, cut_rollback_stands, same_stands, spent_stands, stands_turned, stopped_stands, working_stands}
 use Rattle.pm_call.proofs.StoppedLanes.{wait_is_stopped}
 use Rattle.pm_call.proofs.ToldLooks.{saw_history, taken_told, told_history, told_open, tried_told, wait_told}
 use Rattle.pm_call.proofs.ToldPlans.{tells_history}
@@ -162,9 +162,11 @@ module _ {M : Type 0} (at : M → View → Type 0) (old new : Lane M) where
   pub lock_stands : (op : Operation) (wants : List Want) (result : Result (Unit {0}) Refusal)
       → Stands at old → DidLock at old new op wants result → Stands at new
   lock_stands op wants result stands did =
-      (_, lock_turns at old new stands.0 op wants result stands.1 did)
+      stands_turned at old new _
+      (λ h w. lock_turns at old new h op wants result w did) stands
 
   pub begun_level_stands : (wants : List Want) (result : Result (Unit {0}) Refusal) → Stands at old
       → LevelBegun at old new wants result → Stands at new
   begun_level_stands wants result stands did =
-      (_, begun_level_turns at old new stands.0 wants result stands.1 did)
+      stands_turned at old new _
+      (λ h w. begun_level_turns at old new h wants result w did) stands

@@ -22,7 +22,7 @@ use Rattle.pm_call.specs.Publishing.{words_entered}
 use Rattle.pm_call.specs.Reading.{HasRead}
 use Rattle.pm_call.specs.Stages.{end_refusal, next_stage}
 use Rattle.pm_call.specs.Standing.{Stands, StandsWith}
-use Rattle.pm_call.proofs.Standing.{aborted_call_stands, committed_call_stands, cut_commit_stands, cut_rollback_stands, did_turns, over_inner, past_stands, refused_stands, same_stands, working_stands}
+use Rattle.pm_call.proofs.Standing.{aborted_call_stands, committed_call_stands, cut_commit_stands, cut_rollback_stands, did_turns, over_inner, past_stands, refused_stands, same_stands, stands_turned, working_stands}
 use Rattle.pm_call.proofs.ToldLooks.{looks_told, told_history, told_open}
 use Rattle.pm_call.proofs.ToldPlans.{adds_tell, inner_commits_tell, reads_tell, tells_history, writes_tell}
 use Rattle.pm_tx.specs.Commits.{InnerEnds, LevelCommitted, LevelCommittedSo, LevelEnds, OutermostEnds, PassedSo, Processed, ProcessedFrom}
@@ -195,38 +195,45 @@ module _ {M : Type 0} (at : M → View → Type 0) (old new : Lane M) where
       → Did at old new (AddRange id off len) (λ v. adds id off len) (HasCounted id off len) result
       → Stands at new
   added_stands id off len result stands did =
-      (_, added_turns at old new stands.0 id off len result stands.1 did)
+      stands_turned at old new _
+      (λ h w. added_turns at old new h id off len result w did) stands
 
   pub written_stands : (id : Oid) (off : ℕ) (bytes : List ℕ) (result : Result (Unit {0}) Refusal)
       → Stands at old
       → Did at old new (Write id off bytes) (λ v. puts id off bytes) (λ v done. Unit) result
       → Stands at new
   written_stands id off bytes result stands did =
-      (_, written_turns at old new stands.0 id off bytes result stands.1 did)
+      stands_turned at old new _
+      (λ h w. written_turns at old new h id off bytes result w did) stands
 
   pub read_stands : (id : Oid) (off len : ℕ) (into : List ℕ) (result : Result (Unit {0}) Refusal)
       → Stands at old
       → Did at old new (Read id off len) (λ v. gets id off len) (HasRead id off len into) result
       → Stands at new
   read_stands id off len into result stands did =
-      (_, read_turns at old new stands.0 id off len into result stands.1 did)
+      stands_turned at old new _
+      (λ h w. read_turns at old new h id off len into result w did) stands
 
   pub committed_stands : (result : Result (Unit {0}) Refusal) → Stands at old
       → LevelCommitted at old new result → Stands at new
   committed_stands result stands did =
-      (_, committed_turns at old new stands.0 result stands.1 did)
+      stands_turned at old new _
+      (λ h w. committed_turns at old new h result w did) stands
 
   pub processed_stands : (result : Result (Unit {0}) Refusal) → Stands at old
       → Processed at old new result → Stands at new
   processed_stands result stands did =
-      (_, processed_turns at old new stands.0 result stands.1 did)
+      stands_turned at old new _
+      (λ h w. processed_turns at old new h result w did) stands
 
   pub aborted_stands : (errnum : ℕ) (result : Result (Unit {0}) Refusal) → Stands at old
       → Aborted at old new errnum result → Stands at new
   aborted_stands errnum result stands did =
-      (_, aborted_turns at old new stands.0 errnum result stands.1 did)
+      stands_turned at old new _
+      (λ h w. aborted_turns at old new h errnum result w did) stands
 
   pub published_stands : (result : Result (Unit {0}) Refusal) → Stands at old
       → Published at old new result → Stands at new
   published_stands result stands did =
-      (_, published_turns at old new stands.0 result stands.1 did)
+      stands_turned at old new _
+      (λ h w. published_turns at old new h result w did) stands

@@ -7,7 +7,6 @@ use pm_objects::{Oid, Refusal, TxErr, Want};
 use pm_world::{Lane, LawfulMem};
 use std::sync::Wait;
 
-#[tactic(auto, using(pm_tx::proofs::Standing::added_stands, pm_call::proofs::Standing::stands_work))]
 pub fn add_range<M: LawfulMem>(
     lane: &mut Lane<M>,
     id: Oid,
@@ -20,7 +19,6 @@ pub fn add_range<M: LawfulMem>(
     pm_tx::add_range(lane, id, off, len)
 }
 
-#[tactic(auto, using(pm_tx::proofs::Standing::written_stands, pm_call::proofs::Standing::stands_work))]
 pub fn write<M: LawfulMem>(
     lane: &mut Lane<M>,
     id: Oid,
@@ -33,7 +31,6 @@ pub fn write<M: LawfulMem>(
     pm_tx::write(lane, id, off, bytes)
 }
 
-#[tactic(auto, using(pm_tx::proofs::Standing::read_stands, pm_call::proofs::Standing::stands_work))]
 pub fn read<M: LawfulMem>(
     lane: &mut Lane<M>,
     id: Oid,
