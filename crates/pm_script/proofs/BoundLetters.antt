@@ -1,5 +1,5 @@
 -- What a script's letters stand for.
-use Rattle.std.proofs.Common.{◌≡◌, ◌==◌, ℕ, ◌+◌, ◌<◌, Bool, true, false, cond, nat_eq, All, Contains, List, [], ◌∷◌, drop, codes, Option, Some, None, refl, sym, ap, ◌∙◌, subst, arith}
+use Rattle.std.proofs.Common.{◌≡◌, ◌==◌, ℕ, ◌+◌, ◌<◌, Bool, true, false, cond, nat_eq, All, Contains, List, [], ◌∷◌, drop, codes, Option, Some, None, is_some, refl, sym, ap, ◌∙◌, subst, arith}
 use Rattle.std.specs.List.{cons_option, filter_map, find, starts_with}
 use Rattle.std.specs.Option.{option_and_then, option_map, option_map_or}
 use Rattle.std.specs.Str.{bytes_eq}
@@ -8,7 +8,8 @@ use Rattle.std.proofs.lemmas.List.Elements.{All-nil, All-cons, All-head, All-tai
 use Rattle.pm_script.specs.Contexts.{Context, binds, bound_line, start}
 use Rattle.pm_script.specs.Numbers.{number_of}
 use Rattle.pm_script.specs.Operands.{id_of, letter_of}
-use Rattle.pm_script.specs.Scripts.{Binds, HasBindingLine, IsBoundBefore, IsScript, NamesBindingLines, NamesEarlierLines, bound_behind, context_behind, ids_of, line_of, line_said, lines_from, rebound, said}
+use Rattle.pm_script.specs.Operations.{ids_of, letter_bound}
+use Rattle.pm_script.specs.Scripts.{Binds, HasBindingLine, IsBoundBefore, IsScript, NamesBindingLines, NamesEarlierLines, bound_behind, context_behind, line_of, line_said, lines_from, rebound, said}
 use Rattle.pm_script.specs.Words.{words}
 use Rattle.pm_script.specs.declared.context.Binding.{Binding}
 use Rattle.pm_script.specs.declared.script.Script.{Script}
@@ -16,7 +17,6 @@ use Rattle.pm_script.specs.declared.script.ScriptId.{ScriptId}
 use Rattle.pm_script.specs.declared.script.ScriptId.TheVariants.{Root, At, Bound}
 use Rattle.pm_script.specs.declared.script.ScriptLine.{ScriptLine}
 use Rattle.pm_script.specs.declared.script.ScriptOp.{ScriptOp}
-use Rattle.pm_script.specs.declared.script.ScriptOp.TheVariants as op
 use Rattle.pm_script.specs.declared.statement.Statement.{Statement}
 use Rattle.pm_script.specs.declared.statement.Statement.TheVariants as says
 use Rattle.pm_script.proofs.Statements.{ids_said, words_ids}
@@ -53,19 +53,10 @@ module _ (lines : List ScriptLine) (n : ℕ) where
 
   -- an operation on line n, which is one of the lines
   bound_after : (lane : ℕ) (x : ScriptOp) (bound : List Binding) → Contains lines (record { line = n; lane = lane; operation = x }) → All (HasLine lines n) bound → All (HasLine lines (n + 1)) (bound_behind lane n x bound)
-  bound_after lane (op.Alloc letter size kind) bound there all = bound_new lane letter (op.Alloc letter size kind) bound tt there all
-  bound_after lane (op.Reserve letter size kind) bound there all = bound_new lane letter (op.Reserve letter size kind) bound tt there all
-  bound_after lane (op.Begin wants) bound there all = line_after lines n bound all
-  bound_after lane (op.Add id off len) bound there all = line_after lines n bound all
-  bound_after lane (op.Write id off bytes) bound there all = line_after lines n bound all
-  bound_after lane (op.Read id off len) bound there all = line_after lines n bound all
-  bound_after lane (op.Free id) bound there all = line_after lines n bound all
-  bound_after lane (op.WriteReserved id off bytes) bound there all = line_after lines n bound all
-  bound_after lane (op.DeferFree id) bound there all = line_after lines n bound all
-  bound_after lane (op.Set id off value) bound there all = line_after lines n bound all
-  bound_after lane op.Publish bound there all = line_after lines n bound all
-  bound_after lane op.Cancel bound there all = line_after lines n bound all
-  bound_after lane op.Commit bound there all = line_after lines n bound all
+  bound_after lane x bound there all = after (letter_bound x) refl where
+    after : (letter : Option ℕ) → letter_bound x ≡ letter → All (HasLine lines (n + 1)) (option_map_or (λ l. rebound (record { lane = lane; letter = l; line = n }) bound) letter bound)
+    after None is = line_after lines n bound all
+    after (Some letter) is = bound_new lane letter x bound (ap is_some is) there all
 
   -- ---- a word
 

@@ -3,9 +3,10 @@ use Rattle.std.proofs.Common.{◌≡◌, ◌==◌, ℕ, ◌++◌, Bool, true, fa
 use Rattle.std.specs.Option.{option_and_then, option_map_or}
 use Rattle.std.proofs.lemmas.Bool.{eqb-true}
 use Rattle.std.proofs.lemmas.List.{append-nil}
-use Rattle.pm_script.specs.Reading.{AreReadAs, AreReadBehind, HasLane, IsOutOfPlace, Reads, Takes, fault_at, keyword_said, next_line, place_why}
+use Rattle.pm_script.specs.Reading.{AreReadAs, AreReadBehind, HasLane, IsOutOfPlace, Reads, Takes, fault_at, next_line, place_why}
 use Rattle.pm_script.specs.Contexts.{Context}
-use Rattle.pm_script.specs.Scripts.{IfBad, first_failed, form_tests, keyword_of, line_said, place_tests, said, statement_of, why_of, why_of_words, context_behind, fault_of}
+use Rattle.pm_script.specs.Grammar.{form, form_tests, keyword_of, place_asked, place_said, statement_of}
+use Rattle.pm_script.specs.Scripts.{IfBad, first_failed, line_said, place_tests, said, why_of, why_of_words, context_behind, fault_of}
 use Rattle.pm_script.specs.Words.{words, is_text, is_skipped}
 use Rattle.pm_script.specs.declared.fault.BadLine.{BadLine}
 use Rattle.pm_script.specs.declared.fault.LineFault.{LineFault}
@@ -15,27 +16,27 @@ use Rattle.pm_script.specs.declared.fault.Why.TheVariants.{Text, Word}
 use Rattle.pm_script.specs.declared.reader.Reader.{Reader}
 use Rattle.pm_script.specs.declared.statement.Keyword.{Keyword}
 use Rattle.pm_script.specs.declared.statement.Statement.{Statement}
-use Rattle.pm_script.proofs.Statements.{keyword_is, has_lane}
+use Rattle.pm_script.proofs.Statements.{place_is, has_lane}
 use Rattle.pm_script.proofs.FailedTests.{back_passed, behind_passed, front_failed}
 
 -- ---- the words of a line
 
 -- a good form, in its place or not
 said_there : (context : Context) (found : Option Keyword) (operands : List (List ℕ)) (statement : Statement) → AreReadBehind context found operands (Ok statement)
-    → (option_map_or (λ keyword. first_failed (form_tests context keyword operands ++ place_tests context keyword)) found (Some Word) ≡ place_why context (keyword_said statement))
+    → (option_map_or (λ keyword. first_failed (form_tests context (form keyword) operands ++ place_tests context (place_asked keyword))) found (Some Word) ≡ place_why context (place_said statement))
     × (option_and_then (λ keyword. statement_of context keyword operands) found ≡ Some statement)
 said_there context (Some keyword) operands statement read =
-    (behind_passed (form_tests context keyword operands) (place_tests context keyword) read.1 ∙ ap (place_why context) (sym (keyword_is context keyword operands statement read.0)), read.0)
+    (behind_passed (form_tests context (form keyword) operands) (place_tests context (place_asked keyword)) read.1 ∙ ap (place_why context) (sym (place_is context keyword operands statement read.0)), read.0)
 said_there context None operands statement read = cc
 
 bad_form : (context : Context) (found : Option Keyword) (operands : List (List ℕ)) (why : Why) → AreReadBehind context found operands (Err (Bad why))
-    → option_map_or (λ keyword. first_failed (form_tests context keyword operands ++ place_tests context keyword)) found (Some Word) ≡ Some why
-bad_form context (Some keyword) operands why read = front_failed (form_tests context keyword operands) (place_tests context keyword) why read
+    → option_map_or (λ keyword. first_failed (form_tests context (form keyword) operands ++ place_tests context (place_asked keyword))) found (Some Word) ≡ Some why
+bad_form context (Some keyword) operands why read = front_failed (form_tests context (form keyword) operands) (place_tests context (place_asked keyword)) why read
 bad_form context None operands why read = let same : why ≡ Word = cc in ap Some (sym same)
 
 -- what words were read as, they say, and they are bad where that is out of place
 pub words_said : (context : Context) (line : List (List ℕ)) (statement : Statement) → AreReadAs context line (Ok statement)
-    → (why_of_words context line ≡ place_why context (keyword_said statement)) × (said context line ≡ Some statement)
+    → (why_of_words context line ≡ place_why context (place_said statement)) × (said context line ≡ Some statement)
 words_said context [] statement read = absurd read
 words_said context (word ∷ operands) statement read = said_there context (keyword_of word) operands statement read
 
@@ -63,12 +64,12 @@ skipped_says context [] skipped = refl
 skipped_says context (word ∷ operands) skipped = ap (option_and_then (λ keyword. statement_of context keyword operands)) (other_first word skipped)
 
 place_there : (context : Context) (found : Option Keyword) (operands : List (List ℕ)) (statement : Statement)
-    → option_map_or (λ keyword. first_failed (form_tests context keyword operands ++ place_tests context keyword)) found (Some Word) ≡ None
-    → option_and_then (λ keyword. statement_of context keyword operands) found ≡ Some statement → place_why context (keyword_said statement) ≡ None
-place_there context (Some keyword) operands statement fine is = ap (place_why context) (keyword_is context keyword operands statement is) ∙ back_passed (form_tests context keyword operands) (place_tests context keyword) fine
+    → option_map_or (λ keyword. first_failed (form_tests context (form keyword) operands ++ place_tests context (place_asked keyword))) found (Some Word) ≡ None
+    → option_and_then (λ keyword. statement_of context keyword operands) found ≡ Some statement → place_why context (place_said statement) ≡ None
+place_there context (Some keyword) operands statement fine is = ap (place_why context) (place_is context keyword operands statement is) ∙ back_passed (form_tests context (form keyword) operands) (place_tests context (place_asked keyword)) fine
 place_there context None operands statement fine is = cc
 
-words_in_place : (context : Context) (line : List (List ℕ)) (statement : Statement) → why_of_words context line ≡ None → said context line ≡ Some statement → place_why context (keyword_said statement) ≡ None
+words_in_place : (context : Context) (line : List (List ℕ)) (statement : Statement) → why_of_words context line ≡ None → said context line ≡ Some statement → place_why context (place_said statement) ≡ None
 words_in_place context [] statement fine is = cc
 words_in_place context (word ∷ operands) statement fine is = place_there context (keyword_of word) operands statement fine is
 
@@ -80,7 +81,7 @@ not_skipped true true why fine other = absurd (other refl)
 not_skipped false skipped why fine other = cc
 
 -- what a line says that is not bad is in place
-pub in_place : (context : Context) (text : List ℕ) (statement : Statement) → why_of context text ≡ None → said context (words text) ≡ Some statement → place_why context (keyword_said statement) ≡ None
+pub in_place : (context : Context) (text : List ℕ) (statement : Statement) → why_of context text ≡ None → said context (words text) ≡ Some statement → place_why context (place_said statement) ≡ None
 in_place context text statement fine is =
     words_in_place context (words text) statement
     (not_skipped (is_text text) (is_skipped (words text)) (why_of_words context (words text)) fine (λ skipped. let nothing = skipped_says context (words text) skipped in cc)) is

@@ -1,13 +1,15 @@
 -- The operations on a lane's lines are transactions, and calls outside of them, one after another.
-use Rattle.std.proofs.Common.{◌≡◌, ◌==◌, ℕ, ◌+◌, Bool, true, false, not, cond, All, List, [], ◌∷◌, ◌++◌, Option, Some, None, is_some, option_map, refl, sym, ap, ◌∙◌, subst, append_assoc}
+use Rattle.std.proofs.Common.{◌≡◌, ◌==◌, ℕ, zero, suc, ◌+◌, ◌-◌, ◌||◌, ltb, lt-ltb, Bool, true, false, not, cond, All, List, [], ◌∷◌, ◌++◌, Option, Some, None, is_some, option_map, refl, sym, ap, ◌∙◌, subst, append_assoc, arith}
 use Rattle.std.specs.List.{cons_option, filter_map}
-use Rattle.std.specs.Option.{option_and_then, option_map_or, option_or}
+use Rattle.std.specs.Option.{option_and_then, option_map_or}
 use Rattle.std.proofs.lemmas.Bool.{eqb-true}
-use Rattle.std.proofs.lemmas.List.Elements.{All-nil, All-cons}
-use Rattle.pm_script.specs.Reading.{keyword_said, place_why}
+use Rattle.pm_script.specs.Grammar.{place_said}
+use Rattle.pm_script.specs.Operations.{closes, opens, place_of, stands_inside, stands_outside}
+use Rattle.pm_script.specs.Reading.{place_why}
 use Rattle.pm_script.specs.Contexts.{Context, start}
-use Rattle.pm_script.specs.Scripts.{AreCalls, IsChange, IsOutside, IsScript, begun_behind, context_behind, context_from, fault_of, line_of, line_said, lines_from, of_lane, opened, operations, said, why_of}
+use Rattle.pm_script.specs.Scripts.{AreCalls, AreInside, IsChange, IsClose, IsScript, begun_behind, closed, context_behind, context_from, fault_of, line_of, line_said, lines_from, of_lane, opened, operations, said, transaction_of, why_of}
 use Rattle.pm_script.specs.Scripts.AreCalls.{none, transaction, outside}
+use Rattle.pm_script.specs.Scripts.AreInside.{change, level, no_more}
 use Rattle.pm_script.specs.Words.{words}
 use Rattle.pm_script.specs.declared.context.OpenTransaction.{OpenTransaction}
 use Rattle.pm_script.specs.declared.fault.Why.{Why}
@@ -15,77 +17,99 @@ use Rattle.pm_script.specs.declared.fault.Why.TheVariants.{Inside, Outside}
 use Rattle.pm_script.specs.declared.script.Script.{Script}
 use Rattle.pm_script.specs.declared.script.ScriptLine.{ScriptLine}
 use Rattle.pm_script.specs.declared.script.ScriptOp.{ScriptOp}
-use Rattle.pm_script.specs.declared.script.ScriptOp.TheVariants.{Begin, Add, Write, Read, Alloc, Free, Reserve, WriteReserved, DeferFree, Set, Publish, Cancel, Commit}
+use Rattle.pm_script.specs.declared.script.ScriptOp.TheVariants.{Begin, Commit, Abort}
 use Rattle.pm_script.specs.declared.script.ScriptWant.{ScriptWant}
 use Rattle.pm_script.specs.declared.statement.Statement.{Statement}
 use Rattle.pm_script.specs.declared.statement.Statement.TheVariants as says
 use Rattle.pm_script.proofs.Judging.{in_place}
-use Rattle.pm_script.proofs.OpenTransactions.{other_behind, own_behind, transaction_behind, transaction_of}
+use Rattle.pm_script.proofs.OpenTransactions.{other_behind, own_behind}
 
 -- ---- operations
 
--- the rest of a lane's operations, where a transaction is open or not
+-- the rest of a lane's operations, where so many levels are open
+abbrev RestIn : ℕ → List ScriptOp → Type 0
+RestIn zero ops = AreCalls ops
+RestIn (suc d) ops = (inner : List ScriptOp) × (close : ScriptOp) × (others : List ScriptOp) × (ops ≡ inner ++ close ∷ others) × AreInside inner × RestIn d others × IsClose close
+
+-- how many levels are open
+abbrev depth : Option OpenTransaction → ℕ
+depth None = zero
+depth (Some t) = suc t.inner
+
 abbrev Rest : Option OpenTransaction → List ScriptOp → Type 0
-Rest (Some t) ops = (changes : List ScriptOp) × (others : List ScriptOp) × (ops ≡ changes ++ Commit ∷ others) × All IsChange changes × AreCalls others
-Rest None ops = AreCalls ops
+Rest current ops = RestIn (depth current) ops
+
+-- a begin opens one level more
+begin_first : (d : ℕ) (wants : List ScriptWant) (ops : List ScriptOp) → RestIn (suc d) ops → RestIn d (Begin wants ∷ ops)
+begin_first zero wants ops rest = subst AreCalls (ap (λ l. Begin wants ∷ l) (sym rest.3)) (transaction wants rest.0 rest.1 rest.2 rest.4 rest.6 rest.5)
+begin_first (suc d) wants ops rest =
+    let more = rest.5 in (
+      Begin wants ∷ rest.0 ++ rest.1 ∷ more.0,
+      more.1,
+      more.2,
+      ap (λ l. Begin wants ∷ l) (rest.3 ∙ ap (λ l. rest.0 ++ rest.1 ∷ l) more.3 ∙ sym (append_assoc rest.0 (rest.1 ∷ more.0) (more.1 ∷ more.2))),
+      level wants rest.0 rest.1 more.0 rest.4 rest.6 more.4,
+      more.5,
+      more.6,
+    )
+
+-- a close ends the innermost
+close_first : (d : ℕ) (x : ScriptOp) (ops : List ScriptOp) → IsClose x → RestIn d ops → RestIn (suc d) (x ∷ ops)
+close_first d x ops is rest = ([], x, ops, refl, no_more, rest, is)
 
 -- one change more
-change_first : (t : OpenTransaction) (x : ScriptOp) (ops : List ScriptOp) → IsChange x → Rest (Some t) ops → Rest (Some t) (x ∷ ops)
-change_first t x ops change rest = (x ∷ rest.0, rest.1, ap (λ l. x ∷ l) rest.2, All-cons IsChange x rest.0 change rest.3, rest.4)
-
-begin_first : (t : OpenTransaction) (wants : List ScriptWant) (ops : List ScriptOp) → Rest (Some t) ops → Rest None (Begin wants ∷ ops)
-begin_first t wants ops rest =
-    let one = Begin wants ∷ rest.0 ++ Commit ∷ [] in
-    subst AreCalls (ap (λ l. Begin wants ∷ l) (append_assoc rest.0 (Commit ∷ []) rest.1 ∙ sym rest.2)) (transaction one rest.1 (wants, rest.0, refl, rest.3) rest.4)
-
-commit_first : (t : OpenTransaction) (ops : List ScriptOp) → Rest None ops → Rest (Some t) (Commit ∷ ops)
-commit_first t ops rest = ([], ops, refl, All-nil IsChange, rest)
+change_first : (d : ℕ) (x : ScriptOp) (ops : List ScriptOp) → IsChange x → RestIn (suc d) ops → RestIn (suc d) (x ∷ ops)
+change_first d x ops is rest = (x ∷ rest.0, rest.1, rest.2, ap (λ l. x ∷ l) rest.3, change x rest.0 is rest.4, rest.5, rest.6)
 
 -- ---- in place
 
-module _ (x : ScriptOp) (ops : List ScriptOp) where
-  -- what stands in a transaction alone
-  change : (current : Option OpenTransaction) → IsChange x → cond (is_some current) None (Some Outside) ≡ None → Rest current ops → Rest current (x ∷ ops)
-  change (Some t) is fine rest = change_first t x ops is rest
-  change None is fine rest = cc
+opening : (x : ScriptOp) → opens x ≡ true → (wants : List ScriptWant) × (x ≡ Begin wants)
+opening (Begin wants) is = (wants, refl)
+opening x is = cc
 
-  -- what may stand inside and outside may stand anywhere
-  call : (current : Option OpenTransaction) → IsChange x → IsOutside x → Rest current ops → Rest current (x ∷ ops)
-  call (Some t) is out rest = change_first t x ops is rest
-  call None is out rest = outside x ops out rest
+closing : (x : ScriptOp) → closes x ≡ true → stands_outside (place_of x) ≡ false
+closing Commit is = refl
+closing (Abort errnum) is = refl
+closing x is = cc
 
-module _ (ops : List ScriptOp) where
-  begin : (current : Option OpenTransaction) (t : OpenTransaction) (wants : List ScriptWant) → cond (not (is_some current)) None (Some Inside) ≡ None → Rest (option_or current (Some t)) ops → Rest current (Begin wants ∷ ops)
-  begin (Some other) t wants fine rest = cc
-  begin None t wants fine rest = begin_first t wants ops rest
+depth_opened : (lane n : ℕ) (current : Option OpenTransaction) → depth (Some (opened lane n current)) ≡ suc (depth current)
+depth_opened lane n None = refl
+depth_opened lane n (Some t) = omega arith
 
-  commit : (current : Option OpenTransaction) → cond (is_some current) None (Some Outside) ≡ None → Rest None ops → Rest current (Commit ∷ ops)
-  commit (Some t) fine rest = commit_first t ops rest
-  commit None fine rest = cc
+depth_left : (lane line k : ℕ) → depth (cond (ltb 0 k) (Some (record { lane = lane; line = line; inner = k - 1 })) None) ≡ k
+depth_left lane line zero = refl
+depth_left lane line (suc k) =
+    let less : suc (suc k - 1) ≡ suc k = omega arith in
+    ap (λ (b : Bool). depth (cond b (Some (record { lane = lane; line = line; inner = suc k - 1 })) None)) (lt-ltb 0 (suc k) (omega arith)) ∙ less
+
+module _ (lane n : ℕ) (x : ScriptOp) (ops : List ScriptOp) where
+  -- an operation that may stand where it does, by what it opens and closes, and by where it stands
+  first : (current : Option OpenTransaction) (b c i o : Bool) → opens x ≡ b → closes x ≡ c → stands_inside (place_of x) ≡ i → stands_outside (place_of x) ≡ o
+      → cond (not (is_some current) || i) (cond (is_some current || o) None (Some Outside)) (Some Inside) ≡ None
+      → Rest (cond b (Some (opened lane n current)) (cond c (closed lane current) current)) ops → Rest current (x ∷ ops)
+  first current true c i o is closed_too ins outs fine rest =
+      let begin = opening x is in
+      subst (λ y. Rest current (y ∷ ops)) (sym begin.1) (begin_first (depth current) begin.0 ops (subst (λ d. RestIn d ops) (depth_opened lane n current) rest))
+  first (Some t) false true i o kept is ins outs fine rest = close_first t.inner x ops is (subst (λ d. RestIn d ops) (depth_left lane t.line t.inner) rest)
+  first None false true i true kept is ins outs fine rest = let bad = closing x is in cc
+  first None false true i false kept is ins outs fine rest = cc
+  first (Some t) false false true o kept stays ins outs fine rest = change_first t.inner x ops (ins, kept, stays) rest
+  first (Some t) false false false o kept stays ins outs fine rest = cc
+  first None false false i true kept stays ins outs fine rest = outside x ops (outs, kept) rest
+  first None false false i false kept stays ins outs fine rest = cc
 
 module _ (context : Context) (lane n : ℕ) (present : context.lane ≡ Some lane) where
   -- an operation of the lane goes before the rest
-  own : (x : ScriptOp) (ops : List ScriptOp) → place_why context (keyword_said (says.Operation x)) ≡ None → Rest (transaction_of lane (begun_behind lane n x context.begun)) ops → Rest (transaction_of lane context.begun) (x ∷ ops)
-  own x ops fine rest = behind x (sym (ap (λ l. place_why (record context { lane = l }) (keyword_said (says.Operation x))) present) ∙ fine) (subst (λ current. Rest current ops) (own_behind lane n x context.begun) rest) where
-    behind : (x : ScriptOp) → place_why (record context { lane = Some lane }) (keyword_said (says.Operation x)) ≡ None → Rest (transaction_behind lane n x (transaction_of lane context.begun)) ops → Rest (transaction_of lane context.begun) (x ∷ ops)
-    behind (Begin wants) fine rest = begin ops (transaction_of lane context.begun) (opened lane n) wants fine rest
-    behind (Add id off len) fine rest = change (Add id off len) ops (transaction_of lane context.begun) tt fine rest
-    behind (Write id off bytes) fine rest = change (Write id off bytes) ops (transaction_of lane context.begun) tt fine rest
-    behind (Read id off len) fine rest = change (Read id off len) ops (transaction_of lane context.begun) tt fine rest
-    behind (Alloc letter size kind) fine rest = change (Alloc letter size kind) ops (transaction_of lane context.begun) tt fine rest
-    behind (Free id) fine rest = change (Free id) ops (transaction_of lane context.begun) tt fine rest
-    behind (Reserve letter size kind) fine rest = call (Reserve letter size kind) ops (transaction_of lane context.begun) tt tt rest
-    behind (WriteReserved id off bytes) fine rest = call (WriteReserved id off bytes) ops (transaction_of lane context.begun) tt tt rest
-    behind (DeferFree id) fine rest = call (DeferFree id) ops (transaction_of lane context.begun) tt tt rest
-    behind (Set id off value) fine rest = call (Set id off value) ops (transaction_of lane context.begun) tt tt rest
-    behind Publish fine rest = call Publish ops (transaction_of lane context.begun) tt tt rest
-    behind Cancel fine rest = call Cancel ops (transaction_of lane context.begun) tt tt rest
-    behind Commit fine rest = commit ops (transaction_of lane context.begun) fine rest
+  own : (x : ScriptOp) (ops : List ScriptOp) → place_why context (place_said (says.Operation x)) ≡ None → Rest (transaction_of lane (begun_behind lane n x context.begun)) ops → Rest (transaction_of lane context.begun) (x ∷ ops)
+  own x ops fine rest =
+      first lane n x ops (transaction_of lane context.begun) (opens x) (closes x) (stands_inside (place_of x)) (stands_outside (place_of x)) refl refl refl refl
+      (sym (ap (λ l. place_why (record context { lane = l }) (place_said (says.Operation x))) present) ∙ fine)
+      (subst (λ current. Rest current ops) (own_behind lane n x context.begun) rest)
 
 -- ---- lines
 
 module _ (lane : ℕ) (context : Context) (n : ℕ) (lines : List ScriptLine) where
-  by_lane : (x : ScriptOp) (present : ℕ) (b : Bool) → context.lane ≡ Some present → (present == lane) ≡ b → place_why context (keyword_said (says.Operation x)) ≡ None
+  by_lane : (x : ScriptOp) (present : ℕ) (b : Bool) → context.lane ≡ Some present → (present == lane) ≡ b → place_why context (place_said (says.Operation x)) ≡ None
       → Rest (transaction_of lane (begun_behind present n x context.begun)) (operations (of_lane lane lines))
       → Rest (transaction_of lane context.begun) (operations (cond b (record { line = n; lane = present; operation = x } ∷ of_lane lane lines) (of_lane lane lines)))
   by_lane x present true is same fine rest =
@@ -93,22 +117,22 @@ module _ (lane : ℕ) (context : Context) (n : ℕ) (lines : List ScriptLine) wh
       own context lane n (is ∙ ap Some e) x (operations (of_lane lane lines)) fine (subst (λ l. Rest (transaction_of lane (begun_behind l n x context.begun)) (operations (of_lane lane lines))) e rest)
   by_lane x present false is differ fine rest = subst (λ current. Rest current (operations (of_lane lane lines))) (other_behind present lane n x context.begun differ) rest
 
-  operation_first : (x : ScriptOp) (present : Option ℕ) → context.lane ≡ present → place_why context (keyword_said (says.Operation x)) ≡ None
+  operation_first : (x : ScriptOp) (present : Option ℕ) → context.lane ≡ present → place_why context (place_said (says.Operation x)) ≡ None
       → Rest (transaction_of lane (option_map_or (λ l. begun_behind l n x context.begun) present context.begun)) (operations (of_lane lane lines))
       → Rest (transaction_of lane context.begun) (operations (of_lane lane (cons_option (option_map (λ l. record { line = n; lane = l; operation = x }) present) lines)))
   operation_first x (Some present) is fine rest = by_lane x present (present == lane) is refl fine rest
   operation_first x None is fine rest = rest
 
-  line_first : (statement : Option Statement) → ((s : Statement) → statement ≡ Some s → place_why context (keyword_said s) ≡ None)
+  line_first : (statement : Option Statement) → ((s : Statement) → statement ≡ Some s → place_why context (place_said s) ≡ None)
       → Rest (transaction_of lane (context_behind context n statement).begun) (operations (of_lane lane lines))
       → Rest (transaction_of lane context.begun) (operations (of_lane lane (cons_option (option_and_then (line_said context n) statement) lines)))
   line_first None fine rest = rest
   line_first (Some (says.Lane k)) fine rest = rest
   line_first (Some (says.Operation x)) fine rest = operation_first x context.lane refl (fine (says.Operation x) refl) rest
 
-no_more : {A : Type 0} (found : Option A) (others : List A) → cons_option found others ≡ [] → (found ≡ None) × (others ≡ [])
-no_more (Some x) others is = cc
-no_more None others is = (refl, is)
+nothing : {A : Type 0} (found : Option A) (others : List A) → cons_option found others ≡ [] → (found ≡ None) × (others ≡ [])
+nothing (Some x) others is = cc
+nothing None others is = (refl, is)
 
 no_why : {A : Type 0} (f : Why → A) (why : Option Why) → option_map f why ≡ None → why ≡ None
 no_why f (Some x) is = cc
@@ -120,7 +144,7 @@ rest_from lane context n [] good whole = subst (λ begun. Rest (transaction_of l
 rest_from lane context n (text ∷ lines) good whole =
     let statement = said context (words text) in
     let next = context_behind context n statement in
-    let fine = no_more (option_map (λ why. record { line = n; why = why }) (why_of context text)) (filter_map fault_of (lines_from next (n + 1) lines)) good in
+    let fine = nothing (option_map (λ why. record { line = n; why = why }) (why_of context text)) (filter_map fault_of (lines_from next (n + 1) lines)) good in
     line_first lane context n (filter_map line_of (lines_from next (n + 1) lines)) statement (λ s is. in_place context text s (no_why _ (why_of context text) fine.0) is) (rest_from lane next (n + 1) lines fine.1 whole)
 
 pub lane_calls : (lines : List (List ℕ)) (script : Script) → IsScript lines script → (lane : ℕ) → AreCalls (operations (of_lane lane script.lines))

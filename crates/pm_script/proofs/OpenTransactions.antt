@@ -1,53 +1,66 @@
--- The open transaction of a lane, behind operations of the lane and of others.
-use Rattle.std.proofs.Common.{◌≡◌, ◌==◌, ℕ, Bool, true, false, not, cond, List, [], ◌∷◌, Option, Some, None, refl, sym, ap, ◌∙◌, eq-eqb}
+-- The open transaction of a lane, after operations of the lane and of others.
+use Rattle.std.proofs.Common.{◌≡◌, ◌==◌, ℕ, Bool, true, false, not, cond, ltb, List, [], ◌∷◌, Option, Some, None, option_to_list, refl, sym, ap, ◌∙◌, eq-eqb}
 use Rattle.std.specs.List.{filter, find}
 use Rattle.std.specs.Option.{option_or}
 use Rattle.std.proofs.lemmas.Bool.{eqb-true}
 use Rattle.std.proofs.lemmas.List.Folds.{find-append}
-use Rattle.pm_script.specs.Scripts.{begun_behind, is_of_lane, opened}
+use Rattle.pm_script.specs.Operations.{closes, opens}
+use Rattle.pm_script.specs.Scripts.{begun_behind, closed, is_of_lane, opened, replaced, transaction_of}
 use Rattle.pm_script.specs.declared.context.OpenTransaction.{OpenTransaction}
 use Rattle.pm_script.specs.declared.script.ScriptOp.{ScriptOp}
-use Rattle.pm_script.specs.declared.script.ScriptOp.TheVariants.{Begin, Add, Write, Read, Alloc, Free, Reserve, WriteReserved, DeferFree, Set, Publish, Cancel, Commit}
-
--- a lane's transaction
-abbrev pub transaction_of : ℕ → List OpenTransaction → Option OpenTransaction
-transaction_of lane begun = find (is_of_lane lane) begun
 
 -- what an operation of the lane on line n makes of its transaction
 abbrev pub transaction_behind : ℕ → ℕ → ScriptOp → Option OpenTransaction → Option OpenTransaction
-transaction_behind lane n (Begin wants) current = option_or current (Some (opened lane n))
-transaction_behind lane n Commit current = None
-transaction_behind lane n operation current = current
+transaction_behind lane n operation current = cond (opens operation) (Some (opened lane n current)) (cond (closes operation) (closed lane current) current)
 
--- ---- the lane's own operations
+abbrev IsOf : ℕ → Option OpenTransaction → Type 0
+IsOf lane None = Unit {0}
+IsOf lane (Some transaction) = transaction.lane ≡ lane
 
-closed_one : (lane : ℕ) (b : Bool) (t : OpenTransaction) (begun : List OpenTransaction) → is_of_lane lane t ≡ b → transaction_of lane begun ≡ None → transaction_of lane (cond (not b) (t ∷ begun) begun) ≡ None
-closed_one lane true t begun is rest = rest
-closed_one lane false t begun is rest = ap (λ (b : Bool). cond b (Some t) (transaction_of lane begun)) is ∙ rest
+opened_of : (lane n : ℕ) (current : Option OpenTransaction) → IsOf lane (Some (opened lane n current))
+opened_of lane n None = refl
+opened_of lane n (Some t) = refl
+
+left_of : (lane line inner : ℕ) (b : Bool) → IsOf lane (cond b (Some (record { lane = lane; line = line; inner = inner })) None)
+left_of lane line inner true = refl
+left_of lane line inner false = tt
+
+closed_of : (lane : ℕ) (current : Option OpenTransaction) → IsOf lane (closed lane current)
+closed_of lane None = tt
+closed_of lane (Some t) = left_of lane t.line _ (ltb 0 t.inner)
 
 abbrev others : ℕ → List OpenTransaction → List OpenTransaction
 others lane begun = filter (λ transaction. not (is_of_lane lane transaction)) begun
 
-closed : (lane : ℕ) (begun : List OpenTransaction) → transaction_of lane (others lane begun) ≡ None
-closed lane [] = refl
-closed lane (t ∷ begun) = closed_one lane (is_of_lane lane t) t (others lane begun) refl (closed lane begun)
+-- ---- the lane's own operations
+
+none_one : (lane : ℕ) (b : Bool) (t : OpenTransaction) (begun : List OpenTransaction) → is_of_lane lane t ≡ b → transaction_of lane begun ≡ None → transaction_of lane (cond (not b) (t ∷ begun) begun) ≡ None
+none_one lane true t begun is rest = rest
+none_one lane false t begun is rest = ap (λ (b : Bool). cond b (Some t) (transaction_of lane begun)) is ∙ rest
+
+none_left : (lane : ℕ) (begun : List OpenTransaction) → transaction_of lane (others lane begun) ≡ None
+none_left lane [] = refl
+none_left lane (t ∷ begun) = none_one lane (is_of_lane lane t) t (others lane begun) refl (none_left lane begun)
+
+own_there : (lane : ℕ) (transaction : Option OpenTransaction) → IsOf lane transaction → transaction_of lane (option_to_list transaction) ≡ transaction
+own_there lane None is = refl
+own_there lane (Some t) is = ap (λ (b : Bool). cond b (Some t) None) (eq-eqb t.lane lane is)
+
+own_replaced : (lane : ℕ) (transaction : Option OpenTransaction) (begun : List OpenTransaction) → IsOf lane transaction → transaction_of lane (replaced lane transaction begun) ≡ transaction
+own_replaced lane transaction begun is =
+    find-append (is_of_lane lane) (others lane begun) (option_to_list transaction)
+    ∙ ap (λ found. option_or found (transaction_of lane (option_to_list transaction))) (none_left lane begun)
+    ∙ own_there lane transaction is
+
+own_by : (lane n : ℕ) (begun : List OpenTransaction) (b c : Bool)
+    → transaction_of lane (cond b (replaced lane (Some (opened lane n (transaction_of lane begun))) begun) (cond c (replaced lane (closed lane (transaction_of lane begun)) begun) begun))
+    ≡ cond b (Some (opened lane n (transaction_of lane begun))) (cond c (closed lane (transaction_of lane begun)) (transaction_of lane begun))
+own_by lane n begun true c = own_replaced lane (Some (opened lane n (transaction_of lane begun))) begun (opened_of lane n (transaction_of lane begun))
+own_by lane n begun false true = own_replaced lane (closed lane (transaction_of lane begun)) begun (closed_of lane (transaction_of lane begun))
+own_by lane n begun false false = refl
 
 pub own_behind : (lane n : ℕ) (x : ScriptOp) (begun : List OpenTransaction) → transaction_of lane (begun_behind lane n x begun) ≡ transaction_behind lane n x (transaction_of lane begun)
-own_behind lane n (Begin wants) begun =
-    find-append (is_of_lane lane) begun (opened lane n ∷ [])
-    ∙ ap (λ (b : Bool). option_or (transaction_of lane begun) (cond b (Some (opened lane n)) None)) (eq-eqb lane lane refl)
-own_behind lane n (Add id off len) begun = refl
-own_behind lane n (Write id off bytes) begun = refl
-own_behind lane n (Read id off len) begun = refl
-own_behind lane n (Alloc letter size kind) begun = refl
-own_behind lane n (Free id) begun = refl
-own_behind lane n (Reserve letter size kind) begun = refl
-own_behind lane n (WriteReserved id off bytes) begun = refl
-own_behind lane n (DeferFree id) begun = refl
-own_behind lane n (Set id off value) begun = refl
-own_behind lane n Publish begun = refl
-own_behind lane n Cancel begun = refl
-own_behind lane n Commit begun = closed lane begun
+own_behind lane n x begun = own_by lane n begun (opens x) (closes x)
 
 -- ---- another lane's operations
 
@@ -67,20 +80,23 @@ kept : (one other : ℕ) (begun : List OpenTransaction) → (one == other) ≡ f
 kept one other [] differ = refl
 kept one other (t ∷ begun) differ = kept_one one other (is_of_lane one t) t begun (others one begun) differ refl (kept one other begun differ)
 
+not_there : (one other : ℕ) (transaction : Option OpenTransaction) → (one == other) ≡ false → IsOf one transaction → transaction_of other (option_to_list transaction) ≡ None
+not_there one other None differ is = refl
+not_there one other (Some t) differ is = ap (λ l. cond (l == other) (Some t) None) is ∙ ap (λ (b : Bool). cond b (Some t) None) differ
+
+other_replaced : (one other : ℕ) (transaction : Option OpenTransaction) (begun : List OpenTransaction) → (one == other) ≡ false → IsOf one transaction → transaction_of other (replaced one transaction begun) ≡ transaction_of other begun
+other_replaced one other transaction begun differ is =
+    find-append (is_of_lane other) (others one begun) (option_to_list transaction)
+    ∙ ap (option_or (transaction_of other (others one begun))) (not_there one other transaction differ is)
+    ∙ or_none (transaction_of other (others one begun))
+    ∙ kept one other begun differ
+
+other_by : (one other n : ℕ) (begun : List OpenTransaction) (b c : Bool) → (one == other) ≡ false
+    → transaction_of other (cond b (replaced one (Some (opened one n (transaction_of one begun))) begun) (cond c (replaced one (closed one (transaction_of one begun)) begun) begun)) ≡ transaction_of other begun
+other_by one other n begun true c differ = other_replaced one other (Some (opened one n (transaction_of one begun))) begun differ (opened_of one n (transaction_of one begun))
+other_by one other n begun false true differ = other_replaced one other (closed one (transaction_of one begun)) begun differ (closed_of one (transaction_of one begun))
+other_by one other n begun false false differ = refl
+
 -- they change nothing
 pub other_behind : (one other n : ℕ) (x : ScriptOp) (begun : List OpenTransaction) → (one == other) ≡ false → transaction_of other (begun_behind one n x begun) ≡ transaction_of other begun
-other_behind one other n (Begin wants) begun differ =
-    find-append (is_of_lane other) begun (opened one n ∷ [])
-    ∙ ap (λ (b : Bool). option_or (transaction_of other begun) (cond b (Some (opened one n)) None)) differ ∙ or_none (transaction_of other begun)
-other_behind one other n (Add id off len) begun differ = refl
-other_behind one other n (Write id off bytes) begun differ = refl
-other_behind one other n (Read id off len) begun differ = refl
-other_behind one other n (Alloc letter size kind) begun differ = refl
-other_behind one other n (Free id) begun differ = refl
-other_behind one other n (Reserve letter size kind) begun differ = refl
-other_behind one other n (WriteReserved id off bytes) begun differ = refl
-other_behind one other n (DeferFree id) begun differ = refl
-other_behind one other n (Set id off value) begun differ = refl
-other_behind one other n Publish begun differ = refl
-other_behind one other n Cancel begun differ = refl
-other_behind one other n Commit begun differ = kept one other begun differ
+other_behind one other n x begun differ = other_by one other n begun (opens x) (closes x) differ

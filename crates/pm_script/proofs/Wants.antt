@@ -8,9 +8,10 @@ use Rattle.std.specs.List.{cons_option, filter_map, list_all}
 use Rattle.pm_script.specs.Contexts.{Context}
 use Rattle.pm_script.specs.Operands.{is_want, want_of}
 use Rattle.pm_script.specs.Reading.{form_why}
+use Rattle.pm_script.specs.declared.either.EitherWord.TheVariants as either
 use Rattle.pm_script.specs.declared.fault.Why.TheVariants.{Letter}
 use Rattle.pm_script.specs.declared.script.ScriptWant.{ScriptWant}
-use Rattle.pm_script.specs.declared.statement.Keyword.TheVariants.{Begin}
+use Rattle.pm_script.specs.declared.statement.Keyword.TheVariants as keyword
 
 module _ (context : Context) (operands : List (List ℕ)) (k : ℕ) (inside : k < length operands) (word : List ℕ) (here : get_or operands k [] ≡ word) where
   -- it says one want more
@@ -24,5 +25,5 @@ module _ (context : Context) (operands : List (List ℕ)) (k : ℕ) (inside : k 
   all_wants want is all = list_all_more (is_want context) operands k [] inside ∙ and_from _ _ all (ap (is_want context) here ∙ ap is_some is)
 
   -- one that is none makes the line bad
-  pub no_want : want_of context word ≡ None → form_why context Begin operands ≡ Some Letter
+  pub no_want : want_of context word ≡ None → form_why context (keyword.Either either.Begin) operands ≡ Some Letter
   no_want none = ap (λ (b : Bool). cond b None (Some Letter)) (list_all_at (is_want context) operands k [] inside (ap (is_want context) here ∙ ap is_some none))

@@ -1,6 +1,8 @@
 pub mod Contexts
+pub mod Grammar
 pub mod Numbers
 pub mod Operands
+pub mod Operations
 pub mod Reading
 pub mod Scripts
 pub mod Stops

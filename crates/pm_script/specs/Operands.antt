@@ -1,6 +1,7 @@
 -- The operands of a script's lines: docs/COMMANDS.md, "Scripts".
-use Rattle.std.specs.Prelude.{ℕ, ◌*◌, ◌-◌, ◌&&◌, Bool, true, false, nat_eq, nat_le, if◌then◌else◌, List, [], ◌∷◌, drop, length, codes, is_some, option_and_then, option_map, Option, Some, None}
+use Rattle.std.specs.Prelude.{ℕ, ◌*◌, ◌-◌, ◌^◌, ◌&&◌, Bool, true, false, nat_eq, nat_le, nat_lt, if◌then◌else◌, List, [], ◌∷◌, drop, length, codes, is_some, option_and_then, option_map, Option, Some, None}
 use Rattle.std.specs.List.{starts_with}
+use Rattle.std.specs.Option.{option_map_or}
 use Rattle.std.specs.Result.{result_ok}
 use Rattle.std.specs.Str.{bytes_eq}
 use Rattle.hex.specs.Hex.{decode_of}
@@ -33,6 +34,14 @@ wanted write id = record { id = id; write = write }
 abbrev pub want_of : Context → List ℕ → Option ScriptWant
 want_of context word = if starts_with nat_eq word (codes "r:") then option_map (wanted false) (id_of context (drop 2 word)) else option_map (wanted true) (id_of context word)
 
+-- the object that a word names in its place, or nothing where it is `null`
+abbrev pub dest_of : Context → List ℕ → Option (Option ScriptId)
+dest_of context word = if bytes_eq word (codes "null") then Some None else option_map Some (id_of context word)
+
+-- on which side of a member: true for `before`, false for `after`
+abbrev pub side_of : List ℕ → Option Bool
+side_of word = if bytes_eq word (codes "before") then Some true else (if bytes_eq word (codes "after") then Some false else None)
+
 -- how many bytes a line reads: 1 to 4,096
 abbrev pub size_in_range : ℕ → Option ℕ
 size_in_range n = if nat_le 1 n && nat_le n 4096 then Some n else None
@@ -40,6 +49,18 @@ size_in_range n = if nat_le 1 n && nat_le n 4096 then Some n else None
 -- the length that a word of a read writes
 abbrev pub size_of : List ℕ → Option ℕ
 size_of word = option_and_then size_in_range (number_of word)
+
+-- an error number: below 2 ^ 32
+abbrev pub errnum_in_range : ℕ → Option ℕ
+errnum_in_range n = if nat_lt n (2 ^ 32) then Some n else None
+
+-- the error number that a word of an abort writes
+abbrev pub errnum_of : List ℕ → Option ℕ
+errnum_of word = option_and_then errnum_in_range (number_of word)
+
+-- there are 32 lanes
+abbrev pub is_lane : List ℕ → Bool
+is_lane word = option_map_or (λ lane. nat_lt lane 32) (number_of word) false
 
 -- each of the following: the word has the form
 abbrev pub is_number : List ℕ → Bool
@@ -59,3 +80,12 @@ is_letter word = is_some (letter_of word)
 
 abbrev pub is_want : Context → List ℕ → Bool
 is_want context word = is_some (want_of context word)
+
+abbrev pub is_dest : Context → List ℕ → Bool
+is_dest context word = is_some (dest_of context word)
+
+abbrev pub is_side : List ℕ → Bool
+is_side word = is_some (side_of word)
+
+abbrev pub is_errnum : List ℕ → Bool
+is_errnum word = is_some (errnum_of word)

@@ -1,12 +1,13 @@
 ghost use Rattle.std.specs.Prelude.{◌≡◌, ◌<◌, ℕ, [], map, None, Some, IfOk, IfErr, IfSome, IfNone, OnOk};
 ghost use Rattle.std.specs.List.{find};
 ghost use Rattle.pm_script.specs.Contexts.{binds, bound_line, start};
-ghost use Rattle.pm_script.specs.Scripts.{context_behind, is_of_lane, rebound, IsFirstOpen};
-ghost use Rattle.pm_script.specs.Reading.{keyword_said, place_why};
+ghost use Rattle.pm_script.specs.Grammar.{place_said};
+ghost use Rattle.pm_script.specs.Reading.{place_why};
+ghost use Rattle.pm_script.specs.Scripts.{IsFirstOpen, begun_behind, bound_behind, closed, context_behind, opened, rebound, replaced, transaction_of};
 ghost use Rattle.pm_script.specs.declared.statement.Statement.TheVariants as says;
 
 use crate::fault::Why;
-use crate::script::ScriptOp;
+use crate::script::{Place, ScriptOp};
 use std::alloc::{AllocError, Global};
 use std::marker::Model;
 
@@ -14,8 +15,10 @@ use std::marker::Model;
 #[derive(Clone, Copy, Debug, PartialEq, Eq)]
 pub struct OpenTransaction {
     pub lane: u64,
-    /// The line of its begin.
+    /// The line of its outermost begin.
     pub line: u64,
+    /// How many further levels are open in it.
+    pub inner: u64,
 }
 
 /// A letter that stands on its lane for what a line gave.
@@ -93,31 +96,20 @@ impl Context {
 
     /// The lane whose operation this is, or why it may not stand here.
     pub fn lane_of(&self, operation: &ScriptOp) -> Result<u64, Why>
-        ensures ok { IfOk result (λ lane. (self.now.lane ≡ Some lane) × (place_why self.now (keyword_said (says.Operation operation.now)) ≡ None)) }
-        ensures bad { IfErr result (λ why. place_why self.now (keyword_said (says.Operation operation.now)) ≡ Some why) }
+        ensures ok { IfOk result (λ lane. (self.now.lane ≡ Some lane) × (place_why self.now (place_said (says.Operation operation.now)) ≡ None)) }
+        ensures bad { IfErr result (λ why. place_why self.now (place_said (says.Operation operation.now)) ≡ Some why) }
     {
         let lane = self.lane.ok_or(Why::NoLane)?;
-        match self.transaction_of(lane) {
-            Some(_) => match operation {
-                ScriptOp::Begin { .. } => Err(Why::Inside),
-                _ => Ok(lane),
-            },
-            None => match operation {
-                ScriptOp::Begin { .. } => Ok(lane),
-                ScriptOp::Reserve { .. }
-                | ScriptOp::WriteReserved { .. }
-                | ScriptOp::DeferFree { .. }
-                | ScriptOp::Set { .. }
-                | ScriptOp::Publish
-                | ScriptOp::Cancel => Ok(lane),
-                _ => Err(Why::Outside),
-            },
+        match (operation.place(), self.transaction_of(lane)) {
+            (Place::Inside, None) => Err(Why::Outside),
+            (Place::Outside, Some(_)) => Err(Why::Inside),
+            _ => Ok(lane),
         }
     }
 
     /// The lane's transaction, if one is open.
     fn transaction_of(&self, lane: u64) -> Option<OpenTransaction>
-        ensures { result ≡ find (is_of_lane lane) self.now.begun }
+        ensures { result ≡ transaction_of lane self.now.begun }
     {
         self.begun
             .iter()
@@ -139,19 +131,63 @@ impl Context {
         requires { self.old.lane ≡ Some lane }
         ensures { OnOk result (self.new ≡ context_behind self.old line (Some (says.Operation operation.now))) }
     {
-        match operation {
-            ScriptOp::Begin { .. } => self.begun.push(OpenTransaction { lane, line })?,
-            ScriptOp::Alloc { letter, .. } | ScriptOp::Reserve { letter, .. } => {
-                self.bind(Binding {
-                    lane,
-                    letter: *letter,
-                    line,
-                })?
-            }
-            ScriptOp::Commit => self.begun.retain(|transaction| transaction.lane != lane),
-            _ => {}
-        }
+        self.follow_level(lane, line, operation)?;
+        self.follow_letter(lane, line, operation)?;
         Ok(())
+    }
+
+    /// Opens or closes the level that the operation does.
+    fn follow_level(&mut self, lane: u64, line: u64, operation: &ScriptOp) -> Result<(), AllocError>
+        ensures { OnOk result (self.new ≡ record self.old { begun = begun_behind lane line operation.now self.old.begun }) }
+    {
+        if operation.opens() {
+            self.open(lane, line)
+        } else if operation.closes() {
+            self.close(lane)
+        } else {
+            Ok(())
+        }
+    }
+
+    /// Binds the letter that the operation does.
+    fn follow_letter(
+        &mut self,
+        lane: u64,
+        line: u64,
+        operation: &ScriptOp,
+    ) -> Result<(), AllocError>
+        ensures { OnOk result (self.new ≡ record self.old { bound = bound_behind lane line operation.now self.old.bound }) }
+    {
+        match operation.letter() {
+            Some(letter) => self.bind(Binding { lane, letter, line }),
+            None => Ok(()),
+        }
+    }
+
+    /// Opens a transaction of the lane on this line, or one more level of the one that is open.
+    fn open(&mut self, lane: u64, line: u64) -> Result<(), AllocError>
+        ensures { OnOk result (self.new ≡ record self.old { begun = replaced lane (Some (opened lane line (transaction_of lane self.old.begun))) self.old.begun }) }
+    {
+        let transaction = opened(lane, line, self.transaction_of(lane))?;
+        self.replace(lane, Some(transaction))
+    }
+
+    /// Closes the innermost level of the lane's transaction.
+    fn close(&mut self, lane: u64) -> Result<(), AllocError>
+        ensures { OnOk result (self.new ≡ record self.old { begun = replaced lane (closed lane (transaction_of lane self.old.begun)) self.old.begun }) }
+    {
+        self.replace(lane, closed(lane, self.transaction_of(lane)))
+    }
+
+    /// Puts this in place of the lane's transaction.
+    fn replace(&mut self, lane: u64, transaction: Option<OpenTransaction>) -> Result<(), AllocError>
+        ensures { OnOk result (self.new ≡ record self.old { begun = replaced lane transaction self.old.begun }) }
+    {
+        self.begun.retain(|other| other.lane != lane);
+        match transaction {
+            Some(transaction) => Ok(self.begun.push(transaction)?),
+            None => Ok(()),
+        }
     }
 
     /// Adds a binding in place of the last one of its lane and letter.
@@ -162,5 +198,44 @@ impl Context {
             .retain(|old| !(old.lane == new.lane && old.letter == new.letter));
         self.bound.push(new)?;
         Ok(())
+    }
+}
+
+/// What a begin of the lane on this line makes of its transaction.
+fn opened(
+    lane: u64,
+    line: u64,
+    transaction: Option<OpenTransaction>,
+) -> Result<OpenTransaction, AllocError>
+    ensures { IfOk result (λ found. found ≡ opened lane line transaction) }
+{
+    match transaction {
+        Some(outer) => Ok(OpenTransaction {
+            lane,
+            line: outer.line,
+            // a text of 2^64 lines fits in no memory
+            inner: outer.inner.checked_add(1).ok_or(AllocError)?,
+        }),
+        None => Ok(OpenTransaction {
+            lane,
+            line,
+            inner: 0,
+        }),
+    }
+}
+
+/// What a commit or an abort of the lane makes of its transaction.
+fn closed(lane: u64, transaction: Option<OpenTransaction>) -> Option<OpenTransaction>
+    ensures { result ≡ closed lane transaction }
+{
+    let OpenTransaction { line, inner, .. } = transaction?;
+    if inner > 0 {
+        Some(OpenTransaction {
+            lane,
+            line,
+            inner: inner - 1,
+        })
+    } else {
+        None
     }
 }

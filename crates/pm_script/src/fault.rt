@@ -21,17 +21,18 @@ pub enum Why {
     Number,
     /// An operand is not 1 to 4,096 bytes of two hexadecimal digits each.
     Hex,
-    /// An operand names no object, as by a letter that no line of the lane has bound, or is not the letter that it is to be.
+    /// An operand names no object, as by a letter that no line of the lane has bound, or is not the
+    /// letter, `null`, `before` or `after` that it is to be.
     Letter,
     /// A lane of 32 or more.
     LaneNumber,
     /// No lane was named before.
     NoLane,
-    /// A begin while a transaction of the lane is open.
+    /// An operation that stands outside of transactions alone, while one of the lane is open.
     Inside,
-    /// An add, a write, a read, an alloc, a free or a commit while no transaction of the lane is open.
+    /// An operation that stands in a transaction alone, while none of the lane is open.
     Outside,
-    /// The transaction that the line begins is never closed.
+    /// The line begins a transaction, and its outermost level is never closed.
     Open,
 }
 

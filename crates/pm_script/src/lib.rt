@@ -7,10 +7,13 @@
 #![tactic(auto)]
 
 mod context;
+mod either;
 mod fault;
+mod inside;
 mod laws;
 mod numbers;
 mod operands;
+mod outside;
 mod parsing;
 mod reader;
 mod script;
@@ -25,7 +28,7 @@ pub use laws::{
 };
 pub use numbers::{MAX_DIGITS, number};
 pub use parsing::parse;
-pub use script::{Script, ScriptId, ScriptLine, ScriptOp, ScriptWant};
+pub use script::{Place, Script, ScriptAt, ScriptDest, ScriptId, ScriptLine, ScriptOp, ScriptWant};
 pub use stopping::{stop_of, stops};
 
 #[cfg(test)]

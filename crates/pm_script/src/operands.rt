@@ -1,7 +1,7 @@
 ghost use Rattle.std.specs.Prelude.{◌≡◌, option_and_then, option_map, IfOk};
 ghost use Rattle.pm_script.specs.Contexts.{bound_line};
 ghost use Rattle.pm_script.specs.Numbers.{number_of};
-ghost use Rattle.pm_script.specs.Operands.{bytes_of, id_of, letter_of, want_of, wanted, size_of};
+ghost use Rattle.pm_script.specs.Operands.{bytes_of, dest_of, errnum_of, id_of, letter_of, side_of, size_of, want_of, wanted};
 ghost use Rattle.pm_script.specs.declared.script.ScriptId.TheVariants.{At, Bound};
 
 use crate::context::Context;
@@ -69,6 +69,35 @@ fn wanted(context: &Context, object: &str, write: bool) -> Option<ScriptWant>
         id: id_of(context, object)?,
         write,
     })
+}
+
+/// The object that a word names in its place, or nothing where it is `null`.
+pub fn dest_of(context: &Context, word: &str) -> Option<Option<ScriptId>>
+    ensures { result ≡ dest_of context.now word.now }
+{
+    if word == "null" {
+        Some(None)
+    } else {
+        Some(Some(id_of(context, word)?))
+    }
+}
+
+/// On which side of a member: true for `before`, false for `after`.
+pub fn side_of(word: &str) -> Option<bool>
+    ensures { result ≡ side_of word.now }
+{
+    match word {
+        "before" => Some(true),
+        "after" => Some(false),
+        _ => None,
+    }
+}
+
+/// The error number that a word writes, below 2^32.
+pub fn errnum_of(word: &str) -> Option<u32>
+    ensures { result ≡ errnum_of word.now }
+{
+    u32::try_from(number(word)?).ok()
 }
 
 /// How many bytes a line reads, as its word writes it: 1 to 4,096.

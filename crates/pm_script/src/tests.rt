@@ -80,6 +80,86 @@ fn freed(alloc: Global, word: &str, id: &ScriptId) -> Result<String, Fail> {
     Ok(format!(in alloc; "{word} {object}")?)
 }
 
+/// A word and two objects.
+fn pair(alloc: Global, word: &str, id: &ScriptId, other: &ScriptId) -> Result<String, Fail> {
+    let object = object(alloc, id)?;
+    let other = self::object(alloc, other)?;
+    Ok(format!(in alloc; "{word} {object} {other}")?)
+}
+
+/// A lock, as scripts write it.
+fn lock(alloc: Global, want: &ScriptWant) -> Result<String, Fail> {
+    freed(alloc, if want.write { "lock" } else { "lockr" }, &want.id)
+}
+
+/// A word and a destination.
+fn at(alloc: Global, word: &str, dest: &ScriptDest) -> Result<String, Fail> {
+    let object = object(alloc, &dest.id)?;
+    let off = dest.off;
+    Ok(format!(in alloc; "{word} {object} {off}")?)
+}
+
+/// A word, the letter of a new object, a destination, a size and a type number.
+fn put_at(
+    alloc: Global,
+    word: &str,
+    letter: u8,
+    dest: &ScriptDest,
+    size: u64,
+    kind: u64,
+) -> Result<String, Fail> {
+    let letter = char::from(b'a'.wrapping_add(letter));
+    let object = object(alloc, &dest.id)?;
+    let off = dest.off;
+    Ok(format!(in alloc; "{word} {letter} {object} {off} {size} {kind}")?)
+}
+
+/// A place in a list.
+fn side(alloc: Global, at: &ScriptAt) -> Result<String, Fail> {
+    let side = if at.before { "before" } else { "after" };
+    match &at.dest {
+        Some(id) => freed(alloc, side, id),
+        None => Ok(format!(in alloc; "{side} null")?),
+    }
+}
+
+/// An insert as scripts write it.
+fn insert(alloc: Global, head: &ScriptId, at: &ScriptAt, id: &ScriptId) -> Result<String, Fail> {
+    let head = object(alloc, head)?;
+    let at = side(alloc, at)?;
+    let id = object(alloc, id)?;
+    Ok(format!(in alloc; "insert {head} {at} {id}")?)
+}
+
+/// An insert of a new object as scripts write it.
+fn insert_new(
+    alloc: Global,
+    letter: u8,
+    head: &ScriptId,
+    at: &ScriptAt,
+    size: u64,
+    kind: u64,
+) -> Result<String, Fail> {
+    let letter = char::from(b'a'.wrapping_add(letter));
+    let head = object(alloc, head)?;
+    let at = side(alloc, at)?;
+    Ok(format!(in alloc; "insert_new {letter} {head} {at} {size} {kind}")?)
+}
+
+/// A move as scripts write it.
+fn moved(
+    alloc: Global,
+    head: &ScriptId,
+    new_head: &ScriptId,
+    at: &ScriptAt,
+    id: &ScriptId,
+) -> Result<String, Fail> {
+    let heads = pair(alloc, "move", head, new_head)?;
+    let at = side(alloc, at)?;
+    let id = object(alloc, id)?;
+    Ok(format!(in alloc; "{heads} {at} {id}")?)
+}
+
 /// An operation as scripts write it.
 fn operation(alloc: Global, operation: &ScriptOp) -> Result<String, Fail> {
     match operation {
@@ -98,6 +178,59 @@ fn operation(alloc: Global, operation: &ScriptOp) -> Result<String, Fail> {
         ScriptOp::Publish => Ok(format!(in alloc; "publish")?),
         ScriptOp::Cancel => Ok(format!(in alloc; "cancel")?),
         ScriptOp::Commit => Ok(format!(in alloc; "commit")?),
+        ScriptOp::Abort { errnum } => Ok(format!(in alloc; "abort {errnum}")?),
+        ScriptOp::Lock { want } => lock(alloc, want),
+        ScriptOp::Increment { id, off, by } => placed(alloc, "inc", id, *off, *by),
+        outside => call(alloc, outside),
+    }
+}
+
+/// An operation outside of transactions as scripts write it.
+fn call(alloc: Global, operation: &ScriptOp) -> Result<String, Fail> {
+    match operation {
+        ScriptOp::AllocTo {
+            letter,
+            dest,
+            size,
+            kind,
+        } => { put_at(alloc, "alloc_to", *letter, dest, *size, *kind) }
+        ScriptOp::ReallocAt {
+            letter,
+            dest,
+            size,
+            kind,
+        } => { put_at(alloc, "realloc_at", *letter, dest, *size, *kind) }
+        ScriptOp::FreeAt { dest } => at(alloc, "free_at", dest),
+        ScriptOp::UsableSize { id } => freed(alloc, "usable", id),
+        ScriptOp::TypeNumber { id } => freed(alloc, "type", id),
+        ScriptOp::Insert { head, at, id } => insert(alloc, head, at, id),
+        ScriptOp::InsertNew {
+            letter,
+            head,
+            at,
+            size,
+            kind,
+        } => { insert_new(alloc, *letter, head, at, *size, *kind) }
+        ScriptOp::Remove {
+            head,
+            id,
+            free: false,
+        } => pair(alloc, "remove", head, id),
+        ScriptOp::Remove {
+            head,
+            id,
+            free: true,
+        } => pair(alloc, "remove_free", head, id),
+        ScriptOp::MoveTo {
+            head,
+            new_head,
+            at,
+            id,
+        } => moved(alloc, head, new_head, at, id),
+        ScriptOp::Members { head } => freed(alloc, "members", head),
+        ScriptOp::Root { size } => Ok(format!(in alloc; "root {size}")?),
+        ScriptOp::RootSize => Ok(format!(in alloc; "root_size")?),
+        _ => Ok(format!(in alloc; "?")?),
     }
 }
 
@@ -278,12 +411,72 @@ const RESERVED: [(&str, &str); 8] = [
     ),
 ];
 
+/// Levels of transactions, their locks and numbers, and calls outside of them, and what they say.
+const CALLS: [(&str, &str); 12] = [
+    (
+        "lane 0\nbegin root\nlock 16512\nlockr root\ninc 16512 8 18446744073709551615\nabort 4294967295\n",
+        "1 lanes; 2 0 begin root; 3 0 lock 16512; 4 0 lockr root; 5 0 inc 16512 8 18446744073709551615; 6 0 abort 4294967295;",
+    ),
+    // a level in a level: each commit and each abort closes the innermost
+    (
+        "lane 0\nbegin root\nbegin\nbegin r:root\ncommit\nadd root 0 8\ncommit\nbegin\nabort 0\ncommit\nroot_size",
+        "1 lanes; 2 0 begin root; 3 0 begin; 4 0 begin r:root; 5 0 commit; 6 0 add root 0 8; 7 0 commit; 8 0 begin; 9 0 abort 0; 10 0 commit; 11 0 root_size;",
+    ),
+    (
+        "lane 0\nbegin\nbegin\nlane 1\nusable root\nbegin\nlane 0\ncommit\nlane 1\ncommit\ntype root\nlane 0\ninc root 0 1\nabort 7\nusable root",
+        "2 lanes; 2 0 begin; 3 0 begin; 5 1 usable root; 6 1 begin; 8 0 commit; 10 1 commit; 11 1 type root; 13 0 inc root 0 1; 14 0 abort 7; 15 0 usable root;",
+    ),
+    // atomic calls
+    (
+        "lane 0\nalloc_to a root 8 64 7\nrealloc_at b $a 016 0 18446744073709551615\nfree_at 16512 24\n",
+        "1 lanes; 2 0 alloc_to a root 8 64 7; 3 0 realloc_at b $2 16 0 18446744073709551615; 4 0 free_at 16512 24;",
+    ),
+    (
+        "lane 0\nusable root\nusable 16512\ntype root\ntype 0016512\nroot 64\nroot 18446744073709551615\nroot_size\n",
+        "1 lanes; 2 0 usable root; 3 0 usable 16512; 4 0 type root; 5 0 type 16512; 6 0 root 64; 7 0 root 18446744073709551615; 8 0 root_size;",
+    ),
+    // list calls
+    (
+        "lane 0\ninsert root before null 16512\ninsert 16640 after root 16512\ninsert root after null root\n",
+        "1 lanes; 2 0 insert root before null 16512; 3 0 insert 16640 after root 16512; 4 0 insert root after null root;",
+    ),
+    (
+        "lane 0\ninsert_new m root after null 64 7\ninsert_new n root before $m 8 0\ninsert root before $m $n\nmembers root\n",
+        "1 lanes; 2 0 insert_new m root after null 64 7; 3 0 insert_new n root before $2 8 0; 4 0 insert root before $2 $3; 5 0 members root;",
+    ),
+    (
+        "lane 0\nremove root 16512\nremove_free 16640 16512\nmove root 16640 before null 16512\nmove 16640 root after 16512 16768\nmembers 16640",
+        "1 lanes; 2 0 remove root 16512; 3 0 remove_free 16640 16512; 4 0 move root 16640 before null 16512; 5 0 move 16640 root after 16512 16768; 6 0 members 16640;",
+    ),
+    // each call that gives an offset binds its letter, and the last one counts
+    (
+        "lane 0\nalloc_to a root 0 64 0\nusable $a\nrealloc_at a root 0 128 0\nusable $a\ninsert_new a root after null 64 0\nusable $a\nreserve a 64 0\nusable $a\nbegin\nalloc a 64 0\ncommit\nusable $a",
+        "1 lanes; 2 0 alloc_to a root 0 64 0; 3 0 usable $2; 4 0 realloc_at a root 0 128 0; 5 0 usable $4; 6 0 insert_new a root after null 64 0; 7 0 usable $6; 8 0 reserve a 64 0; 9 0 usable $8; 10 0 begin; 11 0 alloc a 64 0; 12 0 commit; 13 0 usable $11;",
+    ),
+    (
+        "lane 0\nalloc_to a root 0 64 0\nlane 1\nalloc_to a root 0 64 0\nremove root $a\nlane 0\nmove root $a after $a root",
+        "2 lanes; 2 0 alloc_to a root 0 64 0; 4 1 alloc_to a root 0 64 0; 5 1 remove root $4; 7 0 move root $2 after $2 root;",
+    ),
+    // one letter in each place of an ID
+    (
+        "lane 0\nreserve a 64 0\nalloc_to b $a 8 64 7\nrealloc_at b $a 8 64 7\nfree_at $a 8\ntype $a\ninsert $a before $a $a\ninsert_new c $a before $a 64 7\nremove $a $a\nremove_free $a $a\nmove $a $a after $a $a\nmembers $a",
+        "1 lanes; 2 0 reserve a 64 0; 3 0 alloc_to b $2 8 64 7; 4 0 realloc_at b $2 8 64 7; 5 0 free_at $2 8; 6 0 type $2; 7 0 insert $2 before $2 $2; 8 0 insert_new c $2 before $2 64 7; 9 0 remove $2 $2; 10 0 remove_free $2 $2; 11 0 move $2 $2 after $2 $2; 12 0 members $2;",
+    ),
+    (
+        "lane 0\nreserve a 64 0\nbegin\nlock $a\nlockr $a\ninc $a 0 1\nabort 1",
+        "1 lanes; 2 0 reserve a 64 0; 3 0 begin; 4 0 lock $2; 5 0 lockr $2; 6 0 inc $2 0 1; 7 0 abort 1;",
+    ),
+];
+
 #[test]
 fn scripts(rt: HostRuntime) -> Result<(), Fail> {
     for (text, wanted) in SCRIPTS {
         tells(&rt, rt.alloc(), text, wanted)?;
     }
     for (text, wanted) in RESERVED {
+        tells(&rt, rt.alloc(), text, wanted)?;
+    }
+    for (text, wanted) in CALLS {
         tells(&rt, rt.alloc(), text, wanted)?;
     }
     Ok(())
@@ -299,7 +492,7 @@ const REASONS: [(&str, &str); 11] = [
     ("lane 0\nbegin $a\ncommit", "2 Letter"),
     ("lane 32\nbegin root\ncommit", "1 LaneNumber"),
     ("begin root\ncommit", "1 NoLane"),
-    ("lane 0\nbegin root\nbegin root\ncommit", "3 Inside"),
+    ("lane 0\nbegin root\nroot 64\ncommit", "3 Inside"),
     ("lane 0\ncommit", "2 Outside"),
     ("lane 0\nbegin root\nadd root 0 8\n", "2 Open"),
 ];
@@ -316,7 +509,7 @@ const BAD_BYTES: [(&str, &str); 4] = [
 const BAD_WORDS: [(&str, &str); 4] = [
     ("Lane 0\nbegin root\ncommit", "1 Word"),
     ("lane0\n", "1 Word"),
-    ("lane 0\nabort\n", "2 Word"),
+    ("lane 0\nLock root\n", "2 Word"),
     ("frob 0 1 2 3", "1 Word"),
 ];
 
@@ -473,7 +666,10 @@ const MIXED: [(&str, &str); 6] = [
     ("lane 0\nbegin\npublish\nfree $a", "4 Letter"),
     ("lane 0\nbegin\nalloc a 64 0\npublish 1", "4 Count"),
     ("lane 0\nbegin\npublish\nlane 1\nfree root", "5 Outside"),
-    ("lane 0\nbegin\nalloc a 64 0\npublish\nbegin", "5 Inside"),
+    (
+        "lane 0\nbegin\nalloc a 64 0\npublish\nroot_size",
+        "5 Inside",
+    ),
     ("lane 0\nbegin\npublish\nalloc a 64 0", "2 Open"),
 ];
 
@@ -495,7 +691,7 @@ const TWO_REASONS: [(&str, &str); 11] = [
 /// Two bad lines.
 const TWO_BAD_LINES: [(&str, &str); 3] = [
     ("lane 0\nbegin root\nfrob\nlane 32", "3 Word"),
-    ("lane 0\nbegin root\nbegin\nfrob", "3 Inside"),
+    ("lane 0\nbegin root\nusable root\nfrob", "3 Inside"),
     ("lane 0\nbegin root\n\nadd $a 0 8", "4 Letter"),
 ];
 
@@ -505,11 +701,135 @@ const PLACES: [(&str, &str); 5] = [
     ("lane 0\nbegin\ncommit\nwrite root 0 00", "4 Outside"),
     ("lane 0\nread root 0 8\nbegin\ncommit", "2 Outside"),
     ("lane 0\nbegin\nlane 1\nadd root 0 8", "4 Outside"),
-    ("lane 0\nbegin\nlane 1\nbegin\nlane 0\nbegin", "6 Inside"),
+    (
+        "lane 0\nbegin\nlane 1\nbegin\nlane 0\ntype root",
+        "6 Inside",
+    ),
 ];
 
-/// Transactions that are never closed.
-const LEFT_OPEN: [(&str, &str); 3] = [
+/// Each word of a transaction, once right and once wrong in each way.
+const INSIDE: [(&str, &str); 23] = [
+    ("lane 0\nbegin\nlock", "3 Count"),
+    ("lane 0\nbegin\nlock root root", "3 Count"),
+    ("lane 0\nbegin\nlock r:root", "3 Letter"),
+    ("lane 0\nbegin\nlock $a", "3 Letter"),
+    ("lock root", "1 NoLane"),
+    ("lane 0\nlock root", "2 Outside"),
+    ("lane 0\nbegin\nlockr", "3 Count"),
+    ("lane 0\nbegin\nlockr null", "3 Letter"),
+    ("lane 0\nlockr root", "2 Outside"),
+    ("lane 0\nbegin\ninc root 8", "3 Count"),
+    ("lane 0\nbegin\ninc root x 1", "3 Number"),
+    ("lane 0\nbegin\ninc root 8 18446744073709551616", "3 Number"),
+    ("lane 0\nbegin\ninc Root 8 1", "3 Letter"),
+    ("lane 0\ninc root 8 1", "2 Outside"),
+    ("lane 0\nbegin\nabort", "3 Count"),
+    ("lane 0\nbegin\nabort 5 6", "3 Count"),
+    ("lane 0\nbegin\nabort x", "3 Number"),
+    ("lane 0\nbegin\nabort 4294967296", "3 Number"),
+    ("lane 0\nbegin\nabort 18446744073709551616", "3 Number"),
+    ("abort 1", "1 NoLane"),
+    ("lane 0\nabort 1", "2 Outside"),
+    ("lane 0\nbegin\nabort 1\nabort 1", "4 Outside"),
+    (
+        "lane 0\nbegin\nlock root\nlockr root\ninc root 0 1",
+        "2 Open",
+    ),
+];
+
+/// Each word of a call outside of transactions, wrong in each way: the atomic calls and the questions.
+const OUTSIDE: [(&str, &str); 33] = [
+    ("lane 0\nalloc_to a root 8 64", "2 Count"),
+    ("lane 0\nalloc_to a root 8 64 7 7", "2 Count"),
+    ("lane 0\nalloc_to a root x 64 7", "2 Number"),
+    ("lane 0\nalloc_to a root 8 x 7", "2 Number"),
+    ("lane 0\nalloc_to a root 8 64 x", "2 Number"),
+    ("lane 0\nalloc_to ab root 8 64 7", "2 Letter"),
+    ("lane 0\nalloc_to a $a 8 64 7", "2 Letter"),
+    ("alloc_to a root 8 64 7", "1 NoLane"),
+    ("lane 0\nbegin\nalloc_to a root 8 64 7", "3 Inside"),
+    ("lane 0\nrealloc_at a root 8 64", "2 Count"),
+    ("lane 0\nrealloc_at a root -8 64 7", "2 Number"),
+    ("lane 0\nrealloc_at $a root 8 64 7", "2 Letter"),
+    ("lane 0\nrealloc_at a null 8 64 7", "2 Letter"),
+    ("lane 0\nbegin\nrealloc_at a root 8 64 7", "3 Inside"),
+    ("lane 0\nfree_at root", "2 Count"),
+    ("lane 0\nfree_at root x", "2 Number"),
+    ("lane 0\nfree_at x 8", "2 Letter"),
+    ("free_at root 8", "1 NoLane"),
+    ("lane 0\nbegin\nfree_at root 8", "3 Inside"),
+    ("lane 0\nusable", "2 Count"),
+    ("lane 0\nusable before", "2 Letter"),
+    ("lane 0\nbegin\nusable root", "3 Inside"),
+    ("lane 0\ntype root root", "2 Count"),
+    ("lane 0\ntype $a", "2 Letter"),
+    ("lane 0\nbegin\ntype root", "3 Inside"),
+    ("lane 0\nroot", "2 Count"),
+    ("lane 0\nroot 64 0", "2 Count"),
+    ("lane 0\nroot x", "2 Number"),
+    ("root 64", "1 NoLane"),
+    ("lane 0\nbegin\nroot 64", "3 Inside"),
+    ("lane 0\nroot_size root", "2 Count"),
+    ("root_size", "1 NoLane"),
+    ("lane 0\nbegin\nroot_size", "3 Inside"),
+];
+
+/// The same of the list calls.
+const LISTS: [(&str, &str); 31] = [
+    ("lane 0\ninsert root before null", "2 Count"),
+    ("lane 0\ninsert root before null 16512 16512", "2 Count"),
+    ("lane 0\ninsert $a before null 16512", "2 Letter"),
+    ("lane 0\ninsert root Before null 16512", "2 Letter"),
+    ("lane 0\ninsert root 16512 before null", "2 Letter"),
+    ("lane 0\ninsert root before Null 16512", "2 Letter"),
+    ("lane 0\ninsert root before null null", "2 Letter"),
+    ("lane 0\ninsert root after $a 16512", "2 Letter"),
+    ("insert root before null 16512", "1 NoLane"),
+    ("lane 0\nbegin\ninsert root before null 16512", "3 Inside"),
+    ("lane 0\ninsert_new a root before null 64", "2 Count"),
+    ("lane 0\ninsert_new a root before null x 7", "2 Number"),
+    ("lane 0\ninsert_new a root between null 64 x", "2 Number"),
+    ("lane 0\ninsert_new 1 root before null 64 7", "2 Letter"),
+    ("lane 0\ninsert_new a null before null 64 7", "2 Letter"),
+    ("lane 0\ninsert_new a root null before 64 7", "2 Letter"),
+    ("lane 0\ninsert_new a root before $a 64 7", "2 Letter"),
+    (
+        "lane 0\nbegin\ninsert_new a root before null 64 7",
+        "3 Inside",
+    ),
+    ("lane 0\nremove root", "2 Count"),
+    ("lane 0\nremove root null", "2 Letter"),
+    ("lane 0\nbegin\nremove root 16512", "3 Inside"),
+    ("lane 0\nremove_free root 16512 0", "2 Count"),
+    ("lane 0\nremove_free $a root", "2 Letter"),
+    ("lane 0\nbegin\nremove_free root 16512", "3 Inside"),
+    ("lane 0\nmove root root after null", "2 Count"),
+    ("lane 0\nmove root null after null 16512", "2 Letter"),
+    ("lane 0\nmove root root after null", "2 Count"),
+    ("lane 0\nmove root root aft null 16512", "2 Letter"),
+    ("lane 0\nbegin\nmove root root after null 16512", "3 Inside"),
+    ("lane 0\nmembers", "2 Count"),
+    ("lane 0\nbegin\nmembers root", "3 Inside"),
+];
+
+/// Transactions that are never closed, and those whose inner levels are not.
+const LEFT_OPEN: [(&str, &str); 10] = [
+    ("lane 0\nbegin\nbegin\n", "2 Open"),
+    ("lane 0\nbegin\nbegin\nbegin\ncommit\nabort 1", "2 Open"),
+    (
+        "lane 0\nbegin\nbegin\ncommit\ncommit\nbegin\nbegin\ncommit",
+        "6 Open",
+    ),
+    (
+        "lane 0\nbegin\nlane 1\nbegin\nbegin\nlane 0\ncommit\nlane 1\ncommit",
+        "4 Open",
+    ),
+    (
+        "lane 1\nbegin\nlane 0\nbegin\nlane 1\nbegin\ncommit",
+        "2 Open",
+    ),
+    ("lane 0\nbegin\nbegin\ncommit\nusable root", "5 Inside"),
+    ("lane 0\nbegin\nbegin\ncommit\ncommit\ncommit", "6 Outside"),
     ("lane 1\nbegin\nlane 0\n\nbegin\n", "2 Open"),
     ("lane 1\nbegin\nlane 0\nbegin\nlane 1\ncommit", "4 Open"),
     ("lane 1\nbegin\ncommit\n#\nbegin\nlane 0", "5 Open"),
@@ -526,7 +846,7 @@ fn all_tell(rt: &impl Abort, alloc: Global, table: &[(&str, &str)]) -> Result<()
 
 #[test]
 fn bad_lines(rt: HostRuntime) -> Result<(), Fail> {
-    let tables: [&[(&str, &str)]; 16] = [
+    let tables: [&[(&str, &str)]; 19] = [
         &REASONS,
         &BAD_BYTES,
         &BAD_WORDS,
@@ -542,6 +862,9 @@ fn bad_lines(rt: HostRuntime) -> Result<(), Fail> {
         &TWO_REASONS,
         &TWO_BAD_LINES,
         &PLACES,
+        &INSIDE,
+        &OUTSIDE,
+        &LISTS,
         &LEFT_OPEN,
     ];
     for table in tables {

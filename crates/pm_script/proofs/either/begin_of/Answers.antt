@@ -4,7 +4,7 @@ use Rattle.pm_script.specs.Words.{texts}
 use Rattle.pm_script.proofs.Answering.{value_found, none_found}
 use Rattle.pm_script.proofs.Wants.{wants_more, all_wants, no_want}
 use Rattle.pm_script.proofs.WordLists.{text_at, text_inside}
-use Rattle.pm_script.proofs.statement.begin_of.Goals as goal
+use Rattle.pm_script.proofs.either.begin_of.Goals as goal
 
 pub returns-in_err-want : goal.returns-in_err-want
 returns-in_err-want c =

@@ -2,7 +2,7 @@ use Rattle.std.proofs.Common.{◌≡◌, true, take}
 use Rattle.std.specs.List.{filter_map, list_all}
 use Rattle.pm_script.specs.Operands.{is_want, want_of}
 use Rattle.pm_script.specs.Words.{texts}
-use Rattle.pm_script.proofs.statement.begin_of.Given as goal
+use Rattle.pm_script.proofs.either.begin_of.Given as goal
 
 -- the operands so far are what the wants say
 abbrev pub invariant-loop-operand : goal.invariant-loop-operand
