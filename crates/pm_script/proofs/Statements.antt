@@ -1,5 +1,5 @@
 -- What the words of a line say: facts that hold row by row of the table of forms.
-use Rattle.std.proofs.Common.{◌≡◌, ◌<◌, ◌&&◌, ℕ, Bool, true, false, cond, ltb, nat_eq, All, List, [], ◌∷◌, map, drop, codes, Option, None, Some, is_some, option_to_list, refl, sym, ap, subst}
+use Rattle.std.proofs.Common.{◌≡◌, ◌<◌, ◌&&◌, ℕ, Bool, true, false, cond, ltb, nat_eq, All, List, [], ◌∷◌, map, drop, codes, Option, None, Some, is_some, option_to_list, refl, subst}
 use Rattle.std.specs.List.{cons_option, filter_map, starts_with}
 use Rattle.std.specs.Option.{option_and_then, option_map, option_map_or}
 use Rattle.std.specs.Str.{bytes_eq}

@@ -1,5 +1,5 @@
 -- The grammar of a script's lines: the first words, each with where it stands, its operands and what it says.
-use Rattle.std.specs.Prelude.{ℕ, ◌==◌, ◌&&◌, Bool, true, false, if◌then◌else◌, List, [], ◌∷◌, length, codes, is_some, option_and_then, option_map, Option, Some, None}
+use Rattle.std.specs.Prelude.{ℕ, ◌==◌, ◌&&◌, Bool, true, false, if◌then◌else◌, List, [], ◌∷◌, length, codes, option_and_then, option_map, Option, Some, None}
 use Rattle.std.specs.List.{find, filter_map, list_all}
 use Rattle.std.specs.Option.{option_or}
 use Rattle.std.specs.Str.{bytes_eq}
@@ -20,7 +20,6 @@ use Rattle.pm_script.specs.declared.script.Place.TheVariants as place
 use Rattle.pm_script.specs.declared.script.ScriptAt.{ScriptAt}
 use Rattle.pm_script.specs.declared.script.ScriptDest.{ScriptDest}
 use Rattle.pm_script.specs.declared.script.ScriptId.{ScriptId}
-use Rattle.pm_script.specs.declared.script.ScriptOp.{ScriptOp}
 use Rattle.pm_script.specs.declared.script.ScriptOp.TheVariants as op
 use Rattle.pm_script.specs.declared.script.ScriptWant.{ScriptWant}
 use Rattle.pm_script.specs.declared.statement.Keyword.{Keyword}

@@ -1,5 +1,5 @@
 -- What an operation of a script is to its lane: where it stands, which levels it opens and closes, and which letter it binds.
-use Rattle.std.specs.Prelude.{ℕ, Bool, true, false, Option, Some, None, List, [], ◌∷◌, ◌++◌, map, option_to_list}
+use Rattle.std.specs.Prelude.{ℕ, Bool, true, false, Option, Some, None, List, [], ◌∷◌, map, option_to_list}
 use Rattle.pm_script.specs.declared.script.Place.{Place}
 use Rattle.pm_script.specs.declared.script.Place.TheVariants.{Either, Inside, Outside}
 use Rattle.pm_script.specs.declared.script.ScriptId.{ScriptId}

@@ -1,4 +1,4 @@
-use Rattle.std.proofs.Common.{◌≡◌, not, List, [], ◌∷◌, ◌++◌, Some, sym, ap, ◌∙◌, rules, tests}
+use Rattle.std.proofs.Common.{not, List, [], ◌∷◌, ◌++◌, Some, sym, ap, ◌∙◌, rules, tests}
 use Rattle.std.specs.List.{filter}
 use Rattle.std.proofs.lemmas.Fn.{filter_same}
 use Rattle.std.proofs.lemmas.List.{append-nil}
