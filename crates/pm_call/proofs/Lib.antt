@@ -85,3 +85,5 @@ pub mod StoppedNumbers
 pub mod StoppedLanes
 pub mod Standing
 pub mod NewLanes
+pub mod IdleCalls
+pub mod FewStores

@@ -28,3 +28,4 @@ pub mod Publications
 pub mod Histories
 pub mod PublicationParts
 pub mod Standing
+pub mod Stores

@@ -2,6 +2,17 @@ ghost use Rattle.pm_call.specs.Commits.{CommittedArePast, InnerLevelsMayBeCommit
 ghost use Rattle.pm_call.specs.GivenUp.{TransactionsMayBeGivenUp};
 ghost use Rattle.pm_call.specs.Histories.{AddsTell, CancelsTell, CommitsTell, InnerCommitsTell, LogsTell, LoneCallsTell, PublishesTell, ReadsTell, RollbacksTell, WritesTell};
 ghost use Rattle.pm_call.specs.Stages.{GivenUpArePast};
+ghost use Rattle.pm_call.specs.Stores.{
+  CountedCallsAreThree,
+  DrainsAreFew,
+  EntriesAreStored,
+  FlushesAreFew,
+  OverHasNoEntry,
+  RecordsAreFew,
+  RunsMakeFewStores,
+  TableOfStores,
+  WorkHasNoEntry,
+};
 
 use pm_world::LawfulMem;
 
@@ -52,4 +63,21 @@ pub fn operations_tell()
     ensures logs { LogsTell }
     ensures lone_calls { LoneCallsTell }
     ensures publishes { PublishesTell }
+{}
+
+/// A law: how many stores the plan of each operation makes at most, and of the operations of a run
+/// their sum, also where the lane stops on the way: docs/FORMAT.md, "How many counted calls". Each
+/// operation begins where no word of an entry is stored, as at work and between two calls. Of any steps
+/// that a lane may make from where nothing is undrained, at most as many are flushes as are stores, and
+/// at most as many are drains; these three are all counted calls. No code runs.
+pub fn plans_make_few_stores()
+    ensures table { TableOfStores }
+    ensures at_work { WorkHasNoEntry }
+    ensures over { OverHasNoEntry }
+    ensures entries { EntriesAreStored }
+    ensures records { RecordsAreFew }
+    ensures runs { RunsMakeFewStores }
+    ensures flushes { FlushesAreFew }
+    ensures drains { DrainsAreFew }
+    ensures calls { CountedCallsAreThree }
 {}

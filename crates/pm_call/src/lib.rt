@@ -8,7 +8,8 @@
 //! may publish or cancel the words that it has pending. Of the begin of an outermost level: that the
 //! call opens, and its locks are waited for; and that one that is refused for them is told, and ends
 //! its call. Of a range of an object: that its checks find the plain model's first reason or what the
-//! operation asks, and that it is recorded, written and read by the calls of its plan. It stands on
+//! operation asks, and that it is recorded, written and read by the calls of its plan. Of all plans:
+//! what they tell, and how many stores, flushes and drains they make at most. It stands on
 //! `pm_undo` for putting words back, on `pm_redo` for logs of published words, on `pm_lock` for
 //! objects under their locks, on `pm_crash` for what the call owes
 //! the plain model; docs/FORMAT.md, "Sequences".
@@ -42,7 +43,8 @@ pub use finishing::{commit_call, finish_entries};
 pub use holding::is_held;
 pub use laws::{
     calls_given_up_are_past_work, committed_calls_are_past_work, inner_levels_may_be_committed,
-    operations_tell, outermost_levels_may_be_committed, transactions_may_be_given_up,
+    operations_tell, outermost_levels_may_be_committed, plans_make_few_stores,
+    transactions_may_be_given_up,
 };
 pub use lock_ops::{begin_inner, lock_wanted};
 pub use locking::{
