@@ -5,7 +5,8 @@
 //! Promises of each call, in one clause by cases of what it answers, which memory calls it makes, and
 //! that what it tells is the plain model's operation; what it leaves is the lane at work, a call that
 //! is over and has the fact that it owes, or a lane between two calls. The publish inside a
-//! transaction is `pm_tx`'s. It stands on `pm_call` for the parts that calls share; docs/BEHAVIOUR.md.
+//! transaction is `pm_tx`'s. It stands on `pm_call` for the parts that calls share, and for how many
+//! stores, flushes and drains their plans make at most; docs/BEHAVIOUR.md.
 #![tactic(auto)]
 
 mod actions;

@@ -5,7 +5,8 @@
 //! calls of its plan, or the first of them up to the lane's stop; what it tells is the plain model's
 //! operation, and what it leaves is the lane at work, a call that is over and has the fact that it
 //! owes, or a lane between two calls. A publish sets no word: the commit of the outermost level does.
-//! It stands on `pm_call` for the parts that calls share; docs/BEHAVIOUR.md.
+//! It stands on `pm_call` for the parts that calls share, and for how many stores, flushes and drains
+//! their plans make at most; docs/BEHAVIOUR.md.
 #![tactic(auto)]
 
 mod begins;
