@@ -92,7 +92,9 @@ few_times plans k n each v =
     product : (n : ℕ) → sum_to (λ i. k) n ≡ n * k
     product zero = grind arith
     product (suc n) =
-        let rest = product n in let e : suc n * k ≡ n * k + k = grind arith in omega (arith, rest, e)
+        let rest = product n in
+        let e : suc n * k ≡ n * k + k = grind arith in
+        omega (arith, rest, e)
 
 few_none : (plans : ℕ → Plan) (n : ℕ) → ((i : ℕ) → Few 0 (plans i)) → Few 0 (repeated plans n)
 few_none plans n each v = let all = few_times plans 0 n each v in omega (arith, all)
@@ -205,7 +207,8 @@ few_logs sh lane generation slot (r ∷ records) short v =
 abbrev AreSpans : List Span → Type 0
 AreSpans spans = AllByRecursion (AreAll (λ w. Unit {0})) spans
 
-planned_are_spans : (records : List KeptRecord) (place len : ℕ) → AreSpans (plan_of records place len)
+planned_are_spans : (records : List KeptRecord) (place len : ℕ)
+    → AreSpans (plan_of records place len)
 planned_are_spans records place len =
     plan_all (λ w. Unit {0}) records place len (λ w some from to new. tt)
 
@@ -330,7 +333,8 @@ entered_one : (sh : Shape) (cl : ℕ → ℕ) (pair : List ℕ) (x : ℕ) (log :
     → entry_words (with_pair sh cl pair x log) ≤ entry_words log + 1
 entered_one sh cl [] x log is = let none = ap length is in omega (arith, none)
 entered_one sh cl (head ∷ rest) x log is =
-    let some = ap length is in omega (arith, some, length-append log.entries (entered sh cl head x ∷ []))
+    let some = ap length is in
+    omega (arith, some, length-append log.entries (entered sh cl head x ∷ []))
 
 stored_one : (sh : Shape) (cl : ℕ → ℕ) (phase : Phase) (part : Part) (x : ℕ) (log : Log)
     → entry_words (log_stored sh cl phase part x log) ≤ entry_words log + 1
@@ -440,7 +444,8 @@ few_ends op reply n = few_turn 0 0 (tells op reply) (one (Draw n)) (few_one (Tel
     (few_one (Draw n) refl)
 
 few_entries : (op : Operation) (entries : List Redo) (found : ℕ → ℕ) (n : ℕ) (v : View)
-    → entry_words v.log ≡ 0 → stores_in (logs_entries op entries found n v) ≤ log_stores (length entries)
+    → entry_words v.log ≡ 0
+    → stores_in (logs_entries op entries found n v) ≤ log_stores (length entries)
 few_entries op entries found n v none =
     let logged : View = after_all v (writes_log entries v) in
     let numbered : View = after_all logged (ends_call op None n logged) in
@@ -538,7 +543,10 @@ work_has_no_entry v at = record { entries = at.unentered; pair = at.whole.1 }
 
 pub over_has_no_entry : OverHasNoEntry
 over_has_no_entry s over =
-    record { entries = ap (λ (l : Log). l.entries) over.log; pair = ap (λ (l : Log). l.pair) over.log }
+    record {
+      entries = ap (λ (l : Log). l.entries) over.log;
+      pair = ap (λ (l : Log). l.pair) over.log;
+    }
 
 pub entries_are_stored : EntriesAreStored
 entries_are_stored v steps h none =

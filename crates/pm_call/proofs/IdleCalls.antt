@@ -1,5 +1,5 @@
--- NO FLUSH AND NO DRAIN IS IDLE: a flush marks a change that was unmarked, and a drain drops one that
--- was marked. A store makes one change.
+-- NO FLUSH AND NO DRAIN IS IDLE: a flush marks a change that was unmarked, and a drain drops one
+-- that was marked. A store makes one change.
 use Rattle.std.proofs.Common.{◌≡◌, ℕ, zero, suc, ◌+◌, ◌<◌, ◌≤◌, Bool, true, false, not, cond, IsTrue, List, [], ◌∷◌, length, take, slice_index_or, refl, ap, ◌∙◌, arith}
 use Rattle.pm_view.specs.Changes.{Undrained, drained, flushed, is_in_line, mark}
 use Rattle.pm_view.specs.Counts.{among, counted, is_counted, is_drain, is_flush, is_store}
@@ -141,7 +141,10 @@ first_are_owed v (suc k) [] ready = record { marks = omega arith; drops = omega 
 first_are_owed v (suc k) (s ∷ steps) ready =
     let one = one_is_owed v s ready.0 in
     let rest = first_are_owed (after v s) k steps ready.2 in
-    record { marks = omega (arith, one.marks, rest.marks); drops = omega (arith, one.drops, rest.drops) }
+    record {
+      marks = omega (arith, one.marks, rest.marks);
+      drops = omega (arith, one.drops, rest.drops);
+    }
 
 -- THE LAWS
 pub flushes_are_few : FlushesAreFew

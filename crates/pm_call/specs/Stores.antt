@@ -1,6 +1,6 @@
--- HOW MANY STORES OPERATIONS MAKE, by their plans, and that no flush and no drain is idle, as laws of
--- data: docs/FORMAT.md, "How many counted calls". An OR and an AND of a word are stores too. A lane may
--- stop anywhere, so a law is of the first k of some steps, for every k.
+-- HOW MANY STORES OPERATIONS MAKE, by their plans, and that no flush and no drain is idle, as laws
+-- of data: docs/FORMAT.md, "How many counted calls". An OR and an AND of a word are stores too. A
+-- lane may stop anywhere, so a law is of the first k of some steps, for every k.
 use Rattle.std.specs.Prelude.{◌≡◌, ℕ, zero, suc, ◌+◌, ◌*◌, ◌≤◌, List, [], ◌∷◌, length, take, Option}
 use Rattle.pm_model.specs.Pending.{SetWord}
 use Rattle.pm_model.specs.Transaction.{covered_words}
@@ -35,7 +35,7 @@ drains_in steps = among is_drain steps
 pub data Planned : Type 0 where
   -- locks, looks and what else is no counted call: the end of a level, or of a lane's work
   Uncounted : (steps : List Step) → counted steps ≡ 0 → Planned
-  -- told alone: a begin, a lock, a set-value, a publish in a transaction, the commit of an inner level
+  -- told alone: a begin, a lock, a set-value, a publish in a transaction, an inner commit
   Tells : Operation → Option Value → Planned
   -- a range is recorded, written, read; what is pending is cancelled
   Adds : Oid → ℕ → ℕ → Planned
@@ -131,11 +131,11 @@ abbrev pub RunsMakeFewStores : Type 0
 RunsMakeFewStores = (ps : List Planned) (v : View) (k : ℕ) → IsRun ps v
     → stores_in (take k (runs ps v)) ≤ most_in_run ps v
 
--- ---- NO FLUSH AND NO DRAIN IS IDLE: a flush marks a change that was unmarked, and a drain drops one
--- that was marked
+-- ---- NO FLUSH AND NO DRAIN IS IDLE: a flush marks a change that was unmarked, and a drain drops
+-- one that was marked
 
--- THE LAW: of any steps that a lane may make, where nothing is undrained before, no more are flushes
--- than stores, and no more are drains
+-- THE LAW: of any steps that a lane may make, where nothing is undrained before, no more are
+-- flushes than stores, and no more are drains
 abbrev pub FlushesAreFew : Type 0
 FlushesAreFew = (v : View) (steps : List Step) (k : ℕ) → v.changes ≡ [] → Ready v steps
     → flushes_in (take k steps) ≤ stores_in (take k steps)

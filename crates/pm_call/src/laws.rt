@@ -67,9 +67,9 @@ pub fn operations_tell()
 
 /// A law: how many stores the plan of each operation makes at most, and of the operations of a run
 /// their sum, also where the lane stops on the way: docs/FORMAT.md, "How many counted calls". Each
-/// operation begins where no word of an entry is stored, as at work and between two calls. Of any steps
-/// that a lane may make from where nothing is undrained, at most as many are flushes as are stores, and
-/// at most as many are drains; these three are all counted calls. No code runs.
+/// operation begins where no word of an entry is stored, as at work and between two calls. Of any
+/// steps that a lane may make from where nothing is undrained, at most as many are flushes as are
+/// stores, and at most as many are drains; these three are all counted calls. No code runs.
 pub fn plans_make_few_stores()
     ensures table { TableOfStores }
     ensures at_work { WorkHasNoEntry }
