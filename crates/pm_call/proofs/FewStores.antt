@@ -183,14 +183,8 @@ few_record sh lane generation slot r short v =
     (few_stores (8 * line) words) (few_one (Flush line) refl) v in
     omega (arith, all, many, short)
 
-short_at : (records : List KeptRecord) → AllByRecursion IsShort records
-    → (i : ℕ) → IsShort (record_at records i)
-short_at [] all i = omega arith
-short_at (r ∷ records) all zero = all.0
-short_at (r ∷ records) all (suc i) = short_at records all.1 i
-
 few_logs : (sh : Shape) (lane generation slot : ℕ) (records : List KeptRecord)
-    → AllByRecursion IsShort records
+    → ((i : ℕ) → IsShort (record_at records i))
     → Few (8 * length records) (logs sh lane generation slot records)
 unfolding logs writes_all writes_records
 few_logs sh lane generation slot [] short v = few_nothing v
@@ -199,7 +193,7 @@ few_logs sh lane generation slot (r ∷ records) short v =
     let n : ℕ = length all in
     let more = few_turn (n * 8) 0 (writes_records sh lane generation slot all) (one Drain)
     (few_times (λ i. writes_record sh lane generation (slot + i) (record_at all i)) 8 n
-    (λ i. few_record sh lane generation (slot + i) (record_at all i) (short_at all short i)))
+    (λ i. few_record sh lane generation (slot + i) (record_at all i) (short i)))
     (few_one Drain refl) v in
     omega (arith, more)
 
@@ -212,22 +206,20 @@ planned_are_spans : (records : List KeptRecord) (place len : ℕ)
 planned_are_spans records place len =
     plan_all (λ w. Unit {0}) records place len (λ w some from to new. tt)
 
-kept_are_short : (v : View) (spans : List Span) → AreSpans spans
-    → AllByRecursion IsShort (map (kept_in v) spans)
-kept_are_short v [] all = tt
-kept_are_short v (s ∷ spans) all = (short, kept_are_short v spans all.1)
-  where
-    short : IsShort (kept_in v s)
-    short =
-        let words : List ℕ = map (known_word v) (range_with_len s.word s.count) in
-        let most = all.0.most in
-        omega (
-          arith,
-          most,
-          length-append words (replicate (4 - length words) 0),
-          length-replicate {A = ℕ} (4 - length words) 0,
-          length-map-range_with_len (known_word v) s.word s.count,
-        )
+short_at : (v : View) (spans : List Span) → AreSpans spans
+    → (i : ℕ) → IsShort (record_at (map (kept_in v) spans) i)
+short_at v [] all i = omega arith
+short_at v (s ∷ spans) all zero =
+    let words : List ℕ = map (known_word v) (range_with_len s.word s.count) in
+    let most = all.0.most in
+    omega (
+      arith,
+      most,
+      length-append words (replicate (4 - length words) 0),
+      length-replicate {A = ℕ} (4 - length words) 0,
+      length-map-range_with_len (known_word v) s.word s.count,
+    )
+short_at v (s ∷ spans) all (suc i) = short_at v spans all.1 i
 
 few_snapshots : (place len : ℕ) (v : View)
     → stores_in (snapshots place len v) ≤ 8 * length (plan_of (kept_by v) place len)
@@ -236,7 +228,7 @@ few_snapshots place len v =
     let slot : ℕ = length v.log.records in
     let spans : List Span = plan_of (kept_by v) place len in
     let kept : List KeptRecord = map (kept_in v) spans in
-    let short = kept_are_short v spans (planned_are_spans (kept_by v) place len) in
+    let short = short_at v spans (planned_are_spans (kept_by v) place len) in
     let all = few_turn 0 (8 * length kept) (looks_at spans)
     (logs_here v.fixed.shape v.log.generation slot kept) (few_looks spans)
     (λ u. few_logs v.fixed.shape u.fixed.lane v.log.generation slot kept short u) v in
