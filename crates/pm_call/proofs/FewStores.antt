@@ -9,9 +9,11 @@ use Rattle.pm_layout.specs.declared.shape.Shape.{Shape}
 use Rattle.pm_model.specs.Items.{is_among}
 use Rattle.pm_model.specs.Pending.{SetWord}
 use Rattle.pm_model.specs.Transaction.{covered_words, new_words}
+use Rattle.pm_model.specs.Items.{number_bytes}
 use Rattle.pm_objects.specs.declared.calls.Operation.{Operation}
-use Rattle.pm_objects.specs.declared.calls.Operation.TheVariants.{AddRange, Cancel, Commit, Publish, Read, Write}
+use Rattle.pm_objects.specs.declared.calls.Operation.TheVariants.{AddRange, Cancel, Commit, Increment, Publish, Read, Write}
 use Rattle.pm_objects.specs.declared.history.Value.{Value}
+use Rattle.pm_objects.specs.declared.history.Value.TheVariants.{Number}
 use Rattle.pm_record.specs.Redo.{redo_words}
 use Rattle.pm_record.specs.declared.redo.Op.{Op}
 use Rattle.pm_record.specs.declared.redo.Op.TheVariants as op
@@ -36,10 +38,10 @@ use Rattle.pm_undo.proofs.Fitting.{AreAll, counts_words, plan_all}
 use Rattle.pm_redo.specs.Entries.{ending, entry_at, listed_entries, listed_entry}
 use Rattle.pm_redo.specs.Plans.{applies, applies_all, applies_each, applies_entry, clears, does, ends_entries, performs, seals, writes_entries, writes_log, writes_pair, writes_pairs, writes_seal}
 use Rattle.pm_call.specs.At.{set_entry}
-use Rattle.pm_call.specs.Plans.{commits, ends_call, ends_records, finishes, gives_up, logs_entries, performs_call, takes_back, tells, writes_word, writes_words}
+use Rattle.pm_call.specs.Plans.{commits, ends_call, ends_records, finishes, gives_up, known_sum, logs_entries, performs_call, takes_back, tells, writes_word, writes_words}
 use Rattle.pm_call.specs.Publications.{publishes}
 use Rattle.pm_call.specs.Stores.{EntriesAreStored, HasNoEntry, IsRun, OverHasNoEntry, Planned, RecordsAreFew, RunsMakeFewStores, TableOfStores, WorkHasNoEntry, commit_stores, log_stores, most_in_run, most_stores, publish_stores, runs, steps_of, stores_in}
-use Rattle.pm_call.specs.Stores.Planned.{Uncounted, Tells, Adds, Writes, Reads, Cancels, Commits, RollsBack, Lone, Publishes}
+use Rattle.pm_call.specs.Stores.Planned.{Uncounted, Tells, Adds, Writes, Reads, Increments, Cancels, Commits, RollsBack, Lone, Publishes}
 
 -- from each view the plan makes at most so many
 abbrev Few : ℕ → Plan → Type 0
@@ -520,6 +522,11 @@ few_steps (Adds id off len) v h = let place : ℕ = id.off + off in
 few_steps (Writes id off bytes) v h = let place : ℕ = id.off + off in
     few_told (writes_words place bytes) (Write id off bytes) None _ v (few_writes place bytes v)
 few_steps (Reads id off len) v h = few_one (Tell (Read id off len) _) refl v
+few_steps (Increments id off by) v h =
+    let place : ℕ = id.off + off in
+    let sum : ℕ = known_sum v id off by in
+    few_told (writes_words place (number_bytes sum)) (Increment id off by) (Some (Number sum)) _ v
+    (few_writes place (number_bytes sum) v)
 few_steps Cancels v h = few_told persists_all Cancel None 0 v (few_persist v)
 few_steps (Commits entries found n) v h = few_commits entries found n v (none_entered v h)
 few_steps (RollsBack op reply n) v h = few_rolls_back op reply n v

@@ -21,6 +21,7 @@ pub mod Staying
 pub mod OverCalls
 pub mod Storing
 pub mod RangeWrites
+pub mod Increments
 pub mod WriteLanes
 pub mod NewRecords
 pub mod LockedRanges

@@ -5,7 +5,7 @@ use Rattle.std.specs.Option.{option_map, option_map_or}
 use Rattle.std.proofs.lemmas.Bool.{and_from, and_parts, and_right, both_ways, or_left, or_right, or_cases}
 use Rattle.std.proofs.lemmas.List.{length-replicate}
 use Rattle.pm_objects.specs.declared.calls.Operation.{Operation}
-use Rattle.pm_objects.specs.declared.calls.Operation.TheVariants.{AddRange, Write, Read}
+use Rattle.pm_objects.specs.declared.calls.Operation.TheVariants.{AddRange, Write, Read, Increment}
 use Rattle.pm_objects.specs.declared.ids.Oid.{Oid}
 use Rattle.pm_objects.specs.declared.refusal.Refusal.TheVariants as refusal
 use Rattle.pm_model.specs.Blocks.{Block}
@@ -26,13 +26,23 @@ use Rattle.pm_call.specs.At.{At, entries_so_far}
 use Rattle.pm_call.specs.Did.{unseen}
 use Rattle.pm_call.specs.Held.{has_line, is_in_locks, line_of}
 use Rattle.pm_call.specs.RangeLaws.{IsSizedIfHeld, RangeRefusals, RangesAreLookedAt}
-use Rattle.pm_call.specs.Ranges.{IsRangeOf, is_held_so, range_tests, size_or_none}
+use Rattle.pm_call.specs.Ranges.{IsRangeOf, has_records, is_held_so, range_tests, size_or_none}
 use Rattle.pm_call.proofs.KnownObjects.{held_object, size_known}
 
 -- an object that is seen with a size has it
 size_is : (o : Option ℕ) → length (option_map_or (λ (i : Item). i.bytes) (option_map (λ n. new_item 0 n None) o) []) ≡ option_map_or (λ n. n) o 0
 size_is None = refl
 size_is (Some n) = length-replicate n 0
+
+-- a range's end is asked for twice, but not judged twice
+once : (unheld past b c : Bool)
+    → first_of ((refusal.NotLocked, unheld) ∷ (refusal.OutOfRange, past)
+    ∷ (refusal.NotLocked, b) ∷ (refusal.OutOfRange, past) ∷ (refusal.NotAdded, c) ∷ [])
+    ≡ first_of ((refusal.NotLocked, unheld) ∷ (refusal.OutOfRange, past)
+    ∷ (refusal.NotLocked, b) ∷ (refusal.NotAdded, c) ∷ [])
+unfolding first_of
+once unheld true b c = refl
+once unheld false b c = refl
 
 module _ (s : Standing) (at : At s) where
   abbrev v : View
@@ -80,10 +90,31 @@ module _ (s : Standing) (at : At s) where
   of_read id off len = λ i. first_of (
       (refusal.NotWork, works i) ∷ (refusal.NoTx, is_open i) ∷ (refusal.NotLocked, not_held id false i) ∷ (refusal.NoObject, none_gone id.off i) ∷ (refusal.OutOfRange, passes id (off + len) i) ∷ [])
 
+  of_increment : (id : Oid) (off by : ℕ) → refusal_by unseen s.view None (Increment id off by)
+      ≡ first_of (range_tests s (Increment id off by) id off 8 false)
+  unfolding first_of
+  of_increment id off by = (λ i. first_of (
+      (refusal.NotWork, works i) ∷ (refusal.NoTx, is_open i)
+      ∷ (refusal.NotLocked, not_held id false i) ∷ (refusal.NoObject, none_gone id.off i)
+      ∷ (refusal.OutOfRange, passes id (off + 8) i)
+      ∷ (refusal.NotWork, works i) ∷ (refusal.NoTx, is_open i)
+      ∷ (refusal.NotLocked, not_held id true i) ∷ (refusal.NoObject, none_gone id.off i)
+      ∷ (refusal.OutOfRange, passes id (off + 8) i)
+      ∷ (
+        refusal.NotAdded,
+        not (none_new id.off i)
+            && not (list_all (is_among (at.lists.recorded i)) (covered_words (id.off + off) 8)),
+      ) ∷ []))
+      ∙ once (not (is_held_so s id false)) (nat_lt (size_or_none s.view id.off) (off + 8))
+      (not (is_held_so s id true)) (not (has_records s.view (id.off + off) 8))
+
   refused : (op : Operation) (id : Oid) (off len : ℕ) (write : Bool) → IsRangeOf op id off len write → refusal_by unseen s.view None op ≡ first_of (range_tests s op id off len write)
   refused (AddRange o at n) id off len write is = of_add o at n ∙ λ j. first_of (range_tests s (AddRange o at n) (sym is.0 j) (sym is.1 j) (sym is.2 j) (sym is.3 j))
   refused (Write o at bytes) id off len write is = of_write o at bytes ∙ λ j. first_of (range_tests s (Write o at bytes) (sym is.0 j) (sym is.1 j) (sym is.2 j) (sym is.3 j))
   refused (Read o at n) id off len write is = of_read o at n ∙ λ j. first_of (range_tests s (Read o at n) (sym is.0 j) (sym is.1 j) (sym is.2 j) (sym is.3 j))
+  refused (Increment o at n) id off len write is = of_increment o at n
+      ∙ λ j. first_of (range_tests s (Increment o at n) (sym is.0 j) (sym is.1 j) (sym is.2 j)
+      (sym is.3 j))
   refused op id off len write is = absurd is
 
   -- ---- what was looked at
@@ -140,6 +171,11 @@ module _ (s : Standing) (at : At s) where
     enters = enters;
     sizes = λ other w c h gone. subst AskedSize (is.0 ∙ of_one o other c) (asked id sized) w h;
     knows_root = no_root_is_asked s.view None (Read o at n) refl;
+  }
+  looked (Increment o at n) id off len write is sized = record {
+    enters = enters;
+    sizes = λ other w c h gone. subst AskedSize (is.0 ∙ of_one o other c) (asked id sized) w h;
+    knows_root = no_root_is_asked s.view None (Increment o at n) refl;
   }
   looked op id off len write is sized = absurd is
 

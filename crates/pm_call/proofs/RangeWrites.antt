@@ -5,13 +5,16 @@ use Rattle.std.proofs.lemmas.Bool.{and_from, and_right, both_ways, cases_Bool, c
 use Rattle.std.proofs.lemmas.List.FromFn.{length-range_with_len}
 use Rattle.std.proofs.lemmas.Option.{same_Some}
 use Rattle.pm_layout.specs.Areas.{word_of_generation, word_of_seal}
+use Rattle.pm_objects.specs.declared.calls.Operation.{Operation}
 use Rattle.pm_objects.specs.declared.calls.Operation.TheVariants.{Write}
+use Rattle.pm_objects.specs.declared.history.Value.{Value}
 use Rattle.pm_objects.specs.declared.ids.Oid.{Oid}
 use Rattle.pm_objects.specs.declared.refusal.Refusal.TheVariants as refusal
-use Rattle.pm_model.specs.Inside.{Ran, is_kept_by}
-use Rattle.pm_model.specs.Pending.{SetWord}
+use Rattle.pm_model.specs.Inside.{after_reply, is_kept_by}
+use Rattle.pm_model.specs.Items.{Items, edited, put_into}
+use Rattle.pm_model.specs.Pending.{Pending, SetWord}
 use Rattle.pm_model.specs.Refusals.{first_of}
-use Rattle.pm_model.specs.Transaction.{covered_words, idle, written}
+use Rattle.pm_model.specs.Transaction.{Transaction, covered_words, idle}
 use Rattle.pm_view.specs.Changes.{Undrained}
 use Rattle.pm_view.specs.Claims.{header_in}
 use Rattle.pm_view.specs.Entries.{first_of_two}
@@ -27,17 +30,17 @@ use Rattle.pm_world.specs.Memory.{bit}
 use Rattle.pm_world.specs.Sights.{is_pictured, is_recorded, picture}
 use Rattle.pm_world.specs.States.{given}
 use Rattle.pm_world.proofs.RecordsAtPlaces.{data_pictured}
-use Rattle.pm_crash.specs.Calls.{pending_of}
+use Rattle.pm_crash.specs.Calls.{pending_of, pending_with}
 use Rattle.pm_crash.specs.Footprints.{has_found}
 use Rattle.pm_crash.specs.Looked.{KnowsSize, size_seen, word_place}
 use Rattle.pm_crash.specs.OpenRuns.{no_pool}
 use Rattle.pm_crash.specs.Sim.{Grows, Sim, change_so_far, lists_of}
-use Rattle.pm_crash.specs.SimOps.{PutsBytes}
+use Rattle.pm_crash.specs.SimOps.{Puts, PutsBytes}
 use Rattle.pm_crash.proofs.Covered.{byte_is_covered, count_of, covered_has_byte, covers_none, covers_some}
 use Rattle.pm_crash.proofs.OpenRuns.{told_once_more}
 use Rattle.pm_crash.proofs.SimWrites.{sim_writes}
 use Rattle.pm_crash.proofs.Telling.{tells_grow}
-use Rattle.pm_plan.specs.Plans.{IsForeseen, known_word}
+use Rattle.pm_plan.specs.Plans.{IsForeseen, Plan, Ready, in_turn, known_word}
 use Rattle.pm_plan.proofs.Going.{Goes, goes_one, goes_repeated, goes_then}
 use Rattle.pm_plan.specs.Notes.{IsBeyond, Note, noted}
 use Rattle.pm_undo.specs.Working.{IsWorking}
@@ -45,9 +48,10 @@ use Rattle.pm_plan.proofs.Notes as notes
 use Rattle.pm_undo.proofs.Logging.{all_still}
 use Rattle.pm_crash.proofs.Composing.{growths_compose}
 use Rattle.pm_call.specs.At.{At, AreLists, MaySet, entries_so_far}
-use Rattle.pm_call.specs.Did.{IsUnrefused, unseen}
+use Rattle.pm_call.specs.Did.{IsUnrefused, next, unseen}
 use Rattle.pm_call.specs.Held.{IsObjectWord}
-use Rattle.pm_call.specs.Plans.{puts, tells, writes_word, writes_words}
+use Rattle.pm_call.specs.Plans.{tells, writes_word, writes_words}
+use Rattle.pm_call.specs.Waiting.{HasPending}
 use Rattle.pm_call.specs.Writing.{LeadsWrite, MayPut, RangesMayBeWritten}
 use Rattle.pm_call.proofs.Frames.{header_so, noting}
 use Rattle.pm_call.proofs.KnownObjects.{fresh_is, held_object, size_word, word_number}
@@ -93,7 +97,28 @@ before_so : (f : ℕ → Bool) (old : Option ℕ) (a c : Option Bool) (y : Bool)
 before_so f None a c y h e = sym (h refl) ∙ e
 before_so f (Some z) a c y h e = e
 
-module _ (s : Standing) (at : At s) (id : Oid) (off : ℕ) (bytes : List ℕ) (can : MayPut s id off bytes) where
+-- AN OPERATION THAT SAYS THAT THESE BYTES ARE PUT THERE, with its reply: it is not refused, the
+-- model puts them into its copy, and all else of its lists and of the lane's stays
+pub record SaysPut (s : Standing) (id : Oid) (off : ℕ) (bytes : List ℕ) (op : Operation)
+    (reply : Option Value) : Type 0 where
+  pub unrefused : IsUnrefused s op
+  pub puts : Puts s.view [] (record { operation = op; seen = unseen; reply = reply }) id.off off
+      bytes
+  pub copy : (tx : Transaction) → (items : Items)
+      × (after_reply op reply tx ≡ record tx { items = items })
+  pub plain : (p : Pending) → pending_with op reply p ≡ p
+  pub told : (v : View) → after v (Tell op reply)
+      ≡ record v { call = v.call ++ record { operation = op; reply = reply } ∷ [] }
+
+-- its plan may be carried out, and the lane is at work then, with the same fields
+pub record LeadsPut (s : Standing) (plan : Plan) : Type 0 where
+  pub ready : Ready s.view (plan s.view)
+  pub stands : At (next s plan)
+  pub fields : at_work (next s plan) ≡ at_work s
+
+module _ (s : Standing) (at : At s) (id : Oid) (off : ℕ) (bytes : List ℕ)
+    (can : MayPut s id off bytes) (op : Operation) (reply : Option Value)
+    (says : SaysPut s id off bytes op reply) where
   abbrev v : View
   v = s.view
 
@@ -229,14 +254,20 @@ module _ (s : Standing) (at : At s) (id : Oid) (off : ℕ) (bytes : List ℕ) (c
             ne i c (d.at ∙ same_Some (word_place v d.object.block d.index) (q i) (sym (use_at d.object.block d.index i w (ap (word_of v.fixed.shape) (sym d.at))) ∙ storing.use_is s at id off bytes can i c))
 
     -- ---- it is told
-    abbrev told_write : Told
-    told_write = record { operation = Write id off bytes; reply = None }
+    abbrev told_put : Told
+    told_put = record { operation = op; reply = reply }
 
     abbrev next_view : View
-    next_view = record u { call = s.view.call ++ told_write ∷ []; actions = s.view.actions; published = s.view.published }
+    next_view = record u {
+      call = s.view.call ++ told_put ∷ [];
+      actions = s.view.actions;
+      published = s.view.published;
+    }
 
-    lists_next : lists_of next_view ≡ written id.off off bytes (lists_of s.view)
-    lists_next = told_once_more v.call told_write (idle no_pool (pending_of v.entries))
+    lists_next : lists_of next_view
+        ≡ record (lists_of s.view) { items = (says.copy (lists_of s.view)).0 }
+    lists_next = told_once_more v.call told_put (idle no_pool (pending_of v.entries))
+        ∙ (says.copy (lists_of s.view)).1
 
     lists : AreLists (moved s next_view) s.level (lists_of next_view)
     lists = subst (AreLists (moved s next_view) s.level) (sym lists_next) (record {
@@ -247,19 +278,18 @@ module _ (s : Standing) (at : At s) (id : Oid) (off : ℕ) (bytes : List ℕ) (c
       recorded = at.lists.recorded;
       records = at.lists.records;
       blocks = at.lists.blocks;
-      pending = at.lists.pending ∙ sym (now_told v (Write id off bytes) None (λ p. refl));
+      pending = at.lists.pending ∙ sym (now_told v op reply says.plain);
       sets = at.lists.sets;
       may_set = all_map (MaySet s) (MaySet (moved s next_view)) (lists_of s.view).sets
           (λ a m. record { locked = m.locked; aligned = m.aligned; size = m.size; sized = size_held a m ∙ m.sized; inside = m.inside; small = m.small }) at.lists.may_set;
       error_is = at.lists.error_is;
     })
 
-    ran : Ran
-    ran = record { operation = Write id off bytes; seen = unseen; reply = None }
-
-    grows : (kept : Bool) → Grows v (is_kept_by (Write id off bytes) kept) next_view kept
-    grows kept = let was : Bool = is_kept_by (Write id off bytes) kept in
-        growths_compose v u next_view was was kept (held_grows s s.level at ns changes calls v.log keeps was) (tells_grow u (Write id off bytes) None kept)
+    grows : (kept : Bool) → Grows v (is_kept_by op kept) next_view kept
+    grows kept = let was : Bool = is_kept_by op kept in
+        growths_compose v u next_view was was kept
+        (held_grows s s.level at ns changes calls v.log keeps was)
+        (subst (λ (y : View). Grows u was y kept) (says.told u) (tells_grow u op reply kept))
 
     puts_bytes : PutsBytes v [] next_view [] id.off off bytes
     puts_bytes = record {
@@ -273,24 +303,30 @@ module _ (s : Standing) (at : At s) (id : Oid) (off : ℕ) (bytes : List ℕ) (c
       others = other_bit;
     }
 
-    sim : IsUnrefused s (Write id off bytes) → Sim next_view (entries_so_far s)
-    sim un = sim_writes v next_view [] [] None (record { operation = Write id off bytes; seen = unseen; reply = None }) at.sim
-        (record { keeps = record { fixed = refl; entries = refl }; call = refl }) (inr at.lists.works) grows
-        (record { looks = un.looks; unrefused = un.none; off = id.off; at = off; bytes = bytes; is = inl (id, refl, refl, refl); puts = puts_bytes })
+    sim : Sim next_view (entries_so_far s)
+    sim = sim_writes v next_view [] [] None
+        (record { operation = op; seen = unseen; reply = reply }) at.sim
+        (record { keeps = record { fixed = refl; entries = refl }; call = refl })
+        (inr at.lists.works) grows (record {
+          looks = says.unrefused.looks;
+          unrefused = says.unrefused.none;
+          off = id.off;
+          at = off;
+          bytes = bytes;
+          is = says.puts;
+          puts = puts_bytes;
+        })
 
-    stands : IsUnrefused s (Write id off bytes) → At (moved s next_view)
-    stands un = held_told_at s s.level at ns changes calls v.log keeps next_view.call next_view.actions next_view.published s.level at.some at.most (begun_more v.call told_write at.begun) lists
-        (pending_told v (Write id off bytes) None (λ p. refl) refl at.pending) (sim un)
+    pending : HasPending (record v { call = s.view.call ++ told_put ∷ [] })
+    pending = subst HasPending (says.told v)
+        (pending_told v op reply says.plain (ap (λ (y : View). y.actions) (says.told v)) at.pending)
+
+    stands : At (moved s next_view)
+    stands = held_told_at s s.level at ns changes calls v.log keeps next_view.call
+        next_view.actions next_view.published s.level at.some at.most
+        (begun_more v.call told_put at.begun) lists pending sim
 
   -- ---- all of it
-
-  unrefused : IsUnrefused s (Write id off bytes)
-  unfolding first_of
-  unrefused = let t = range_passes s id off (length bytes) true can.range in record {
-    looks = ranges_are_looked_at s (Write id off bytes) id off (length bytes) true at (refl, refl, refl, refl) (inl (record { size = can.range.size; sized = can.range.sized; small = can.range.small }));
-    none = range_refusals s (Write id off bytes) id off (length bytes) true at (refl, refl, refl, refl)
-        ∙ (λ i. first_of ((refusal.NotLocked, t.0 i) ∷ (refusal.OutOfRange, t.1 i) ∷ (refusal.NotAdded, not (can.recorded i)) ∷ []));
-  }
 
   abbrev count : ℕ
   count = length (covered_words (id.off + off) (length bytes))
@@ -308,17 +344,65 @@ module _ (s : Standing) (at : At s) (id : Oid) (off : ℕ) (bytes : List ℕ) (c
   abbrev IsThen : View → Type 0
   IsThen w = At (moved s w) × (at_work (moved s w) ≡ at_work s)
 
-  goes_tell : Goes (InTurn count) (tells (Write id off bytes) None) IsThen
-  goes_tell = goes_one (InTurn count) IsThen (Tell (Write id off bytes) None) (λ w p.
-      subst (λ (y : View). Allowed y (Tell (Write id off bytes) None) × IsForeseen y (Tell (Write id off bytes) None) × IsThen (after y (Tell (Write id off bytes) None))) (sym p.is)
-      (at.working.is_open, tt, (stands ((id.off + off) / 8 + count) p.notes p.changes p.calls p.stored (below_top place (length bytes)) unrefused, refl)))
+  goes_tell : Goes (InTurn count) (tells op reply) IsThen
+  goes_tell = goes_one (InTurn count) IsThen (Tell op reply) (λ w p.
+      subst (λ (y : View). Allowed y (Tell op reply) × IsForeseen y (Tell op reply)
+      × IsThen (after y (Tell op reply))) (sym p.is) (
+        at.working.is_open,
+        tt,
+        subst IsThen (sym (says.told (noting v p.notes p.changes p.calls v.log))) (
+          stands (place / 8 + count) p.notes p.changes p.calls p.stored
+              (below_top place (length bytes)),
+          refl,
+        ),
+      ))
 
-  goes_all : Goes (InTurn 0) (puts id off bytes) IsThen
-  goes_all = goes_then (InTurn 0) (InTurn count) IsThen (writes_words (id.off + off) bytes) (tells (Write id off bytes) None) goes_words goes_tell
+  abbrev plan : Plan
+  plan = in_turn (writes_words (id.off + off) bytes) (tells op reply)
+
+  goes_all : Goes (InTurn 0) plan IsThen
+  goes_all = goes_then (InTurn 0) (InTurn count) IsThen (writes_words (id.off + off) bytes)
+      (tells op reply) goes_words goes_tell
+
+  pub leads_put : LeadsPut s (in_turn (writes_words (id.off + off) bytes) (tells op reply))
+  leads_put =
+      let g = goes_all s.view (subst (λ m. Storing s at id off bytes can m s.view)
+      (let e : (id.off + off) / 8 ≡ (id.off + off) / 8 + 0 = omega arith in e)
+      (storing_starts s at id off bytes can)) in
+      record { ready = g.0; stands = g.1.0; fields = g.1.1 }
+
+-- ---- A WRITE tells no more than that
+module _ (s : Standing) (at : At s) (id : Oid) (off : ℕ) (bytes : List ℕ)
+    (can : MayPut s id off bytes) where
+  says_write : SaysPut s id off bytes (Write id off bytes) None
+  unfolding first_of
+  says_write = record {
+    unrefused = let t = range_passes s id off (length bytes) true can.range in record {
+      looks = ranges_are_looked_at s (Write id off bytes) id off (length bytes) true at
+          (refl, refl, refl, refl) (inl (record {
+            size = can.range.size;
+            sized = can.range.sized;
+            small = can.range.small;
+          }));
+      none = range_refusals s (Write id off bytes) id off (length bytes) true at
+          (refl, refl, refl, refl)
+          ∙ (λ i. first_of ((refusal.NotLocked, t.0 i) ∷ (refusal.OutOfRange, t.1 i)
+          ∷ (refusal.NotAdded, not (can.recorded i)) ∷ []));
+    };
+    puts = inl (id, refl, refl, refl);
+    copy = λ tx. (edited (put_into id.off off bytes) tx.items, refl);
+    plain = λ p. refl;
+    told = λ v. refl;
+  }
 
   pub leads_write : LeadsWrite s id off bytes
-  leads_write = let g = goes_all s.view (subst (λ m. Storing s at id off bytes can m s.view) (let e : (id.off + off) / 8 ≡ (id.off + off) / 8 + 0 = omega arith in e) (storing_starts s at id off bytes can)) in
-      record { unrefused = unrefused; ready = g.0; stands = g.1.0; fields = g.1.1 }
+  leads_write = let l = leads_put s at id off bytes can (Write id off bytes) None says_write in
+      record {
+        unrefused = says_write.unrefused;
+        ready = l.ready;
+        stands = l.stands;
+        fields = l.fields;
+      }
 
 pub ranges_may_be_written : RangesMayBeWritten
 ranges_may_be_written s id off bytes at can = leads_write s at id off bytes can

@@ -2,10 +2,11 @@
 -- where
 -- it ends its call the number is taken at once then.
 use Rattle.std.proofs.Common.{◌≡◌, ◌⊎◌, ℕ, zero, suc, ◌+◌, inl, inr, ⊎_elim, List, [], ◌∷◌, ◌++◌, map, take, refl, sym, ap, ◌∙◌, subst, Option, None, Some}
+use Rattle.pm_model.specs.Items.{number_bytes}
 use Rattle.pm_objects.specs.declared.calls.Operation.{Operation}
-use Rattle.pm_objects.specs.declared.calls.Operation.TheVariants.{AddRange, Cancel, Commit, Publish, Read, Write}
+use Rattle.pm_objects.specs.declared.calls.Operation.TheVariants.{AddRange, Cancel, Commit, Increment, Publish, Read, Write}
 use Rattle.pm_objects.specs.declared.history.Value.{Value}
-use Rattle.pm_objects.specs.declared.history.Value.TheVariants.{Bytes}
+use Rattle.pm_objects.specs.declared.history.Value.TheVariants.{Bytes, Number}
 use Rattle.pm_record.specs.declared.redo.Redo.{Redo}
 use Rattle.pm_view.specs.Steps.{Step}
 use Rattle.pm_view.specs.Steps.Step.{Draw, Tell}
@@ -16,8 +17,8 @@ use Rattle.pm_plan.specs.Plans.{Plan, in_turn, known_word, one, persists_all}
 use Rattle.pm_undo.specs.Plans.{snapshots}
 use Rattle.pm_redo.specs.Plans.{performs, writes_log}
 use Rattle.pm_call.specs.At.{set_entry}
-use Rattle.pm_call.specs.Histories.{AddsTell, CancelsTell, CommitsTell, InnerCommitsTell, LaneHistory, LogsTell, LoneCallsTell, PlanTellsLast, PlanTellsMore, PublishesTell, ReadsTell, RollbacksTell, WritesTell, calls_ended, ended_of, history_of, open_call, told, told_by, told_last, told_more}
-use Rattle.pm_call.specs.Plans.{commits, ends_call, ends_records, finishes, gives_up, logs_entries, performs_call, takes_back, tells, writes_words}
+use Rattle.pm_call.specs.Histories.{AddsTell, CancelsTell, CommitsTell, IncrementsTell, InnerCommitsTell, LaneHistory, LogsTell, LoneCallsTell, PlanTellsLast, PlanTellsMore, PublishesTell, ReadsTell, RollbacksTell, WritesTell, calls_ended, ended_of, history_of, open_call, told, told_by, told_last, told_more}
+use Rattle.pm_call.specs.Plans.{commits, ends_call, ends_records, finishes, gives_up, known_sum, logs_entries, performs_call, puts_sum, takes_back, tells, writes_words}
 use Rattle.pm_call.proofs.SilentPlans.{AreSilent, IsAsTold, IsSilentPlan, silent_back, silent_both, silent_ends_records, silent_log, silent_performs, silent_persists, silent_snapshots, silent_step, silent_steps, silent_writes}
 
 calls_same : (v w : View) → IsAsTold v w → calls_ended w ≡ calls_ended v
@@ -244,6 +245,18 @@ reads_tell id off len = record {
   on_the_way = λ v k none. more_way (Read id off len)
       (Some (Bytes (bytes_seen (known_word v) id.off off len))) v [] k tt;
 }
+
+pub increments_tell : IncrementsTell
+increments_tell id off by = record {
+  whole = λ v none. (puts_sum_tells (known_sum v id off by)).whole v none;
+  on_the_way = λ v k none. (puts_sum_tells (known_sum v id off by)).on_the_way v k none;
+}
+  where
+    puts_sum_tells : (sum : ℕ) → PlanTellsMore (puts_sum id off by sum) (Increment id off by)
+        (λ v. Some (Number sum))
+    puts_sum_tells sum = plan_more (Increment id off by) (Some (Number sum))
+        (writes_words (id.off + off) (number_bytes sum))
+        (silent_writes (id.off + off) (number_bytes sum))
 
 pub cancels_tell : CancelsTell
 cancels_tell = plan_more Cancel None persists_all silent_persists

@@ -3,9 +3,9 @@
 use Rattle.std.specs.Prelude.{◌≡◌, ℕ, zero, suc, List, [], ◌∷◌, ◌++◌, map, take, Option, None, Some, Result, Ok, Err}
 use Rattle.pm_model.specs.Pending.{SetWord}
 use Rattle.pm_objects.specs.declared.calls.Operation.{Operation}
-use Rattle.pm_objects.specs.declared.calls.Operation.TheVariants.{AddRange, Cancel, Commit, Publish, Read, Write}
+use Rattle.pm_objects.specs.declared.calls.Operation.TheVariants.{AddRange, Cancel, Commit, Increment, Publish, Read, Write}
 use Rattle.pm_objects.specs.declared.history.Value.{Value}
-use Rattle.pm_objects.specs.declared.history.Value.TheVariants.{Bytes, Refused}
+use Rattle.pm_objects.specs.declared.history.Value.TheVariants.{Bytes, Number, Refused}
 use Rattle.pm_objects.specs.declared.ids.Oid.{Oid}
 use Rattle.pm_objects.specs.declared.refusal.Refusal.{Refusal}
 use Rattle.pm_objects.specs.declared.refusal.Refusal.TheVariants as refusal
@@ -16,7 +16,7 @@ use Rattle.pm_world.specs.declared.lane.Lane.{Lane}
 use Rattle.pm_crash.specs.Looked.{bytes_seen}
 use Rattle.pm_plan.specs.Plans.{Plan, known_word}
 use Rattle.pm_call.specs.Publications.{publishes}
-use Rattle.pm_call.specs.Plans.{adds, cancels, commits, commits_inner, ends_call, gets, gives_up, logs_entries, puts}
+use Rattle.pm_call.specs.Plans.{adds, cancels, commits, commits_inner, ends_call, gets, gives_up, increments, known_sum, logs_entries, puts}
 
 -- ---- WHAT A LANE TOLD
 
@@ -149,6 +149,11 @@ WritesTell = (id : Oid) (off : ℕ) (bytes : List ℕ)
 abbrev pub ReadsTell : Type 0
 ReadsTell = (id : Oid) (off len : ℕ) → PlanTellsMore (gets id off len) (Read id off len)
     (λ v. Some (Bytes (bytes_seen (known_word v) id.off off len)))
+
+abbrev pub IncrementsTell : Type 0
+IncrementsTell = (id : Oid) (off by : ℕ)
+    → PlanTellsMore (increments id off by) (Increment id off by)
+    (λ v. Some (Number (known_sum v id off by)))
 
 abbrev pub CancelsTell : Type 0
 CancelsTell = PlanTellsMore cancels Cancel none_replied

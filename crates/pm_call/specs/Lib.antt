@@ -10,6 +10,7 @@ pub mod Finishing
 pub mod Reading
 pub mod RangeLaws
 pub mod Writing
+pub mod Incrementing
 pub mod Adding
 pub mod Locking
 pub mod Between

@@ -1,14 +1,16 @@
 -- THE PLANS OF A TRANSACTION'S OPERATIONS on objects that it found, as functions of the lane's view before them: docs/FORMAT.md, "Sequences".
-use Rattle.std.specs.Prelude.{ℕ, ◌+◌, ◌/◌, if◌then◌else◌, ◌==◌, List, [], ◌∷◌, length, Option, Some, None}
+use Rattle.std.specs.Prelude.{ℕ, ◌+◌, ◌/◌, ◌%◌, ◌^◌, if◌then◌else◌, ◌==◌, List, [], ◌∷◌, length, Option, Some, None}
 use Rattle.pm_objects.specs.declared.calls.Operation.{Operation}
-use Rattle.pm_objects.specs.declared.calls.Operation.TheVariants.{AddRange, Cancel, Write, Read, Commit}
+use Rattle.pm_objects.specs.declared.calls.Operation.TheVariants.{AddRange, Cancel, Write, Read, Increment, Commit}
 use Rattle.pm_objects.specs.declared.history.Value.{Value}
-use Rattle.pm_objects.specs.declared.history.Value.TheVariants.{Bytes}
+use Rattle.pm_objects.specs.declared.history.Value.TheVariants.{Bytes, Number}
 use Rattle.pm_objects.specs.declared.ids.Oid.{Oid}
+use Rattle.pm_model.specs.Items.{number_bytes, number_of}
 use Rattle.pm_model.specs.Transaction.{covered_words}
 use Rattle.pm_record.specs.declared.redo.Redo.{Redo}
 use Rattle.pm_redo.specs.Plans.{performs, writes_log}
 use Rattle.pm_view.specs.Steps.Step.{Draw, Tell}
+use Rattle.pm_view.specs.View.{View}
 use Rattle.pm_crash.specs.Looked.{bytes_seen}
 use Rattle.pm_crash.specs.Writes.{written_word}
 use Rattle.pm_plan.specs.Plans.{Plan, in_turn, known_word, looks, one, persists_all, repeated, stores}
@@ -35,6 +37,22 @@ puts id off bytes = in_turn (writes_words (id.off + off) bytes) (tells (Write id
 -- ---- bytes are read: they are known
 abbrev pub gets : Oid → ℕ → ℕ → Plan
 gets id off len v = tells (Read id off len) (Some (Bytes (bytes_seen (known_word v) id.off off len))) v
+
+-- ---- a number of eight bytes is incremented: its sum with another, modulo 2^64, is written, and
+-- told
+abbrev pub known_number : View → Oid → ℕ → ℕ
+known_number v id off = number_of (bytes_seen (known_word v) id.off off 8)
+
+abbrev pub known_sum : View → Oid → ℕ → ℕ → ℕ
+known_sum v id off by = (known_number v id off + by) % 2 ^ 64
+
+abbrev pub puts_sum : Oid → ℕ → ℕ → ℕ → Plan
+puts_sum id off by sum =
+    in_turn (writes_words (id.off + off) (number_bytes sum))
+    (tells (Increment id off by) (Some (Number sum)))
+
+abbrev pub increments : Oid → ℕ → ℕ → Plan
+increments id off by v = puts_sum id off by (known_sum v id off by) v
 
 -- ---- THE TRANSACTION IS GIVEN UP: recorded words become what they were, and their generation ends; else all is made persistent. Then it takes its number
 abbrev pub takes_back : Plan

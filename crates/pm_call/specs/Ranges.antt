@@ -1,8 +1,9 @@
 -- RANGES OF OBJECTS: what an operation on one asks of a lane at work, and why it is refused.
 use Rattle.std.specs.Prelude.{◌≡◌, ℕ, ◌+◌, ◌^◌, ◌<◌, ◌≤◌, ◌==◌, ◌&&◌, nat_lt, Bool, true, false, not, Contains, List, [], ◌∷◌, length, Some, Result, Ok, Err}
+use Rattle.std.specs.List.{list_all}
 use Rattle.std.specs.Option.{option_map_or}
 use Rattle.pm_objects.specs.declared.calls.Operation.{Operation}
-use Rattle.pm_objects.specs.declared.calls.Operation.TheVariants.{AddRange, Write, Read}
+use Rattle.pm_objects.specs.declared.calls.Operation.TheVariants.{AddRange, Write, Read, Increment}
 use Rattle.pm_objects.specs.declared.ids.Oid.{Oid}
 use Rattle.pm_objects.specs.declared.refusal.Refusal.{Refusal}
 use Rattle.pm_objects.specs.declared.refusal.Refusal.TheVariants as refusal
@@ -45,6 +46,7 @@ abbrev pub IsRangeOf : Operation → Oid → ℕ → ℕ → Bool → Type 0
 IsRangeOf (AddRange id at n) i off len write = (i ≡ id) × (off ≡ at) × (len ≡ n) × (write ≡ true)
 IsRangeOf (Write id at bytes) i off len write = (i ≡ id) × (off ≡ at) × (len ≡ length bytes) × (write ≡ true)
 IsRangeOf (Read id at n) i off len write = (i ≡ id) × (off ≡ at) × (len ≡ n) × (write ≡ false)
+IsRangeOf (Increment id at by) i off len write = (i ≡ id) × (off ≡ at) × (len ≡ 8) × (write ≡ false)
 IsRangeOf op i off len write = ⊥
 
 -- ---- WHY SUCH AN OPERATION IS REFUSED, of a lane at work: its object is not held; it passes the object's end; then each has a test of its own
@@ -56,11 +58,20 @@ is_held_so s id write = id.pool == s.view.fixed.pool && is_in_locks s.locks id.o
 abbrev pub size_or_none : View → ℕ → ℕ
 size_or_none v off = option_map_or (λ n. n) (size_seen v off) 0
 
+-- each word that so many bytes from a place on cover has a record
+abbrev pub has_records : View → ℕ → ℕ → Bool
+has_records v place len =
+    list_all (is_among (spans.words_in (kept_by v))) (covered_words place len)
+
+-- an increment reads first, and then writes
 abbrev pub own_tests : Standing → Operation → List Test
 own_tests s (AddRange id off len) =
     (refusal.LogFull, nat_lt 64 (length s.view.log.records + length (records_of (new_words (spans.words_in (kept_by s.view)) (covered_words (id.off + off) len))))) ∷ []
 own_tests s (Write id off bytes) =
-    (refusal.NotAdded, not (Rattle.std.specs.List.list_all (is_among (spans.words_in (kept_by s.view))) (covered_words (id.off + off) (length bytes)))) ∷ []
+    (refusal.NotAdded, not (has_records s.view (id.off + off) (length bytes))) ∷ []
+own_tests s (Increment id off by) =
+    (refusal.NotLocked, not (is_held_so s id true))
+    ∷ (refusal.NotAdded, not (has_records s.view (id.off + off) 8)) ∷ []
 own_tests s op = []
 
 abbrev pub range_tests : Standing → Operation → Oid → ℕ → ℕ → Bool → List Test

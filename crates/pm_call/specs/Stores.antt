@@ -19,7 +19,7 @@ use Rattle.pm_undo.specs.Records.{kept_by}
 use Rattle.pm_undo.specs.Spans.{plan_of, words_in}
 use Rattle.pm_undo.specs.Working.{IsWorking}
 use Rattle.pm_call.specs.Did.{IsOver}
-use Rattle.pm_call.specs.Plans.{adds, cancels, commits, ends_call, gets, gives_up, puts, tells}
+use Rattle.pm_call.specs.Plans.{adds, cancels, commits, ends_call, gets, gives_up, increments, puts, tells}
 use Rattle.pm_call.specs.Publications.{publishes}
 
 abbrev pub stores_in : List Step → ℕ
@@ -37,10 +37,11 @@ pub data Planned : Type 0 where
   Uncounted : (steps : List Step) → counted steps ≡ 0 → Planned
   -- told alone: a begin, a lock, a set-value, a publish in a transaction, an inner commit
   Tells : Operation → Option Value → Planned
-  -- a range is recorded, written, read; what is pending is cancelled
+  -- a range is recorded, written, read; a number is incremented; what is pending is cancelled
   Adds : Oid → ℕ → ℕ → Planned
   Writes : Oid → ℕ → List ℕ → Planned
   Reads : Oid → ℕ → ℕ → Planned
+  Increments : Oid → ℕ → ℕ → Planned
   Cancels : Planned
   -- the outermost level is committed with these entries; or all is rolled back, for an operation
   Commits : List Redo → (ℕ → ℕ) → ℕ → Planned
@@ -55,6 +56,7 @@ steps_of (Tells op reply) v = tells op reply v
 steps_of (Adds id off len) v = adds id off len v
 steps_of (Writes id off bytes) v = puts id off bytes v
 steps_of (Reads id off len) v = gets id off len v
+steps_of (Increments id off by) v = increments id off by v
 steps_of Cancels v = cancels v
 steps_of (Commits entries found n) v = commits entries found n v
 steps_of (RollsBack op reply n) v = gives_up op reply n v
@@ -82,6 +84,7 @@ publish_stores (suc n) = log_stores (suc n)
 abbrev pub most_stores : Planned → View → ℕ
 most_stores (Adds id off len) v = 8 * length (plan_of (kept_by v) (id.off + off) len)
 most_stores (Writes id off bytes) v = length (covered_words (id.off + off) (length bytes))
+most_stores (Increments id off by) v = length (covered_words (id.off + off) 8)
 most_stores (Commits entries found n) v = commit_stores (length entries)
 most_stores (RollsBack op reply n) v = length (words_in (kept_by v)) + 1
 most_stores (Publishes words found n) v = publish_stores (length words)

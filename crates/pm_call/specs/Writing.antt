@@ -1,24 +1,19 @@
 -- A WRITE, as a law: a lane at work that recorded the words of a range may put bytes in and tell it, and is at work then.
 use Rattle.std.specs.Prelude.{◌≡◌, ℕ, ◌+◌, true, List, length}
-use Rattle.std.specs.List.{list_all}
 use Rattle.pm_objects.specs.declared.calls.Operation.TheVariants.{Write}
 use Rattle.pm_objects.specs.declared.ids.Oid.{Oid}
-use Rattle.pm_model.specs.Items.{is_among}
-use Rattle.pm_model.specs.Transaction.{covered_words}
 use Rattle.pm_view.specs.View.{View}
 use Rattle.pm_words.specs.Words.{AreBytes}
 use Rattle.pm_world.specs.LaneFields.{Standing, at_work}
 use Rattle.pm_plan.specs.Plans.{Ready}
-use Rattle.pm_undo.specs.Records.{kept_by}
-use Rattle.pm_undo.specs.Spans as spans
 use Rattle.pm_call.specs.At.{At}
 use Rattle.pm_call.specs.Did.{IsUnrefused, next}
 use Rattle.pm_call.specs.Plans.{puts}
-use Rattle.pm_call.specs.Ranges.{HasRange}
+use Rattle.pm_call.specs.Ranges.{HasRange, has_records}
 
 -- each word that so many bytes from a place on cover has a record
 abbrev pub AreRecorded : View → ℕ → ℕ → Type 0
-AreRecorded v place len = list_all (is_among (spans.words_in (kept_by v))) (covered_words place len) ≡ true
+AreRecorded v place len = has_records v place len ≡ true
 
 -- the bytes may be put there: the range is the lane's to write, and its words are recorded
 pub record MayPut (s : Standing) (id : Oid) (off : ℕ) (bytes : List ℕ) : Type 0 where

@@ -1,6 +1,6 @@
 ghost use Rattle.pm_call.specs.Commits.{CommittedArePast, InnerLevelsMayBeCommitted, OutermostLevelsMayBeCommitted};
 ghost use Rattle.pm_call.specs.GivenUp.{TransactionsMayBeGivenUp};
-ghost use Rattle.pm_call.specs.Histories.{AddsTell, CancelsTell, CommitsTell, InnerCommitsTell, LogsTell, LoneCallsTell, PublishesTell, ReadsTell, RollbacksTell, WritesTell};
+ghost use Rattle.pm_call.specs.Histories.{AddsTell, CancelsTell, CommitsTell, IncrementsTell, InnerCommitsTell, LogsTell, LoneCallsTell, PublishesTell, ReadsTell, RollbacksTell, WritesTell};
 ghost use Rattle.pm_call.specs.Stages.{GivenUpArePast};
 ghost use Rattle.pm_call.specs.Stores.{
   CountedCallsAreThree,
@@ -56,6 +56,7 @@ pub fn operations_tell()
     ensures adds { AddsTell }
     ensures writes { WritesTell }
     ensures reads { ReadsTell }
+    ensures increments { IncrementsTell }
     ensures cancels { CancelsTell }
     ensures inner_commits { InnerCommitsTell }
     ensures rollbacks { RollbacksTell }

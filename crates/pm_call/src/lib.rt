@@ -8,11 +8,12 @@
 //! may publish or cancel the words that it has pending. Of the begin of an outermost level: that the
 //! call opens, and its locks are waited for; and that one that is refused for them is told, and ends
 //! its call. Of a range of an object: that its checks find the plain model's first reason or what the
-//! operation asks, and that it is recorded, written and read by the calls of its plan. Of all plans:
-//! what they tell, and how many stores, flushes and drains they make at most. It stands on
+//! operation asks, and that it is recorded, written and read by the calls of its plan; and so that a
+//! number of eight bytes is incremented. Of all plans: what they tell, and how many stores, flushes
+//! and drains they make at most; and that a lane stands with its history, call by call. It stands on
 //! `pm_undo` for putting words back, on `pm_redo` for logs of published words, on `pm_lock` for
-//! objects under their locks, on `pm_crash` for what the call owes
-//! the plain model; docs/FORMAT.md, "Sequences".
+//! objects under their locks, on `pm_crash` for what the call owes the plain model; docs/FORMAT.md,
+//! "Sequences".
 #![tactic(auto)]
 
 mod adding;
@@ -21,6 +22,7 @@ mod committing;
 mod entering;
 mod finishing;
 mod holding;
+mod incrementing;
 mod laws;
 mod lock_ops;
 mod locking;
@@ -41,6 +43,7 @@ pub use committing::{commit_inner, stage_after};
 pub use entering::enter_words;
 pub use finishing::{commit_call, finish_entries};
 pub use holding::is_held;
+pub use incrementing::{check_number, do_increment, numbers_may_be_incremented};
 pub use laws::{
     calls_given_up_are_past_work, committed_calls_are_past_work, inner_levels_may_be_committed,
     operations_tell, outermost_levels_may_be_committed, plans_make_few_stores,

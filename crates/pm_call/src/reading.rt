@@ -41,7 +41,7 @@ pub fn copy_bytes(into: &mut [u8], place: u64, word: u64, x: u64)
 }
 
 /// Looks at each word of a range that the lane has, in rising place, and copies its bytes.
-fn read_words<M: LawfulMem>(lane: &mut Lane<M>, id: Oid, off: u64, into: &mut [u8])
+pub fn read_words<M: LawfulMem>(lane: &mut Lane<M>, id: Oid, off: u64, into: &mut [u8])
     requires { IsAtSo M.at lane.old (λ s. HasRange s id off (length into.old) false) }
     ensures as_long { length into.new ≡ length into.old }
     ensures read { (s : Standing) → Works M.at lane.old s → At s

@@ -57,7 +57,7 @@ fn write_word<M: LawfulMem>(mem: &mut M, place: u64, bytes: &[u8], word: u64) ->
 
 /// Writes bytes from a byte place of the pool on: each word that they cover, in rising place, is
 /// looked at and stored; its other bytes stay.
-fn write_words<M: LawfulMem>(mem: &mut M, place: u64, bytes: &[u8]) -> Result<(), Stopped>
+pub fn write_words<M: LawfulMem>(mem: &mut M, place: u64, bytes: &[u8]) -> Result<(), Stopped>
     requires range { place + length bytes.now < 2 ^ 60 }
     requires ready { IsReady (M.at mem.old) (writes_words place bytes.now) }
     ensures { Runs (M.at mem.old) (M.at mem.new) (writes_words place bytes.now) result }

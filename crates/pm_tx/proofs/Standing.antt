@@ -4,9 +4,9 @@ use Rattle.std.proofs.Common.{◌≡◌, ◌≢◌, ℕ, zero, suc, ◌==◌, �
 use Rattle.pm_model.specs.Inside.{error_for}
 use Rattle.pm_model.specs.declared.stage.Stage.{Stage}
 use Rattle.pm_model.specs.declared.stage.Stage.TheVariants as stage
-use Rattle.pm_objects.specs.declared.calls.Operation.TheVariants.{Abort, AddRange, Commit, Publish, Read, Write}
+use Rattle.pm_objects.specs.declared.calls.Operation.TheVariants.{Abort, AddRange, Commit, Increment, Publish, Read, Write}
 use Rattle.pm_objects.specs.declared.history.TxErr.TheVariants as error
-use Rattle.pm_objects.specs.declared.history.Value.TheVariants.{Bytes, Refused}
+use Rattle.pm_objects.specs.declared.history.Value.TheVariants.{Bytes, Number, Refused}
 use Rattle.pm_objects.specs.declared.ids.Oid.{Oid}
 use Rattle.pm_objects.specs.declared.refusal.Refusal.{Refusal}
 use Rattle.pm_objects.specs.declared.refusal.Refusal.TheVariants as refusal
@@ -24,11 +24,11 @@ use Rattle.pm_call.specs.Stages.{end_refusal, next_stage}
 use Rattle.pm_call.specs.Standing.{Stands, StandsWith}
 use Rattle.pm_call.proofs.Standing.{aborted_call_stands, committed_call_stands, cut_commit_stands, cut_rollback_stands, did_turns, over_inner, past_stands, refused_stands, same_stands, stands_turned, working_stands}
 use Rattle.pm_call.proofs.ToldLooks.{looks_told, told_history, told_open}
-use Rattle.pm_call.proofs.ToldPlans.{adds_tell, inner_commits_tell, reads_tell, tells_history, writes_tell}
+use Rattle.pm_call.proofs.ToldPlans.{adds_tell, increments_tell, inner_commits_tell, reads_tell, tells_history, writes_tell}
 use Rattle.pm_tx.specs.Commits.{InnerEnds, LevelCommitted, LevelCommittedSo, LevelEnds, OutermostEnds, PassedSo, Processed, ProcessedFrom}
 use Rattle.pm_tx.specs.Outcome.{Aborted, AbortedAs, AbortedSo}
 use Rattle.pm_tx.specs.Publishing.{Published, PublishedAs, PublishedSo}
-use Rattle.pm_tx.specs.Standing.{read_bytes, turned_level, turned_stage, uncounted}
+use Rattle.pm_tx.specs.Standing.{read_bytes, summed, turned_level, turned_stage, uncounted}
 
 module _ {M : Type 0} (at : M → View → Type 0) (old new : Lane M) (h : LaneHistory) where
   -- ---- ranges
@@ -57,6 +57,16 @@ module _ {M : Type 0} (at : M → View → Type 0) (old new : Lane M) (h : LaneH
   read_turns id off len into = did_turns at old new h (Read id off len) (λ v. gets id off len)
       (HasRead id off len into) _ (read_bytes into) (λ v. reads_tell id off len)
       (λ v n is. ap (λ bytes. Some (Bytes bytes)) (sym is))
+
+  pub incremented_turns : (id : Oid) (off by : ℕ) (result : Result ℕ Refusal)
+      → StandsWith at old h
+      → Did at old new (Increment id off by) (λ v. increments id off by) (HasSum id off by) result
+      → StandsWith at new
+      (unless (work_refusal old) (turned new (Increment id off by) summed result h) h)
+  incremented_turns id off by = did_turns at old new h (Increment id off by)
+      (λ v. increments id off by) (HasSum id off by)
+      (λ v w. Some (Number (known_sum w id off by))) summed (λ v. increments_tell id off by)
+      (λ v n is. ap summed (sym is))
 
   -- ---- a commit
 
@@ -213,6 +223,12 @@ module _ {M : Type 0} (at : M → View → Type 0) (old new : Lane M) where
   read_stands id off len into result stands did =
       stands_turned at old new _
       (λ h w. read_turns at old new h id off len into result w did) stands
+
+  pub incremented_stands : (id : Oid) (off by : ℕ) (result : Result ℕ Refusal) → Stands at old
+      → Did at old new (Increment id off by) (λ v. increments id off by) (HasSum id off by) result
+      → Stands at new
+  incremented_stands id off by result stands did = stands_turned at old new _
+      (λ h w. incremented_turns at old new h id off by result w did) stands
 
   pub committed_stands : (result : Result (Unit {0}) Refusal) → Stands at old
       → LevelCommitted at old new result → Stands at new

@@ -4,11 +4,11 @@ use Rattle.std.specs.Prelude.{ℕ, List, Option, None, Some, Result}
 use Rattle.pm_model.specs.declared.stage.Stage.{Stage}
 use Rattle.pm_model.specs.declared.stage.Stage.TheVariants as stage
 use Rattle.pm_objects.specs.declared.calls.Operation.{Operation}
-use Rattle.pm_objects.specs.declared.calls.Operation.TheVariants.{Abort, AddRange, Begin, Publish, Read, Write}
+use Rattle.pm_objects.specs.declared.calls.Operation.TheVariants.{Abort, AddRange, Begin, Increment, Publish, Read, Write}
 use Rattle.pm_objects.specs.declared.calls.Want.{Want}
 use Rattle.pm_objects.specs.declared.history.TxErr.{TxErr}
 use Rattle.pm_objects.specs.declared.history.Value.{Value}
-use Rattle.pm_objects.specs.declared.history.Value.TheVariants.{Bytes}
+use Rattle.pm_objects.specs.declared.history.Value.TheVariants.{Bytes, Number}
 use Rattle.pm_objects.specs.declared.ids.Oid.{Oid}
 use Rattle.pm_objects.specs.declared.refusal.Refusal.{Refusal}
 use Rattle.pm_objects.specs.declared.refusal.Refusal.TheVariants as refusal
@@ -17,7 +17,8 @@ use Rattle.pm_world.specs.declared.lane.Lane.{Lane}
 use Rattle.pm_call.specs.Adding.{HasCounted}
 use Rattle.pm_call.specs.Did.{Did, work_refusal}
 use Rattle.pm_call.specs.Histories.{LaneHistory, no_value, turned, turned_commit, turned_last, turned_open, unless}
-use Rattle.pm_call.specs.Plans.{adds, gets, puts}
+use Rattle.pm_call.specs.Incrementing.{HasSum}
+use Rattle.pm_call.specs.Plans.{adds, gets, increments, puts}
 use Rattle.pm_call.specs.Reading.{HasRead}
 use Rattle.pm_call.specs.Stages.{Ended}
 use Rattle.pm_call.specs.Standing.{TurnsAtWork, TurnsHistory}
@@ -51,6 +52,15 @@ ReadsTurn at =
     (id : Oid) (off len : ℕ) (into : List ℕ) (result : Result (Unit {0}) Refusal)
     → TurnsAtWork at (λ old new. Did at old new (Read id off len) (λ v. gets id off len)
     (HasRead id off len into) result) (Read id off len) (read_bytes into) result
+
+-- the new number is told
+abbrev pub summed : ℕ → Option Value
+summed n = Some (Number n)
+
+abbrev pub IncrementsTurn : {M : Type 0} → (M → View → Type 0) → Type 0
+IncrementsTurn at = (id : Oid) (off by : ℕ) (result : Result ℕ Refusal)
+    → TurnsAtWork at (λ old new. Did at old new (Increment id off by)
+    (λ v. increments id off by) (HasSum id off by) result) (Increment id off by) summed result
 
 -- ---- WHAT IS PENDING
 

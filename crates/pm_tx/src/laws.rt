@@ -4,6 +4,7 @@ ghost use Rattle.pm_tx.specs.Standing.{
   BeginsTurn,
   CommitsTurn,
   EndsTurn,
+  IncrementsTurn,
   LocksTurn,
   ProcessesTurn,
   PublishesTurn,
@@ -25,6 +26,7 @@ pub fn lanes_stand<M: LawfulMem>()
     ensures add_range { AddsTurn M.at }
     ensures write { WritesTurn M.at }
     ensures read { ReadsTurn M.at }
+    ensures increment { IncrementsTurn M.at }
     ensures publish { PublishesTurn M.at }
     ensures commit { CommitsTurn M.at }
     ensures process { ProcessesTurn M.at }

@@ -12,6 +12,7 @@
 mod begins;
 mod commits;
 mod ending;
+mod increments;
 mod laws;
 mod locks;
 mod outcome;
@@ -22,6 +23,7 @@ mod stages;
 pub use begins::begin;
 pub use commits::{commit, process};
 pub use ending::end;
+pub use increments::increment;
 pub use laws::lanes_stand;
 pub use locks::lock;
 pub use outcome::abort;

@@ -118,6 +118,18 @@ fn reads_are_refused(rt: HostRuntime) -> Result<(), Fail> {
     Ok(())
 }
 
+/// Where no transaction is open, and past its work, no number is incremented.
+#[test]
+fn increments_are_refused(rt: HostRuntime) -> Result<(), Fail> {
+    let id = Oid { pool: 7, off: 4224 };
+    let mut idle = lane_at(rt.alloc(), 0, Stage::None)?;
+    assert_eq!(rt; increment(&mut idle, id, 0, 9), Err(Refusal::NoTx));
+    let mut late = lane_at(rt.alloc(), 1, Stage::OnAbort)?;
+    assert_eq!(rt; increment(&mut late, id, 0, 9), Err(Refusal::NotWork));
+    assert_eq!(rt; late.error, TxErr::None);
+    Ok(())
+}
+
 /// Where no transaction is open, and while a level is in work, its end is refused.
 #[test]
 fn ends_are_refused(rt: HostRuntime) -> Result<(), Fail> {

@@ -1,4 +1,4 @@
-use Rattle.pm_call.proofs.ToldPlans.{adds_tell, cancels_tell, commits_tell, inner_commits_tell, logs_tell, lone_calls_tell, publishes_tell, reads_tell, rollbacks_tell, writes_tell}
+use Rattle.pm_call.proofs.ToldPlans.{adds_tell, cancels_tell, commits_tell, increments_tell, inner_commits_tell, logs_tell, lone_calls_tell, publishes_tell, reads_tell, rollbacks_tell, writes_tell}
 use Rattle.pm_call.proofs.laws.operations_tell.Goals as goal
 
 pub returns-clause-adds : goal.returns-clause-adds
@@ -9,6 +9,9 @@ returns-clause-writes c = writes_tell
 
 pub returns-clause-reads : goal.returns-clause-reads
 returns-clause-reads c = reads_tell
+
+pub returns-clause-increments : goal.returns-clause-increments
+returns-clause-increments c = increments_tell
 
 pub returns-clause-cancels : goal.returns-clause-cancels
 returns-clause-cancels c = cancels_tell

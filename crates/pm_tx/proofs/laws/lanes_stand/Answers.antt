@@ -1,6 +1,6 @@
 use Rattle.pm_call.proofs.Standing.{ended_turns}
 use Rattle.pm_tx.proofs.LockStanding.{begun_level_turns, lock_turns}
-use Rattle.pm_tx.proofs.Standing.{aborted_turns, added_turns, committed_turns, processed_turns, published_turns, read_turns, written_turns}
+use Rattle.pm_tx.proofs.Standing.{aborted_turns, added_turns, committed_turns, incremented_turns, processed_turns, published_turns, read_turns, written_turns}
 use Rattle.pm_tx.proofs.laws.lanes_stand.Goals as goal
 
 pub returns-clause-add_range : goal.returns-clause-add_range
@@ -14,6 +14,10 @@ returns-clause-write g c id off bytes result old new h =
 pub returns-clause-read : goal.returns-clause-read
 returns-clause-read g c id off len into result old new h =
     read_turns g.M.LaneMem.at old new h id off len into result
+
+pub returns-clause-increment : goal.returns-clause-increment
+returns-clause-increment g c id off by result old new h =
+    incremented_turns g.M.LaneMem.at old new h id off by result
 
 pub returns-clause-publish : goal.returns-clause-publish
 returns-clause-publish g c result old new h = published_turns g.M.LaneMem.at old new h result
