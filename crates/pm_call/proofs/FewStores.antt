@@ -1,12 +1,12 @@
 -- HOW MANY STORES THE PLANS OF OPERATIONS MAKE.
-use Rattle.std.proofs.Common.{◌≡◌, ◌==◌, ℕ, zero, suc, ◌+◌, ◌-◌, ◌*◌, ◌/◌, ◌≤◌, Bool, true, false, cond, not, nat_lt, List, [], ◌∷◌, ◌++◌, length, length-append, map, replicate, sum_by, take, slice_index, refl, ap, arith, Option, None}
+use Rattle.std.proofs.Common.{◌≡◌, ◌==◌, ℕ, zero, suc, ◌+◌, ◌-◌, ◌*◌, ◌/◌, ◌≤◌, Bool, true, false, cond, not, nat_lt, List, [], ◌∷◌, ◌++◌, length, length-append, map, replicate, sum_by, take, slice_index, refl, ap, arith, Option, None, Some}
 use Rattle.std.specs.List.{AllByRecursion, filter, range_with_len}
 use Rattle.std.proofs.lemmas.List.{length-map, length-replicate, length-take}
 use Rattle.std.proofs.lemmas.List.Sums.{sum_by-cons}
 use Rattle.std.proofs.lemmas.List.FromFn.{length-map-range_with_len, length-range_with_len}
 use Rattle.pm_layout.specs.Areas.{line_of_slot, word_of_entry, word_of_generation, word_of_seal}
 use Rattle.pm_layout.specs.declared.shape.Shape.{Shape}
-use Rattle.pm_model.specs.Items.{is_among}
+use Rattle.pm_model.specs.Items.{is_among, number_bytes}
 use Rattle.pm_model.specs.Pending.{SetWord}
 use Rattle.pm_model.specs.Transaction.{covered_words, new_words}
 use Rattle.pm_model.specs.Items.{number_bytes}
