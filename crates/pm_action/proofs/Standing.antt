@@ -25,7 +25,7 @@ use Rattle.pm_call.specs.Publications.{publishes, unlocked, wants_to_set}
 use Rattle.pm_call.specs.Publishing.{words_pending}
 use Rattle.pm_call.specs.Standing.{IsLaneStopped, Stands, StandsWith}
 use Rattle.pm_call.proofs.OpenedCalls.{between_may_open}
-use Rattle.pm_call.proofs.Standing.{by_last, cut_stands, idle_stands, same_stands, spent_stands, stands_turned, stopped_stands, working_stands}
+use Rattle.pm_call.proofs.Standing.{all_fixed, by_last, cut_stands, idle_stands, same_stands, spent_stands, stands_turned, stopped_in, working_stands}
 use Rattle.pm_call.proofs.StoppedLanes.{facts_on_the_way, may_open_facts, wait_is_stopped}
 use Rattle.pm_call.proofs.SilentPlans.{told_then}
 use Rattle.pm_call.proofs.ToldLooks.{gives_told, looks_told, saw_history, taken_told, told_history, told_open, tried_told, wait_told}
@@ -76,7 +76,7 @@ module _ {M : Type 0} (at : M → View → Type 0) (old new : Lane M) (h : LaneH
   cancel_turns s (Ok done) none same c =
       working_stands at new (told_more Cancel None h) (next s cancels) c.works c.stands
       (cancels_tell.whole s.view none ∙ ap (told_more Cancel None) same)
-  cancel_turns s (Err refusal.Stopped) none same c = cut_stands at new h s Cancel cancels c.1
+  cancel_turns s (Err refusal.Stopped) none same c = cut_stands at new h s Cancel cancels c.1 same
       (cancels_tell.on_the_way s.view c.1.stops.made none ∙ ap (λ (x : LaneHistory). x.done) same)
   cancel_turns s (Err r) none same c = absurd c
 
@@ -204,12 +204,11 @@ module _ {M : Type 0} (at : M → View → Type 0) (old new : Lane M) (h : LaneH
       → PublishWasCut at new t → StandsWith at new (told_by new.drawn Publish None h)
   cut_publish_turns t none same c =
       let plan : List Step = publishes (words_pending t) c.found c.number t.view in
-      stopped_stands at new (told_by new.drawn Publish None h)
-      (ap (λ (f : Fields). f.stopped) c.fields) (record {
+      stopped_in at new h t.view Publish (ap (λ (f : Fields). f.stopped) c.fields) (record {
         view = after_all t.view (take c.stops.made plan);
         seen = c.stops.seen;
         facts = facts_on_the_way t.view plan c.stops.made c.facts;
-      })
+      }) (all_fixed t.view (take c.stops.made plan)) same
       ((publishes_tell (words_pending t) c.found c.number).on_the_way t.view
       c.stops.made none
       ∙ λ i. (told_by (sym c.numbered.drawn i) Publish None (same i)).done)
@@ -233,9 +232,10 @@ module _ {M : Type 0} (at : M → View → Type 0) (old new : Lane M) (h : LaneH
       l.0 l.1 p.holds.holds
   published_open_turns s is outside same (Err refusal.Stopped) p = ⊎_elim
       (λ (w : WaitWasStopped at new s (wants_to_set s)).
-      stopped_stands at new (told_by new.drawn Publish None h)
+      stopped_in at new h s.view Publish
       (ap (λ (f : Fields). f.stopped) w.fields)
       (wait_is_stopped at new s (wants_to_set s) is.facts w)
+      (wait_told at new s (wants_to_set s) w).fixed same
       (ap (λ (x : LaneHistory). x.done)
       (told_history s.view _ h (wait_told at new s (wants_to_set s) w) same)
       ∙ sym (ap (λ d. (told_by d Publish None h).done) (ap (λ (f : Fields). f.drawn) w.fields))))
@@ -286,21 +286,26 @@ module _ {M : Type 0} (at : M → View → Type 0) (old new : Lane M) (h : LaneH
   pub finished_has_facts : (result : Result (Unit {0}) Refusal) → StandsWith at old h
       → (old.stopped ≡ false → old.level ≡ 0) → Finished at old new result
       → (x : IsLaneStopped at new) × (calls_ended x.view ≡ h.done)
+      × (x.view.fixed.lane ≡ h.lane)
   unfolding Finished
   finished_has_facts result stands outside finished = by old.stopped refl finished where
     by : (stopped : Bool) → old.stopped ≡ stopped → FinishedSo stopped at old new result
         → (x : IsLaneStopped at new) × (calls_ended x.view ≡ h.done)
+      × (x.view.fixed.lane ≡ h.lane)
     by true is f = subst
-        (λ (lane : Lane M). (x : IsLaneStopped at lane) × (calls_ended x.view ≡ h.done))
+        (λ (lane : Lane M). (x : IsLaneStopped at lane) × (calls_ended x.view ≡ h.done)
+        × (x.view.fixed.lane ≡ h.lane))
         (sym f.1) (stands.stopped is)
     by false is f =
-        let here = stands.between is (outside is) in (
+        let here = stands.between is (outside is) in
+        (
           record {
             view = here.0.standing.view;
             seen = (f.1 here.0.standing here.0.rests).memory;
             facts = may_open_facts here.0.standing here.0.between;
           },
           ap (λ (x : LaneHistory). x.done) here.1,
+          ap (λ (x : LaneHistory). x.lane) here.1,
         )
 
 -- ---- SO IT STANDS, with whatever history

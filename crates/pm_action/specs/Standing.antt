@@ -67,4 +67,4 @@ abbrev pub FinishedLanesHaveFacts : {M : Type 0} → (M → View → Type 0) →
 FinishedLanesHaveFacts {M} at = (result : Result (Unit {0}) Refusal) (old new : Lane M)
     (h : LaneHistory) → StandsWith at old h → (old.stopped ≡ false → old.level ≡ 0)
     → Finished at old new result
-    → (x : IsLaneStopped at new) × (calls_ended x.view ≡ h.done)
+    → (x : IsLaneStopped at new) × (calls_ended x.view ≡ h.done) × (x.view.fixed.lane ≡ h.lane)

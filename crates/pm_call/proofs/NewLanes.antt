@@ -93,8 +93,8 @@ module _ (fixed : Constants) (generation : ℕ) where
     new_between = subst (λ (v : View). IsBetween (unused v none)) is_looked between_looked
 
     pub new_stands : {M : Type 0} (at : M → View → Type 0) (lane : Lane M)
-        → Rests at lane (unused (opened fixed generation) none) → StandsWith at lane nothing_told
-    new_stands at lane rests = idle_stands at lane nothing_told
+        → Rests at lane (unused (opened fixed generation) none) → StandsWith at lane (nothing_told fixed.lane)
+    new_stands at lane rests = idle_stands at lane (nothing_told fixed.lane)
         (unused (opened fixed generation) none) refl rests
         (record {
           before = unused (opened fixed generation) none;
@@ -110,7 +110,7 @@ pub new_lane_stands_with : {M : Type 0} (at : M → View → Type 0) (memory : M
     → IsUnused at memory shape fixed generation
     → (IsUnused at memory shape fixed generation
     → Rests at lane (unused (opened fixed generation) none))
-    → StandsWith at lane nothing_told
+    → StandsWith at lane (nothing_told fixed.lane)
 new_lane_stands_with at memory shape none lane fixed generation is rests =
     new_stands fixed generation none
     (subst (λ (h : Shape). fixed.lane < h.lanes) (sym is.shape) is.lane) at lane (rests is)
@@ -122,5 +122,5 @@ pub new_lane_stands : {M : Type 0} (at : M → View → Type 0) (memory : M) (sh
     → Rests at lane (unused (opened fixed generation) none))
     → Stands at lane
 new_lane_stands at memory shape none lane fixed generation is rests =
-    stands_so at lane nothing_told
+    stands_so at lane (nothing_told fixed.lane)
     (new_lane_stands_with at memory shape none lane fixed generation is rests)

@@ -42,44 +42,46 @@ pub record IsAsTold (v w : View) : Type 0 where
   pub call : w.call ≡ v.call
   pub entries : w.entries ≡ v.entries
   pub number : w.number ≡ v.number
+  pub fixed : w.fixed ≡ v.fixed
 
 pub told_same : (v : View) → IsAsTold v v
-told_same v = record { call = refl; entries = refl; number = refl }
+told_same v = record { call = refl; entries = refl; number = refl; fixed = refl }
 
 pub told_then : (u v w : View) → IsAsTold u v → IsAsTold v w → IsAsTold u w
 told_then u v w one more = record {
   call = more.call ∙ one.call;
   entries = more.entries ∙ one.entries;
   number = more.number ∙ one.number;
+  fixed = more.fixed ∙ one.fixed;
 }
 
 occupied_same : (won : Bool) (v : View) (at : Occ) (bits : ℕ)
     → IsAsTold v (occupied won v at bits)
-occupied_same true v at bits = record { call = refl; entries = refl; number = refl }
+occupied_same true v at bits = record { call = refl; entries = refl; number = refl; fixed = refl }
 occupied_same false v at bits = told_same v
 
 pub silent_step : (v : View) (s : Step) → is_silent s ≡ true → IsAsTold v (after v s)
-silent_step v (Load w x) e = record { call = refl; entries = refl; number = refl }
-silent_step v (Store w x) e = record { call = refl; entries = refl; number = refl }
-silent_step v (Or w bits found) e = record { call = refl; entries = refl; number = refl }
-silent_step v (And w bits found) e = record { call = refl; entries = refl; number = refl }
-silent_step v (Flush line) e = record { call = refl; entries = refl; number = refl }
-silent_step v Drain e = record { call = refl; entries = refl; number = refl }
-silent_step v (TakeWrite line won) e = record { call = refl; entries = refl; number = refl }
-silent_step v (TakeRead line won) e = record { call = refl; entries = refl; number = refl }
-silent_step v (Raise line won) e = record { call = refl; entries = refl; number = refl }
-silent_step v (Give line) e = record { call = refl; entries = refl; number = refl }
-silent_step v (ZoneTry zone won) e = record { call = refl; entries = refl; number = refl }
-silent_step v (ZoneGive zone) e = record { call = refl; entries = refl; number = refl }
-silent_step v (Occupied at found) e = record { call = refl; entries = refl; number = refl }
+silent_step v (Load w x) e = record { call = refl; entries = refl; number = refl; fixed = refl }
+silent_step v (Store w x) e = record { call = refl; entries = refl; number = refl; fixed = refl }
+silent_step v (Or w bits found) e = record { call = refl; entries = refl; number = refl; fixed = refl }
+silent_step v (And w bits found) e = record { call = refl; entries = refl; number = refl; fixed = refl }
+silent_step v (Flush line) e = record { call = refl; entries = refl; number = refl; fixed = refl }
+silent_step v Drain e = record { call = refl; entries = refl; number = refl; fixed = refl }
+silent_step v (TakeWrite line won) e = record { call = refl; entries = refl; number = refl; fixed = refl }
+silent_step v (TakeRead line won) e = record { call = refl; entries = refl; number = refl; fixed = refl }
+silent_step v (Raise line won) e = record { call = refl; entries = refl; number = refl; fixed = refl }
+silent_step v (Give line) e = record { call = refl; entries = refl; number = refl; fixed = refl }
+silent_step v (ZoneTry zone won) e = record { call = refl; entries = refl; number = refl; fixed = refl }
+silent_step v (ZoneGive zone) e = record { call = refl; entries = refl; number = refl; fixed = refl }
+silent_step v (Occupied at found) e = record { call = refl; entries = refl; number = refl; fixed = refl }
 silent_step v (Occupy at bits won) e =
     let o = occupied_same won v at bits in
-    record { call = o.call; entries = o.entries; number = o.number }
-silent_step v (Vacate at bits) e = record { call = refl; entries = refl; number = refl }
+    record { call = o.call; entries = o.entries; number = o.number; fixed = o.fixed }
+silent_step v (Vacate at bits) e = record { call = refl; entries = refl; number = refl; fixed = refl }
 silent_step v (Draw n) e = absurd (both_ways false refl e)
 silent_step v (NumberSeen n) e = absurd (both_ways false refl e)
-silent_step v (StopSeen set) e = record { call = refl; entries = refl; number = refl }
-silent_step v SetStop e = record { call = refl; entries = refl; number = refl }
+silent_step v (StopSeen set) e = record { call = refl; entries = refl; number = refl; fixed = refl }
+silent_step v SetStop e = record { call = refl; entries = refl; number = refl; fixed = refl }
 silent_step v (Tell operation reply) e = absurd (both_ways false refl e)
 
 pub silent_steps : (v : View) (steps : List Step) → AreSilent steps

@@ -12,8 +12,11 @@ use Rattle.pm_objects.specs.declared.history.Value.{Value}
 use Rattle.pm_objects.specs.declared.history.Value.TheVariants.{Refused}
 use Rattle.pm_objects.specs.declared.refusal.Refusal.{Refusal}
 use Rattle.pm_objects.specs.declared.refusal.Refusal.TheVariants as refusal
-use Rattle.pm_view.specs.View.{Numbered, View}
-use Rattle.pm_view.specs.Views.{after_all}
+use Rattle.pm_view.specs.Log.{Phase, Idle}
+use Rattle.pm_view.specs.Steps.{Step}
+use Rattle.pm_view.specs.Steps.Step.{Draw, NumberSeen, Tell}
+use Rattle.pm_view.specs.View.{Constants, Numbered, View}
+use Rattle.pm_view.specs.Views.{after, after_all, begun}
 use Rattle.pm_world.specs.LaneFields.{Fields, Rests, Standing, Works, at_work, fields_of, last_number, moved}
 use Rattle.pm_world.specs.declared.lane.Lane.{Lane}
 use Rattle.pm_plan.specs.Plans.{Plan}
@@ -28,6 +31,7 @@ use Rattle.pm_call.specs.Plans.{commits, gives_up}
 use Rattle.pm_call.specs.Stages.{Ended, EndedAs, EndedBy, EndedSo, IsLanePast, IsPastAt, Leaves, at_level, closed, end_refusal, fields_past, stage_end_refusal, unlisted}
 use Rattle.pm_call.specs.Standing.{IsLaneStopped, IsOverFor, Stands, StandsWith}
 use Rattle.pm_call.proofs.OpenedCalls.{between_may_open, look_may_open}
+use Rattle.pm_call.proofs.SilentPlans.{silent_step}
 use Rattle.pm_call.proofs.StoppedLanes.{commit_is_stopped, cut_is_stopped, may_open_facts}
 use Rattle.pm_call.proofs.StoppedNumbers.{gives_up_unnumbered}
 use Rattle.pm_call.proofs.ToldLooks.{gives_told, looks_told, saw_history, told_history, told_open}
@@ -50,6 +54,22 @@ not_in_work stage.Work level past e = cc
 not_in_work st level past e = either_way (level == 0) _ _ e
 
 -- ---- HISTORIES
+
+-- steps leave what never changes
+begun_fixed : (phase : Phase) (v : View) → (begun phase v).fixed ≡ v.fixed
+begun_fixed Idle v = refl
+begun_fixed phase v = refl
+
+fixed_stays : (v : View) (s : Step) → (after v s).fixed ≡ v.fixed
+fixed_stays v (Draw n) = refl
+fixed_stays v (NumberSeen n) = begun_fixed v.log.phase v
+fixed_stays v (Tell op reply) = refl
+fixed_stays v s = (silent_step v s refl).fixed
+
+pub all_fixed : (v : View) (steps : List Step) → (after_all v steps).fixed ≡ v.fixed
+unfolding after_all
+all_fixed v [] = refl
+all_fixed v (s ∷ steps) = all_fixed (after v s) steps ∙ fixed_stays v s
 
 last_same : (entries : List Numbered) → last_number entries ≡ last_ended (map ended_of entries)
 last_same [] = refl
@@ -87,12 +107,12 @@ module _ {M : Type 0} (at : M → View → Type 0) (lane : Lane M) where
   last_of f fields = ap (λ (g : Fields). g.last) fields
 
   pub stopped_stands : (h : LaneHistory) → lane.stopped ≡ true → (x : IsLaneStopped at lane)
-      → calls_ended x.view ≡ h.done → StandsWith at lane h
-  stopped_stands h is stopped calls = record {
+      → calls_ended x.view ≡ h.done → x.view.fixed.lane ≡ h.lane → StandsWith at lane h
+  stopped_stands h is stopped calls of = record {
     work = λ e. absurd (let s = stops stage_refusal in cc);
     past = λ e. absurd (let s = stops stage_end_refusal in cc);
     between = λ e low. absurd (cc);
-    stopped = λ e. (stopped, calls);
+    stopped = λ e. (stopped, calls, of);
     last = λ e. absurd (cc);
   }
     where
@@ -135,6 +155,7 @@ module _ {M : Type 0} (at : M → View → Type 0) (lane : Lane M) where
     stopped = λ e. (
       record { view = s.view; seen = rests.memory; facts = may_open_facts s may },
       ap (λ (x : LaneHistory). x.done) same,
+      ap (λ (x : LaneHistory). x.lane) same,
     );
     last = λ e. numbers s.view h (ap (λ (g : Fields). g.last) rests.fields) same;
   }
@@ -150,13 +171,28 @@ module _ {M : Type 0} (at : M → View → Type 0) (lane : Lane M) where
 
   -- ---- it came to its stop, and says so
 
-  -- in an operation that goes on
+  -- in an operation, from where its history was this
+  pub stopped_in : (h : LaneHistory) (v : View) (op : Operation) → lane.stopped ≡ true
+      → (x : IsLaneStopped at lane) → x.view.fixed ≡ v.fixed → history_of v ≡ h
+      → calls_ended x.view ≡ (told_by lane.drawn op None h).done
+      → StandsWith at lane (told_by lane.drawn op None h)
+  stopped_in h v op is x fixed same calls =
+      stopped_stands (told_by lane.drawn op None h) is x calls
+      (ap (λ (f : Constants). f.lane) fixed ∙ ap (λ (y : LaneHistory). y.lane) same
+      ∙ of_lane lane.drawn)
+    where
+      of_lane : (d : Option ℕ) → h.lane ≡ (told_by d op None h).lane
+      of_lane None = refl
+      of_lane (Some n) = refl
+
+  -- in one that goes on
   pub cut_stands : (h : LaneHistory) (s : Standing) (op : Operation) (plan : Plan)
-      → (cut : Cut at lane s plan true)
+      → (cut : Cut at lane s plan true) → history_of s.view ≡ h
       → calls_ended (after_all s.view (take cut.stops.made (plan s.view))) ≡ h.done
       → StandsWith at lane (told_by lane.drawn op None h)
-  cut_stands h s op plan cut calls = stopped_stands (told_by lane.drawn op None h)
+  cut_stands h s op plan cut same calls = stopped_in h s.view op
       (ap (λ (f : Fields). f.stopped) cut.fields) (cut_is_stopped at lane s plan true cut)
+      (all_fixed s.view (take cut.stops.made (plan s.view))) same
       (calls ∙ sym (ap (λ d. (told_by d op None h).done)
       (ap (λ (f : Fields). f.drawn) cut.fields)))
 
@@ -167,14 +203,15 @@ module _ {M : Type 0} (at : M → View → Type 0) (lane : Lane M) where
   cut_rollback_stands h s op reply n none same cut =
       let w : View = after_all s.view (take cut.stops.made (gives_up op reply n s.view)) in
       let told = gives_up_unnumbered op reply n s.view cut.stops.made cut.stops.due in
-      cut_stands h s op (gives_up op reply n) cut
+      cut_stands h s op (gives_up op reply n) cut same
       (ap (λ (x : LaneHistory). x.done) (told_history s.view w h told same))
 
   pub cut_commit_stands : (h : LaneHistory) (s : Standing) → s.view.number ≡ None
       → history_of s.view ≡ h → CommitCut at lane s true
       → StandsWith at lane (told_by lane.drawn Commit None h)
-  cut_commit_stands h s none same cut = stopped_stands (told_by lane.drawn Commit None h)
+  cut_commit_stands h s none same cut = stopped_in h s.view Commit
       (ap (λ (f : Fields). f.stopped) cut.fields) (commit_is_stopped at lane s true cut)
+      (all_fixed s.view (take cut.stops.made (commits s.entries cut.found cut.number s.view))) same
       ((commits_tell s.entries cut.found cut.number).on_the_way s.view cut.stops.made none
       ∙ λ i. (told_by (sym cut.numbered.drawn i) Commit None (same i)).done)
 
@@ -298,7 +335,7 @@ module _ {M : Type 0} (at : M → View → Type 0) (old new : Lane M) (h : LaneH
         ends.0.stands ((tells s.view).whole s.view none
         ∙ λ i. told_more op (replies s.view x ends.1 i) (same i))
     ends_stands s some most none same (Err refusal.Stopped) ends = ⊎_elim
-        (λ c. cut_stands at new h s op (plan s.view) c.1
+        (λ c. cut_stands at new h s op (plan s.view) c.1 same
         ((tells s.view).on_the_way s.view c.1.stops.made none
         ∙ ap (λ (x : LaneHistory). x.done) same))
         (λ c. cut_rollback_stands at new h s op (Some (Refused c.0)) c.1 none same c.3)

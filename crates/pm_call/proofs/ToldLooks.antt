@@ -30,12 +30,17 @@ looks_told n v w looks =
       call = ap (λ (y : View). y.call) same;
       entries = ap (λ (y : View). y.entries) same;
       number = ap (λ (y : View). y.number) same;
+      fixed = ap (λ (y : View). y.fixed) same;
     }
 
 -- how many numbers were drawn: where no call is open none is as one opens
 begun_history : (phase : Phase) (v : View) → (history_of v).call ≡ []
     → history_of (begun phase v) ≡ history_of v
-begun_history Idle v none = λ i. record { done = (history_of v).done; call = (sym none) i }
+begun_history Idle v none = λ i. record {
+  lane = v.fixed.lane;
+  done = (history_of v).done;
+  call = (sym none) i;
+}
 begun_history Open v none = refl
 begun_history (Drawn n) v none = refl
 begun_history (Sealing n) v none = refl
@@ -60,9 +65,9 @@ pub taken_told : (s : Standing) (wants : List Want) (x : View) → TakesLocks s 
 taken_told s wants x tk =
     let looked : View = after_all tk.taken tk.looks in
     let got : IsAsTold s.view tk.taken = subst (IsAsTold s.view) (sym tk.takes)
-    (record { call = refl; entries = refl; number = refl }) in
+    (record { call = refl; entries = refl; number = refl; fixed = refl }) in
     let seen : IsAsTold tk.taken looked = subst (IsAsTold tk.taken) (sym tk.stays.same)
-    (record { call = refl; entries = refl; number = refl }) in
+    (record { call = refl; entries = refl; number = refl; fixed = refl }) in
     let rose : IsAsTold looked x = subst (IsAsTold looked) (sym tk.raises_)
     (silent_steps looked (map (λ (l : HeldLock). Raise l.line true) _)
     (silent_map (λ (l : HeldLock). Raise l.line true) (λ l. refl) _)) in
@@ -71,7 +76,7 @@ taken_told s wants x tk =
 pub tried_told : (s : Standing) (wants : List Want) (all : List HeldLock) (x : View)
     → TriedLocks s wants all x → IsAsTold s.view x
 tried_told s wants all x tk = subst (IsAsTold s.view) (sym (view_on s wants all x tk))
-    (record { call = refl; entries = refl; number = refl })
+    (record { call = refl; entries = refl; number = refl; fixed = refl })
 
 -- so the history is as it was, and the call as open
 pub told_history : (v w : View) (h : LaneHistory) → IsAsTold v w → history_of v ≡ h

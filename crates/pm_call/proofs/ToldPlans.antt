@@ -27,6 +27,7 @@ calls_same v w s = ap (map ended_of) s.entries
 -- SILENT STEPS leave the history as it is
 pub silent_history : (v w : View) → IsAsTold v w → history_of w ≡ history_of v
 silent_history v w s = λ i. record {
+  lane = (s.fixed i).lane;
   done = calls_same v w s i;
   call = open_call (s.number i) (s.call i);
 }
@@ -50,11 +51,12 @@ module _ (op : Operation) (reply : Option Value) where
     call : w.call ≡ v.call ++ told op reply ∷ []
     calls : calls_ended w ≡ calls_ended v
     number : w.number ≡ v.number
+    fixed : w.fixed ≡ v.fixed
 
   pub tells_history : (v : View) → v.number ≡ None
       → history_of (after v (Tell op reply)) ≡ told_more op reply (history_of v)
   tells_history v none = more_history v (after v (Tell op reply)) none
-      (record { call = refl; calls = refl; number = refl })
+      (record { call = refl; calls = refl; number = refl; fixed = refl })
     where
       more_history : (v w : View) → v.number ≡ None → TellsMore v w
           → history_of w ≡ told_more op reply (history_of v)
@@ -63,6 +65,7 @@ module _ (op : Operation) (reply : Option Value) where
           ap (λ n. open_call n w.call) (m.number ∙ none) ∙ m.call in
           let before : open_call v.number v.call ≡ v.call = ap (λ n. open_call n v.call) none in
           λ i. record {
+            lane = (m.fixed i).lane;
             done = m.calls i;
             call = (opens ∙ ap (λ (call : List Told). call ++ told op reply ∷ []) (sym before)) i;
           }
@@ -106,6 +109,7 @@ module _ (op : Operation) (reply : Option Value) (n : ℕ) where
     calls : calls_ended w
         ≡ record { number = suc n; call = v.call ++ told op reply ∷ [] } ∷ calls_ended v
     number : w.number ≡ Some (suc n)
+    fixed : w.fixed ≡ v.fixed
 
   -- or not yet
   abbrev ToldOnTheWay : View → View → Type 0
@@ -116,6 +120,7 @@ module _ (op : Operation) (reply : Option Value) (n : ℕ) where
   last_history v w none l =
       let before : open_call v.number v.call ≡ v.call = ap (λ m. open_call m v.call) none in
       λ i. record {
+        lane = (l.fixed i).lane;
         done = (l.calls ∙ ap (λ (call : List Told).
             record { number = suc n; call = call ++ told op reply ∷ [] } ∷ calls_ended v)
             (sym before)) i;
@@ -134,6 +139,7 @@ module _ (op : Operation) (reply : Option Value) (n : ℕ) where
     calls = l.calls ∙ (λ i. record { number = suc n; call = s.call i ++ told op reply ∷ [] }
         ∷ calls_same v w s i);
     number = l.number;
+    fixed = l.fixed ∙ s.fixed;
   }
 
   told_numbered : (v : View) (b : List Step) → AreSilent b → TellsLast v (after_all v (last_of b))
@@ -141,7 +147,7 @@ module _ (op : Operation) (reply : Option Value) (n : ℕ) where
   told_numbered v b are =
       let u : View = after (after v (Tell op reply)) (Draw n) in
       let s = silent_steps u b are in
-      record { calls = calls_same u (after_all u b) s; number = s.number }
+      record { calls = calls_same u (after_all u b) s; number = s.number; fixed = s.fixed }
 
   whole_so : (v : View) (a b : List Step) → AreSilent a → AreSilent b
       → TellsLast v (after_all v (a ++ last_of b))

@@ -25,8 +25,9 @@ pub record Ended : Type 0 where
   pub number : ℕ
   pub call : List Told
 
--- its calls that have their numbers, the last first; and the open call so far
+-- which lane it is; its calls that have their numbers, the last first; and the open call so far
 pub record LaneHistory : Type 0 where
+  pub lane : ℕ
   pub done : List Ended
   pub call : List Told
 
@@ -42,11 +43,15 @@ open_call None call = call
 open_call (Some n) call = []
 
 abbrev pub history_of : View → LaneHistory
-history_of v = record { done = calls_ended v; call = open_call v.number v.call }
+history_of v = record {
+  lane = v.fixed.lane;
+  done = calls_ended v;
+  call = open_call v.number v.call;
+}
 
 -- of a lane that made no call
-abbrev pub nothing_told : LaneHistory
-nothing_told = record { done = []; call = [] }
+abbrev pub nothing_told : ℕ → LaneHistory
+nothing_told lane = record { lane = lane; done = []; call = [] }
 
 -- the last number
 abbrev pub last_ended : List Ended → ℕ
@@ -65,7 +70,7 @@ told_more op reply h = record h { call = h.call ++ told op reply ∷ [] }
 
 -- it told its last operation, and has this number
 abbrev pub told_last : ℕ → Operation → Option Value → LaneHistory → LaneHistory
-told_last n op reply h = record {
+told_last n op reply h = record h {
   done = record { number = n; call = h.call ++ told op reply ∷ [] } ∷ h.done;
   call = [];
 }

@@ -34,7 +34,8 @@ pub record StandsWith {M : Type 0} (at : M → View → Type 0) (lane : Lane M) 
       × (history_of p.standing.view ≡ h) × IsOverFor p.standing.level p.error h
   pub between : lane.stopped ≡ false → lane.level ≡ 0 → (b : IsLaneBetween at lane)
       × (history_of b.standing.view ≡ h) × (h.call ≡ [])
-  pub stopped : lane.stopped ≡ true → (x : IsLaneStopped at lane) × (calls_ended x.view ≡ h.done)
+  pub stopped : lane.stopped ≡ true → (x : IsLaneStopped at lane)
+      × (calls_ended x.view ≡ h.done) × (x.view.fixed.lane ≡ h.lane)
   -- the lane's field tells its last number
   pub last : lane.stopped ≡ false → lane.last ≡ last_ended h.done
 

@@ -21,7 +21,7 @@ use Rattle.pm_call.specs.Locking.{IsOpened, locked_with}
 use Rattle.pm_call.specs.Opening.{BegunAs, OutermostBegun, OutermostBegunAs}
 use Rattle.pm_call.specs.Stages.{at_level}
 use Rattle.pm_call.specs.Standing.{Stands, StandsWith}
-use Rattle.pm_call.proofs.Standing.{aborted_call_stands, cut_rollback_stands, same_stands, spent_stands, stands_turned, stopped_stands, working_stands}
+use Rattle.pm_call.proofs.Standing.{aborted_call_stands, cut_rollback_stands, same_stands, spent_stands, stands_turned, stopped_in, working_stands}
 use Rattle.pm_call.proofs.StoppedLanes.{wait_is_stopped}
 use Rattle.pm_call.proofs.ToldLooks.{saw_history, taken_told, told_history, told_open, tried_told, wait_told}
 use Rattle.pm_call.proofs.ToldPlans.{tells_history}
@@ -108,8 +108,9 @@ module _ {M : Type 0} (at : M → View → Type 0) (old new : Lane M) (h : LaneH
         (tells_history (Begin wants) None b.view (told_open s.view b.view took opened.number.none)
         ∙ ap (told_more (Begin wants) None) (told_history s.view b.view h took same))
     begun_turns s opened same (Err refusal.Stopped) b =
-        stopped_stands at new (told_by new.drawn (Begin wants) None h)
+        stopped_in at new h s.view (Begin wants)
         (ap (λ (f : Fields). f.stopped) b.fields) (wait_is_stopped at new s wants opened.facts b)
+        (wait_told at new s wants b).fixed same
         (ap (λ (x : LaneHistory). x.done)
         (told_history s.view _ h (wait_told at new s wants b) same)
         ∙ sym (ap (λ d. (told_by d (Begin wants) None h).done)

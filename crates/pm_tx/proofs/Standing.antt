@@ -17,7 +17,8 @@ use Rattle.pm_call.specs.Adding.{HasCounted}
 use Rattle.pm_call.specs.At.{At}
 use Rattle.pm_call.specs.Did.{Did, next, work_refusal}
 use Rattle.pm_call.specs.Histories.{LaneHistory, history_of, no_value, told_more, turned, turned_commit, turned_last, unless}
-use Rattle.pm_call.specs.Plans.{adds, commits_inner, gets, puts}
+use Rattle.pm_call.specs.Incrementing.{HasSum}
+use Rattle.pm_call.specs.Plans.{adds, commits_inner, gets, increments, known_sum, puts}
 use Rattle.pm_call.specs.Publishing.{words_entered}
 use Rattle.pm_call.specs.Reading.{HasRead}
 use Rattle.pm_call.specs.Stages.{end_refusal, next_stage}
