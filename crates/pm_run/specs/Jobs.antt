@@ -19,7 +19,7 @@ use Rattle.pm_run.specs.declared.job.Job.{Job}
 
 -- of the job's lane nothing was asked
 abbrev pub CanRun : {N W : Type 0} → Job N W → Type 0
-CanRun job = StandsWith IsSeen job.lane nothing_told
+CanRun job = StandsWith IsSeen job.lane (nothing_told job.number)
 
 -- the job has lane k, and this work
 pub record IsReady {N W : Type 0} (k : ℕ) (work : W) (job : Job N W) : Type 0 where

@@ -1,13 +1,9 @@
-ghost use Rattle.std.specs.Prelude.{◌≡◌, ◌<◌, length};
-ghost use Rattle.pm_call.specs.Histories.{nothing_told};
-ghost use Rattle.pm_call.specs.Standing.{StandsWith};
+ghost use Rattle.std.specs.Prelude.{◌<◌, length};
 ghost use Rattle.pm_run.specs.Jobs.{AllRan, CanRun, IsDone};
-ghost use Rattle.pm_shared.specs.Seats.{IsSeen};
 ghost use Rattle.pm_view.specs.View.{View};
 ghost use Rattle.std.specs.List.{All};
 
 use crate::Work;
-use pm_memory::LaneMem;
 use pm_shared::{SharedLane, TableName};
 use pm_world::Lane;
 use std::sync::Wait;
@@ -22,27 +18,13 @@ pub struct Job<'a, N: TableName, W> {
     pub work: W,
 }
 
-/// Waits until the memory is that of the lane with this number.
-fn wait_for_lane<M: LaneMem, R: Wait>(rt: &R, memory: &M, number: u64)
-    ensures { (v : View) → M.at memory.now v → v.fixed.lane ≡ number }
-{
-    for _ in rt.forever() {
-        if memory.lane() == number {
-            return;
-        }
-    }
-    unreachable!();
-}
-
 impl<'a, N: TableName, W: Work> Job<'a, N, W> {
-    /// Runs the work. It has no other lane to leave in the place of its own, so that nothing is
-    /// waited for then.
+    /// Runs the work.
     fn run<R: Wait>(&mut self, rt: &R)
         requires { CanRun self.old }
         ensures { IsDone W.left self.old.number self.old.work self.new }
     {
         self.work.run(rt, &mut self.lane);
-        wait_for_lane(rt, &self.lane.memory, self.number);
     }
 }
 

@@ -51,7 +51,7 @@ fn next_lane<'a, N: TableName>(
     ensures table { seat.new.table_id ≡ seat.old.table_id }
     ensures seat { OnOk result
         (seat.new.me ≡ pool_of pool.entry.now.memory.table.shared.key (number + 1) []) }
-    ensures lane { IfOk result (λ lane. StandsWith IsSeen lane nothing_told) }
+    ensures lane { IfOk result (λ lane. StandsWith IsSeen lane (nothing_told number)) }
 {
     let memory = pool.memory.split::<N>(alloc, seat, number)?;
     Ok(Lane::new(alloc, memory, pool.id, pool.shape)?)

@@ -1,3 +1,4 @@
+ghost use Rattle.std.specs.Prelude.{◌≡◌, ℕ};
 ghost use Rattle.pm_call.specs.Histories.{nothing_told};
 ghost use Rattle.pm_call.specs.Standing.{IsLaneStopped, StandsWith};
 ghost use Rattle.pm_view.specs.View.{View};
@@ -13,6 +14,8 @@ pub trait Work {
 
     /// Runs on a lane of which nothing was asked yet, up to the work's end or the lane's stop.
     fn run<M: LawfulMem, R: Wait>(&mut self, rt: &R, lane: &mut Lane<M>)
-        requires { StandsWith M.at lane.old nothing_told }
-        ensures { (x : IsLaneStopped M.at lane.new) × left self.old self.new x.view };
+        requires { (number : ℕ) × StandsWith M.at lane.old (nothing_told number) }
+        ensures { (number : ℕ) → StandsWith M.at lane.old (nothing_told number)
+            → (x : IsLaneStopped M.at lane.new) × (x.view.fixed.lane ≡ number)
+            × left self.old self.new x.view };
 }

@@ -1,10 +1,13 @@
 use Rattle.pm_run.proofs.job.Job.run.Goals as goal
 
+pub run-requires : goal.run-requires
+run-requires g c = (c.args.self.now.number, c.requires)
+
 pub returns : goal.returns
-returns g c = let x = c.run.ensures in record {
+returns g c = let x = c.run.ensures c.args.self.now.number c.requires in record {
   view = x.0.view;
   seen = x.0.seen;
   facts = x.0.facts;
-  lane_is = c.wait_for_lane.ensures x.0.view x.0.seen;
-  so = x.1;
+  lane_is = x.1;
+  so = x.2;
 }

@@ -4,13 +4,14 @@ use Rattle.pm_call.proofs.StoppedLanes.{may_open_facts}
 use Rattle.pm_run.proofs.tests.IdleWork.run.Goals as goal
 
 pub returns-then-idle : goal.returns-then-idle
-returns-then-idle g c =
+returns-then-idle g c number stands =
     let idle = c.idle.ensures.0 c.if-idle.true in
-    let here = c.requires.between idle.unstopped idle.level in (
+    let here = stands.between idle.unstopped idle.level in (
       record {
         view = here.0.standing.view;
         seen = here.0.rests.memory;
         facts = may_open_facts here.0.standing here.0.between;
       },
+      ap (λ (h : LaneHistory). h.lane) here.1,
       ap (λ (h : LaneHistory). h.done) here.1,
     )
