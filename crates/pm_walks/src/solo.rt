@@ -71,6 +71,18 @@ fn a_later_transaction_reads_all(rt: HostRuntime) -> Result<(), Fail> {
 }
 
 #[test]
+fn a_sum_wraps(rt: HostRuntime) -> Result<(), Fail> {
+    let mut lane = single_lane(rt.alloc(), ROOT)?;
+    walks::incremented(&rt, &mut lane, root_id(1, ROOT)?)
+}
+
+#[test]
+fn a_number_without_a_record_is_not_incremented(rt: HostRuntime) -> Result<(), Fail> {
+    let mut lane = single_lane(rt.alloc(), ROOT)?;
+    walks::not_incremented(&rt, &mut lane, root_id(1, ROOT)?)
+}
+
+#[test]
 fn a_publish_sets_words_at_the_commit(rt: HostRuntime) -> Result<(), Fail> {
     let mut lane = single_lane(rt.alloc(), ROOT)?;
     walks::published(&rt, &mut lane, root_id(1, ROOT)?)

@@ -43,6 +43,19 @@ pub fn read<M: LawfulMem>(
     pm_tx::read(lane, id, off, into)
 }
 
+#[tactic(auto, using(pm_call::proofs::Standing::did_stands, pm_call::proofs::Standing::stands_work))]
+pub fn increment<M: LawfulMem>(
+    lane: &mut Lane<M>,
+    id: Oid,
+    off: u64,
+    by: u64,
+) -> Result<u64, Refusal>
+    requires { Stands M.at lane.old }
+    ensures { Stands M.at lane.new }
+{
+    pm_tx::increment(lane, id, off, by)
+}
+
 #[tactic(auto, using(pm_tx::proofs::Standing::committed_stands, pm_call::proofs::Standing::stands_work))]
 pub fn commit<M: LawfulMem>(lane: &mut Lane<M>) -> Result<(), Refusal>
     requires { Stands M.at lane.old }

@@ -2,6 +2,7 @@
 
 mod aborts;
 mod actions;
+mod increments;
 mod levels;
 mod limits;
 mod lockings;
@@ -14,6 +15,7 @@ ghost use Rattle.pm_call.specs.Standing.{Stands};
 use crate::standing::{begin, commit, end, read};
 pub use aborts::refusals;
 pub use actions::{cancelled, published, unpublished};
+pub use increments::{incremented, not_incremented};
 pub use levels::{inner_aborted, outer_aborted};
 pub use limits::{many_levels, many_locks, many_records};
 pub use lockings::raised;
