@@ -291,14 +291,13 @@ module _ {M : Type 0} (at : M → View → Type 0) (old new : Lane M) (h : LaneH
   finished_has_facts result stands outside finished = by old.stopped refl finished where
     by : (stopped : Bool) → old.stopped ≡ stopped → FinishedSo stopped at old new result
         → (x : IsLaneStopped at new) × (calls_ended x.view ≡ h.done)
-      × (x.view.fixed.lane ≡ h.lane)
+        × (x.view.fixed.lane ≡ h.lane)
     by true is f = subst
         (λ (lane : Lane M). (x : IsLaneStopped at lane) × (calls_ended x.view ≡ h.done)
         × (x.view.fixed.lane ≡ h.lane))
         (sym f.1) (stands.stopped is)
     by false is f =
-        let here = stands.between is (outside is) in
-        (
+        let here = stands.between is (outside is) in (
           record {
             view = here.0.standing.view;
             seen = (f.1 here.0.standing here.0.rests).memory;

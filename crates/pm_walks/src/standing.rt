@@ -43,7 +43,6 @@ pub fn read<M: LawfulMem>(
     pm_tx::read(lane, id, off, into)
 }
 
-#[tactic(auto, using(pm_call::proofs::Standing::did_stands, pm_call::proofs::Standing::stands_work))]
 pub fn increment<M: LawfulMem>(
     lane: &mut Lane<M>,
     id: Oid,
