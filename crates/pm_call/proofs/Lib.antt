@@ -88,3 +88,4 @@ pub mod Standing
 pub mod NewLanes
 pub mod IdleCalls
 pub mod FewStores
+pub mod Positions

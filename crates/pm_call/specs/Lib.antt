@@ -29,4 +29,5 @@ pub mod Publications
 pub mod Histories
 pub mod PublicationParts
 pub mod Standing
+pub mod Positions
 pub mod Stores

@@ -1,6 +1,13 @@
 ghost use Rattle.pm_call.specs.Commits.{CommittedArePast, InnerLevelsMayBeCommitted, OutermostLevelsMayBeCommitted};
 ghost use Rattle.pm_call.specs.GivenUp.{TransactionsMayBeGivenUp};
 ghost use Rattle.pm_call.specs.Histories.{AddsTell, CancelsTell, CommitsTell, IncrementsTell, InnerCommitsTell, LogsTell, LoneCallsTell, PublishesTell, ReadsTell, RollbacksTell, WritesTell};
+ghost use Rattle.pm_call.specs.Positions.{
+  AbortedLanesMayEnd,
+  CommittedLanesMayEnd,
+  RestingLanesMayBegin,
+  StoppedLanesAreRefused,
+  WorkingLanesMayWork,
+};
 ghost use Rattle.pm_call.specs.Stages.{GivenUpArePast};
 ghost use Rattle.pm_call.specs.Stores.{
   CountedCallsAreThree,
@@ -81,4 +88,16 @@ pub fn plans_make_few_stores()
     ensures flushes { FlushesAreFew }
     ensures drains { DrainsAreFew }
     ensures calls { CountedCallsAreThree }
+{}
+
+/// A law: where a lane is in its transactions tells which calls its stage refuses. At work it refuses
+/// no operation. Between two calls it refuses each operation of a transaction, for none is open, so
+/// that the outermost level may begin. Past the work of a level, committed or aborted, the level may
+/// end. After the lane's stop each call is refused. No code runs.
+pub fn positions_tell_refusals<M: LawfulMem>()
+    ensures working { WorkingLanesMayWork M.at }
+    ensures resting { RestingLanesMayBegin M.at }
+    ensures committed { CommittedLanesMayEnd M.at }
+    ensures aborted { AbortedLanesMayEnd M.at }
+    ensures stopped { StoppedLanesAreRefused M.at }
 {}

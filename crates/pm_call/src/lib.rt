@@ -47,7 +47,7 @@ pub use incrementing::{check_number, do_increment, numbers_may_be_incremented};
 pub use laws::{
     calls_given_up_are_past_work, committed_calls_are_past_work, inner_levels_may_be_committed,
     operations_tell, outermost_levels_may_be_committed, plans_make_few_stores,
-    transactions_may_be_given_up,
+    positions_tell_refusals, transactions_may_be_given_up,
 };
 pub use lock_ops::{begin_inner, lock_wanted};
 pub use locking::{
