@@ -4,3 +4,4 @@ pub mod OutsideLanes
 pub mod Standing
 pub mod PublicationLocks
 pub mod PublicationCalls
+pub mod Positions

@@ -4,3 +4,4 @@ pub mod Outside
 pub mod Calls
 pub mod Publications
 pub mod Standing
+pub mod Positions

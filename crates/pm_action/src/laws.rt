@@ -1,3 +1,9 @@
+ghost use Rattle.pm_action.specs.Positions.{
+  CancelsMove,
+  FinishesStay,
+  PublishesStay,
+  SetsStay,
+};
 ghost use Rattle.pm_action.specs.Standing.{
   CancelsTurn,
   FinishedLanesHaveFacts,
@@ -19,4 +25,14 @@ pub fn lanes_stand<M: LawfulMem>()
 /// entries of its view have their facts, and are the calls of the history. No code runs.
 pub fn finished_lanes_have_facts<M: LawfulMem>()
     ensures { FinishedLanesHaveFacts M.at }
+{}
+
+/// A law: where each of these calls leaves the level, the stage and the error of a lane that stands
+/// with a history, by what the call returned. They stay, but where a cancel in a transaction or a
+/// publish outside comes to the lane's stop: then the lane says so, where it is. No code runs.
+pub fn positions_follow<M: LawfulMem>()
+    ensures set_value { SetsStay M.at }
+    ensures cancel { CancelsMove M.at }
+    ensures publish { PublishesStay M.at }
+    ensures finish { FinishesStay M.at }
 {}

@@ -17,7 +17,7 @@ mod outside;
 mod publications;
 
 pub use calls::{cancel, set_value};
-pub use laws::{finished_lanes_have_facts, lanes_stand};
+pub use laws::{finished_lanes_have_facts, lanes_stand, positions_follow};
 pub use outside::finish;
 pub use publications::publish;
 

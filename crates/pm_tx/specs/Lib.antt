@@ -6,3 +6,4 @@ pub mod Locks
 pub mod Publishing
 pub mod Begins
 pub mod Standing
+pub mod Positions

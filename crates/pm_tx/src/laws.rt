@@ -1,3 +1,17 @@
+ghost use Rattle.pm_tx.specs.Positions.{
+  AbortsMove,
+  AddsMove,
+  BeginsMove,
+  CommitsMove,
+  EndsMove,
+  EndsReturnTheError,
+  IncrementsMove,
+  LocksMove,
+  ProcessesMove,
+  PublishesMove,
+  ReadsMove,
+  WritesMove,
+};
 ghost use Rattle.pm_tx.specs.Standing.{
   AbortsTurn,
   AddsTurn,
@@ -32,4 +46,25 @@ pub fn lanes_stand<M: LawfulMem>()
     ensures process { ProcessesTurn M.at }
     ensures abort { AbortsTurn M.at }
     ensures end { EndsTurn M.at }
+{}
+
+/// A law: where each of these calls leaves the level, the stage and the error of a lane that stands
+/// with a history, by what the call returned. A call that its stage refuses changes nothing. An
+/// operation at work that is refused aborts the transaction, and a lane that comes to its stop says
+/// so at its level. A begin opens a level at work. A commit or an abort leads the level past its
+/// work. Its end returns the transaction's error, and leaves the level below, at work or aborted for
+/// the same error, or none. No code runs.
+pub fn positions_follow<M: LawfulMem>()
+    ensures begin { BeginsMove M.at }
+    ensures lock { LocksMove M.at }
+    ensures add_range { AddsMove M.at }
+    ensures write { WritesMove M.at }
+    ensures read { ReadsMove M.at }
+    ensures increment { IncrementsMove M.at }
+    ensures publish { PublishesMove M.at }
+    ensures commit { CommitsMove M.at }
+    ensures process { ProcessesMove M.at }
+    ensures abort { AbortsMove M.at }
+    ensures end { EndsMove M.at }
+    ensures error { EndsReturnTheError M.at }
 {}

@@ -24,7 +24,7 @@ pub use begins::begin;
 pub use commits::{commit, process};
 pub use ending::end;
 pub use increments::increment;
-pub use laws::lanes_stand;
+pub use laws::{lanes_stand, positions_follow};
 pub use locks::lock;
 pub use outcome::abort;
 pub use publishing::publish;
