@@ -86,6 +86,16 @@ module _ (op : Operation) (reply : Option Value) where
   more_way v (s ∷ a) (suc k) are = more_way (after v s) a k are.1
       ∙ calls_same v (after v s) (silent_step v s are.0)
 
+  number_way : (v : View) (a : List Step) (k : ℕ) → AreSilent a
+      → (after_all v (take k (a ++ Tell op reply ∷ []))).number ≡ v.number
+  unfolding after_all
+  number_way v [] zero are = refl
+  number_way v [] (suc zero) are = refl
+  number_way v [] (suc (suc k)) are = refl
+  number_way v (s ∷ a) zero are = refl
+  number_way v (s ∷ a) (suc k) are =
+      number_way (after v s) a k are.1 ∙ (silent_step v s are.0).number
+
   pub plan_more : (a : Plan) → IsSilentPlan a
       → PlanTellsMore (in_turn a (tells op reply)) op (λ v. reply)
   unfolding in_turn one
@@ -96,6 +106,7 @@ module _ (op : Operation) (reply : Option Value) where
         ap history_of (after_one v (a v)) ∙ tells_history u (s.number ∙ none)
         ∙ ap (told_more op reply) (silent_history v u s);
     on_the_way = λ v k none. more_way v (a v) k (silent v);
+    unnumbered = λ v k none. number_way v (a v) k (silent v) ∙ none;
   }
 
 -- ---- AND THE NUMBER IS TAKEN at once
@@ -250,12 +261,15 @@ reads_tell id off len = record {
       (Some (Bytes (bytes_seen (known_word v) id.off off len))) v none;
   on_the_way = λ v k none. more_way (Read id off len)
       (Some (Bytes (bytes_seen (known_word v) id.off off len))) v [] k tt;
+  unnumbered = λ v k none. number_way (Read id off len)
+      (Some (Bytes (bytes_seen (known_word v) id.off off len))) v [] k tt ∙ none;
 }
 
 pub increments_tell : IncrementsTell
 increments_tell id off by = record {
   whole = λ v none. (puts_sum_tells (known_sum v id off by)).whole v none;
   on_the_way = λ v k none. (puts_sum_tells (known_sum v id off by)).on_the_way v k none;
+  unnumbered = λ v k none. (puts_sum_tells (known_sum v id off by)).unnumbered v k none;
 }
   where
     puts_sum_tells : (sum : ℕ) → PlanTellsMore (puts_sum id off by sum) (Increment id off by)
@@ -272,6 +286,7 @@ unfolding one after_all
 inner_commits_tell = record {
   whole = λ v none. tells_history Commit None v none;
   on_the_way = λ v k none. more_way Commit None v [] k tt;
+  unnumbered = λ v k none. number_way Commit None v [] k tt ∙ none;
 }
 
 pub rollbacks_tell : RollbacksTell

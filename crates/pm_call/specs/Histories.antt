@@ -131,6 +131,8 @@ pub record PlanTellsMore (plan : Plan) (op : Operation) (reply : View → Option
       → history_of (after_all v (plan v)) ≡ told_more op (reply v) (history_of v)
   pub on_the_way : (v : View) (k : ℕ) → v.number ≡ None
       → calls_ended (after_all v (take k (plan v))) ≡ calls_ended v
+  pub unnumbered : (v : View) (k : ℕ) → v.number ≡ None
+      → (after_all v (take k (plan v))).number ≡ None
 
 pub record PlanTellsLast (plan : Plan) (op : Operation) (reply : Option Value) (n : ℕ) : Type 0 where
   pub whole : (v : View) → v.number ≡ None
