@@ -23,10 +23,11 @@ use Rattle.pm_plan.specs.Plans.{one}
 use Rattle.pm_call.specs.PublicationParts.{PublishWasCut, PublishWasRefused, WasPublishedOutside, WordsSetAs}
 use Rattle.pm_call.specs.Publications.{publishes, unlocked, wants_to_set}
 use Rattle.pm_call.specs.Publishing.{words_pending}
-use Rattle.pm_call.specs.Standing.{IsLaneStopped, Stands, StandsWith}
+use Rattle.pm_call.specs.Standing.{EndsOpen, IsLaneStopped, Stands, StandsWith}
 use Rattle.pm_call.proofs.OpenedCalls.{between_may_open}
 use Rattle.pm_call.proofs.Standing.{all_fixed, by_last, cut_stands, idle_stands, same_stands, spent_stands, stands_turned, stopped_in, working_stands}
 use Rattle.pm_call.proofs.StoppedLanes.{facts_on_the_way, may_open_facts, wait_is_stopped}
+use Rattle.pm_call.proofs.StoppedNumbers.{ends_open, ends_untold, may_open_ends, publishes_unended}
 use Rattle.pm_call.proofs.SilentPlans.{told_then}
 use Rattle.pm_call.proofs.ToldLooks.{gives_told, looks_told, saw_history, taken_told, told_history, told_open, tried_told, wait_told}
 use Rattle.pm_call.proofs.ToldPlans.{cancels_tell, lone_calls_tell, publishes_tell, tells_history}
@@ -78,6 +79,7 @@ module _ {M : Type 0} (at : M → View → Type 0) (old new : Lane M) (h : LaneH
       (cancels_tell.whole s.view none ∙ ap (told_more Cancel None) same)
   cancel_turns s (Err refusal.Stopped) none same c = cut_stands at new h s Cancel cancels c.1 same
       (cancels_tell.on_the_way s.view c.1.stops.made none ∙ ap (λ (x : LaneHistory). x.done) same)
+      (cancels_tell.unnumbered s.view c.1.stops.made none)
   cancel_turns s (Err r) none same c = absurd c
 
   pub cancelled_turns : (result : Result (Unit {0}) Refusal) → StandsWith at old h
@@ -212,6 +214,9 @@ module _ {M : Type 0} (at : M → View → Type 0) (old new : Lane M) (h : LaneH
       ((publishes_tell (words_pending t) c.found c.number).on_the_way t.view
       c.stops.made none
       ∙ λ i. (told_by (sym c.numbered.drawn i) Publish None (same i)).done)
+      (ends_open new.drawn (after_all t.view (take c.stops.made plan)) c.numbered.drawn
+      (publishes_unended (words_pending t) c.found c.number t.view none c.ready c.stops.made
+      c.stops.fewer))
 
   -- its locks were taken, and words looked at: the call is open as it was
   locked_open : (s : Standing) (P : Standing → Type 0) → s.view.number ≡ None
@@ -232,13 +237,14 @@ module _ {M : Type 0} (at : M → View → Type 0) (old new : Lane M) (h : LaneH
       l.0 l.1 p.holds.holds
   published_open_turns s is outside same (Err refusal.Stopped) p = ⊎_elim
       (λ (w : WaitWasStopped at new s (wants_to_set s)).
+      let told = wait_told at new s (wants_to_set s) w in
+      let drawn : new.drawn ≡ None = ap (λ (f : Fields). f.drawn) w.fields in
       stopped_in at new h s.view Publish
       (ap (λ (f : Fields). f.stopped) w.fields)
-      (wait_is_stopped at new s (wants_to_set s) is.facts w)
-      (wait_told at new s (wants_to_set s) w).fixed same
-      (ap (λ (x : LaneHistory). x.done)
-      (told_history s.view _ h (wait_told at new s (wants_to_set s) w) same)
-      ∙ sym (ap (λ d. (told_by d Publish None h).done) (ap (λ (f : Fields). f.drawn) w.fields))))
+      (wait_is_stopped at new s (wants_to_set s) is.facts w) told.fixed same
+      (ap (λ (x : LaneHistory). x.done) (told_history s.view _ h told same)
+      ∙ sym (ap (λ d. (told_by d Publish None h).done) drawn))
+      (ends_untold new.drawn _ drawn (told_open s.view _ told is.number.none)))
       (λ (a : AfterLocks s (WordsSetAs at new (Err refusal.Stopped))).
       let l = locked_open s _ is.number.none same a in
       cut_publish_turns (moved (with_locks (locks_with s (wants_to_set s)) s) a.holds.view)
@@ -286,15 +292,15 @@ module _ {M : Type 0} (at : M → View → Type 0) (old new : Lane M) (h : LaneH
   pub finished_has_facts : (result : Result (Unit {0}) Refusal) → StandsWith at old h
       → (old.stopped ≡ false → old.level ≡ 0) → Finished at old new result
       → (x : IsLaneStopped at new) × (calls_ended x.view ≡ h.done)
-      × (x.view.fixed.lane ≡ h.lane)
+      × (x.view.fixed.lane ≡ h.lane) × EndsOpen old.drawn x.view
   unfolding Finished
   finished_has_facts result stands outside finished = by old.stopped refl finished where
     by : (stopped : Bool) → old.stopped ≡ stopped → FinishedSo stopped at old new result
         → (x : IsLaneStopped at new) × (calls_ended x.view ≡ h.done)
-        × (x.view.fixed.lane ≡ h.lane)
+        × (x.view.fixed.lane ≡ h.lane) × EndsOpen old.drawn x.view
     by true is f = subst
         (λ (lane : Lane M). (x : IsLaneStopped at lane) × (calls_ended x.view ≡ h.done)
-        × (x.view.fixed.lane ≡ h.lane))
+        × (x.view.fixed.lane ≡ h.lane) × EndsOpen old.drawn x.view)
         (sym f.1) (stands.stopped is)
     by false is f =
         let here = stands.between is (outside is) in (
@@ -305,6 +311,9 @@ module _ {M : Type 0} (at : M → View → Type 0) (old new : Lane M) (h : LaneH
           },
           ap (λ (x : LaneHistory). x.done) here.1,
           ap (λ (x : LaneHistory). x.lane) here.1,
+          subst (λ d. EndsOpen d here.0.standing.view)
+              (sym (ap (λ (g : Fields). g.drawn) here.0.rests.fields))
+              (may_open_ends here.0.standing here.0.between),
         )
 
 -- ---- SO IT STANDS, with whatever history

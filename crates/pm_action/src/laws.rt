@@ -22,7 +22,8 @@ pub fn lanes_stand<M: LawfulMem>()
 {}
 
 /// A law: where a lane that stands with a history came to the end of its work, or stopped before, the
-/// entries of its view have their facts, and are the calls of the history. No code runs.
+/// entries of its view have their facts, and are the calls of the history; and the lane's field says
+/// which of them waits to be decided or applied, if one does. No code runs.
 pub fn finished_lanes_have_facts<M: LawfulMem>()
     ensures { FinishedLanesHaveFacts M.at }
 {}

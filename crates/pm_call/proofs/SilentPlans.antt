@@ -159,7 +159,7 @@ unfolding persists
 silent_line line = silent_turn (one (Flush line)) (one Drain) (silent_one (Flush line) refl)
     (silent_one Drain refl)
 
-silent_room : IsSilentPlan makes_room
+pub silent_room : IsSilentPlan makes_room
 unfolding makes_room
 silent_room v = by (nat_lt (length v.changes) max_changes) where
   by : (b : Bool) → AreSilent (if b then [] else persists_all v)
@@ -259,7 +259,7 @@ silent_log entries v =
     (λ i. silent_pair sh lane i (entry_at entries i)) (length entries))
     (silent_ends sh lane (length entries) e) v
 
-silent_seal : (w n : ℕ) → IsSilentPlan (writes_seal w n)
+pub silent_seal : (w n : ℕ) → IsSilentPlan (writes_seal w n)
 unfolding writes_seal
 silent_seal w n =
     silent_turn (stores w n) (persists (w / 8)) (silent_store w n) (silent_line (w / 8))
@@ -272,7 +272,7 @@ silent_does op.Or w x found =
 silent_does op.And w x found =
     silent_turn makes_room (one (And w x found)) silent_room (silent_one (And w x found) refl)
 
-silent_applies : (found : ℕ → ℕ) → IsSilentPlan (applies found)
+pub silent_applies : (found : ℕ → ℕ) → IsSilentPlan (applies found)
 unfolding applies applies_all applies_each applies_entry
 silent_applies found v =
     let es : List Redo = listed_entries v in

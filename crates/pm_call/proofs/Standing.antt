@@ -17,7 +17,7 @@ use Rattle.pm_view.specs.Steps.{Step}
 use Rattle.pm_view.specs.Steps.Step.{Draw, NumberSeen, Tell}
 use Rattle.pm_view.specs.View.{Constants, Numbered, View}
 use Rattle.pm_view.specs.Views.{after, after_all, begun}
-use Rattle.pm_world.specs.LaneFields.{Fields, Rests, Standing, Works, at_work, fields_of, last_number, moved}
+use Rattle.pm_world.specs.LaneFields.{Fields, Rests, Standing, Works, at_rest, at_work, fields_of, last_number, moved}
 use Rattle.pm_world.specs.declared.lane.Lane.{Lane}
 use Rattle.pm_plan.specs.Plans.{Plan}
 use Rattle.pm_call.specs.At.{At}
@@ -29,11 +29,11 @@ use Rattle.pm_call.specs.Histories.{LaneHistory, PlanTellsMore, calls_ended, end
 use Rattle.pm_call.specs.Opening.{NoneIsLeft}
 use Rattle.pm_call.specs.Plans.{commits, gives_up}
 use Rattle.pm_call.specs.Stages.{Ended, EndedAs, EndedBy, EndedSo, IsLanePast, IsPastAt, Leaves, at_level, closed, end_refusal, fields_past, stage_end_refusal, unlisted}
-use Rattle.pm_call.specs.Standing.{IsLaneStopped, IsOverFor, Stands, StandsWith}
+use Rattle.pm_call.specs.Standing.{EndsOpen, IsLaneStopped, IsOverFor, Stands, StandsWith}
 use Rattle.pm_call.proofs.OpenedCalls.{between_may_open, look_may_open}
 use Rattle.pm_call.proofs.SilentPlans.{silent_step}
-use Rattle.pm_call.proofs.StoppedLanes.{commit_is_stopped, cut_is_stopped, may_open_facts}
-use Rattle.pm_call.proofs.StoppedNumbers.{gives_up_unnumbered}
+use Rattle.pm_call.proofs.StoppedLanes.{commit_is_stopped, cut_is_stopped}
+use Rattle.pm_call.proofs.StoppedNumbers.{commits_unended, ends_open, ends_untold, gives_up_unnumbered}
 use Rattle.pm_call.proofs.ToldLooks.{gives_told, looks_told, saw_history, told_history, told_open}
 use Rattle.pm_call.proofs.ToldPlans.{commits_tell, rollbacks_tell}
 
@@ -107,12 +107,13 @@ module _ {M : Type 0} (at : M → View → Type 0) (lane : Lane M) where
   last_of f fields = ap (λ (g : Fields). g.last) fields
 
   pub stopped_stands : (h : LaneHistory) → lane.stopped ≡ true → (x : IsLaneStopped at lane)
-      → calls_ended x.view ≡ h.done → x.view.fixed.lane ≡ h.lane → StandsWith at lane h
-  stopped_stands h is stopped calls of = record {
+      → calls_ended x.view ≡ h.done → x.view.fixed.lane ≡ h.lane → EndsOpen lane.drawn x.view
+      → StandsWith at lane h
+  stopped_stands h is stopped calls of ends = record {
     work = λ e. absurd (let s = stops stage_refusal in cc);
     past = λ e. absurd (let s = stops stage_end_refusal in cc);
     between = λ e low. absurd (cc);
-    stopped = λ e. (stopped, calls, of);
+    stopped = λ e. (stopped, calls, of, ends);
     last = λ e. absurd (cc);
   }
     where
@@ -152,11 +153,7 @@ module _ {M : Type 0} (at : M → View → Type 0) (lane : Lane M) where
         subst (λ k. stage_end_refusal stage.None k ≡ None) outside
         (sym (ap end_by rests.fields) ∙ e) in cc);
     between = λ e low. (record { standing = s; rests = rests; between = may }, same, none);
-    stopped = λ e. (
-      record { view = s.view; seen = rests.memory; facts = may_open_facts s may },
-      ap (λ (x : LaneHistory). x.done) same,
-      ap (λ (x : LaneHistory). x.lane) same,
-    );
+    stopped = λ e. goes (at_rest s) rests.fields refl e;
     last = λ e. numbers s.view h (ap (λ (g : Fields). g.last) rests.fields) same;
   }
 
@@ -174,12 +171,12 @@ module _ {M : Type 0} (at : M → View → Type 0) (lane : Lane M) where
   -- in an operation, from where its history was this
   pub stopped_in : (h : LaneHistory) (v : View) (op : Operation) → lane.stopped ≡ true
       → (x : IsLaneStopped at lane) → x.view.fixed ≡ v.fixed → history_of v ≡ h
-      → calls_ended x.view ≡ (told_by lane.drawn op None h).done
+      → calls_ended x.view ≡ (told_by lane.drawn op None h).done → EndsOpen lane.drawn x.view
       → StandsWith at lane (told_by lane.drawn op None h)
-  stopped_in h v op is x fixed same calls =
+  stopped_in h v op is x fixed same calls ends =
       stopped_stands (told_by lane.drawn op None h) is x calls
       (ap (λ (f : Constants). f.lane) fixed ∙ ap (λ (y : LaneHistory). y.lane) same
-      ∙ of_lane lane.drawn)
+      ∙ of_lane lane.drawn) ends
     where
       of_lane : (d : Option ℕ) → h.lane ≡ (told_by d op None h).lane
       of_lane None = refl
@@ -189,12 +186,16 @@ module _ {M : Type 0} (at : M → View → Type 0) (lane : Lane M) where
   pub cut_stands : (h : LaneHistory) (s : Standing) (op : Operation) (plan : Plan)
       → (cut : Cut at lane s plan true) → history_of s.view ≡ h
       → calls_ended (after_all s.view (take cut.stops.made (plan s.view))) ≡ h.done
+      → (after_all s.view (take cut.stops.made (plan s.view))).number ≡ None
       → StandsWith at lane (told_by lane.drawn op None h)
-  cut_stands h s op plan cut same calls = stopped_in h s.view op
-      (ap (λ (f : Fields). f.stopped) cut.fields) (cut_is_stopped at lane s plan true cut)
+  cut_stands h s op plan cut same calls none =
+      let w : View = after_all s.view (take cut.stops.made (plan s.view)) in
+      let drawn : lane.drawn ≡ None = ap (λ (f : Fields). f.drawn) cut.fields in
+      stopped_in h s.view op (ap (λ (f : Fields). f.stopped) cut.fields)
+      (cut_is_stopped at lane s plan true cut)
       (all_fixed s.view (take cut.stops.made (plan s.view))) same
-      (calls ∙ sym (ap (λ d. (told_by d op None h).done)
-      (ap (λ (f : Fields). f.drawn) cut.fields)))
+      (calls ∙ sym (ap (λ d. (told_by d op None h).done) drawn))
+      (ends_untold lane.drawn w drawn none)
 
   -- as it gave its call up
   pub cut_rollback_stands : (h : LaneHistory) (s : Standing) (op : Operation)
@@ -205,6 +206,7 @@ module _ {M : Type 0} (at : M → View → Type 0) (lane : Lane M) where
       let told = gives_up_unnumbered op reply n s.view cut.stops.made cut.stops.due in
       cut_stands h s op (gives_up op reply n) cut same
       (ap (λ (x : LaneHistory). x.done) (told_history s.view w h told same))
+      (told_open s.view w told none)
 
   pub cut_commit_stands : (h : LaneHistory) (s : Standing) → s.view.number ≡ None
       → history_of s.view ≡ h → CommitCut at lane s true
@@ -214,6 +216,10 @@ module _ {M : Type 0} (at : M → View → Type 0) (lane : Lane M) where
       (all_fixed s.view (take cut.stops.made (commits s.entries cut.found cut.number s.view))) same
       ((commits_tell s.entries cut.found cut.number).on_the_way s.view cut.stops.made none
       ∙ λ i. (told_by (sym cut.numbered.drawn i) Commit None (same i)).done)
+      (ends_open lane.drawn
+      (after_all s.view (take cut.stops.made (commits s.entries cut.found cut.number s.view)))
+      cut.numbered.drawn (commits_unended s.entries cut.found cut.number s.view none cut.ready
+      cut.stops.made cut.stops.fewer))
 
   -- ---- its call is over, and its locks are held still
 
@@ -337,7 +343,8 @@ module _ {M : Type 0} (at : M → View → Type 0) (old new : Lane M) (h : LaneH
     ends_stands s some most none same (Err refusal.Stopped) ends = ⊎_elim
         (λ c. cut_stands at new h s op (plan s.view) c.1 same
         ((tells s.view).on_the_way s.view c.1.stops.made none
-        ∙ ap (λ (x : LaneHistory). x.done) same))
+        ∙ ap (λ (x : LaneHistory). x.done) same)
+        ((tells s.view).unnumbered s.view c.1.stops.made none))
         (λ c. cut_rollback_stands at new h s op (Some (Refused c.0)) c.1 none same c.3)
         ends
     ends_stands s some most none same (Err r) ends =

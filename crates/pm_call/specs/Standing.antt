@@ -1,10 +1,11 @@
 -- A LANE STANDS, as its fields say, with a history: what each call asks of its lane, and leaves.
-use Rattle.std.specs.Prelude.{◌≡◌, ℕ, suc, true, false, [], Option, None, Result}
+use Rattle.std.specs.Prelude.{◌≡◌, ◌≢◌, ◌⊎◌, ℕ, suc, true, false, [], Option, None, Some, Result}
 use Rattle.pm_objects.specs.declared.calls.Operation.{Operation}
 use Rattle.pm_objects.specs.declared.history.TxErr.{TxErr}
 use Rattle.pm_objects.specs.declared.history.TxErr.TheVariants as error
 use Rattle.pm_objects.specs.declared.history.Value.{Value}
 use Rattle.pm_objects.specs.declared.refusal.Refusal.{Refusal}
+use Rattle.pm_view.specs.Log.{Idle}
 use Rattle.pm_view.specs.View.{View}
 use Rattle.pm_world.specs.declared.lane.Lane.{Lane}
 use Rattle.pm_crash.specs.Facts.{HaveFacts}
@@ -19,6 +20,11 @@ pub record IsLaneStopped {M : Type 0} (at : M → View → Type 0) (lane : Lane 
   pub view : View
   pub seen : at lane.memory view
   pub facts : HaveFacts view
+
+-- IN THIS VIEW no call waits to be decided or applied; or the one of this number does
+abbrev pub EndsOpen : Option ℕ → View → Type 0
+EndsOpen None v = (v.log.phase ≡ Idle) ⊎ (v.number ≡ None)
+EndsOpen (Some n) v = (v.number ≡ Some n) × (v.log.phase ≢ Idle)
 
 -- past the work of a level the call is over, but where an inner level was committed
 abbrev pub IsOverFor : ℕ → TxErr → LaneHistory → Type 0
@@ -35,7 +41,7 @@ pub record StandsWith {M : Type 0} (at : M → View → Type 0) (lane : Lane M) 
   pub between : lane.stopped ≡ false → lane.level ≡ 0 → (b : IsLaneBetween at lane)
       × (history_of b.standing.view ≡ h) × (h.call ≡ [])
   pub stopped : lane.stopped ≡ true → (x : IsLaneStopped at lane)
-      × (calls_ended x.view ≡ h.done) × (x.view.fixed.lane ≡ h.lane)
+      × (calls_ended x.view ≡ h.done) × (x.view.fixed.lane ≡ h.lane) × EndsOpen lane.drawn x.view
   -- the lane's field tells its last number
   pub last : lane.stopped ≡ false → lane.last ≡ last_ended h.done
 

@@ -23,6 +23,7 @@ use Rattle.pm_call.specs.Stages.{at_level}
 use Rattle.pm_call.specs.Standing.{Stands, StandsWith}
 use Rattle.pm_call.proofs.Standing.{aborted_call_stands, cut_rollback_stands, same_stands, spent_stands, stands_turned, stopped_in, working_stands}
 use Rattle.pm_call.proofs.StoppedLanes.{wait_is_stopped}
+use Rattle.pm_call.proofs.StoppedNumbers.{ends_untold}
 use Rattle.pm_call.proofs.ToldLooks.{saw_history, taken_told, told_history, told_open, tried_told, wait_told}
 use Rattle.pm_call.proofs.ToldPlans.{tells_history}
 use Rattle.pm_tx.specs.Begins.{LevelBegun, LevelBegunSo}
@@ -108,13 +109,14 @@ module _ {M : Type 0} (at : M → View → Type 0) (old new : Lane M) (h : LaneH
         (tells_history (Begin wants) None b.view (told_open s.view b.view took opened.number.none)
         ∙ ap (told_more (Begin wants) None) (told_history s.view b.view h took same))
     begun_turns s opened same (Err refusal.Stopped) b =
+        let told = wait_told at new s wants b in
+        let drawn : new.drawn ≡ None = ap (λ (f : Fields). f.drawn) b.fields in
         stopped_in at new h s.view (Begin wants)
         (ap (λ (f : Fields). f.stopped) b.fields) (wait_is_stopped at new s wants opened.facts b)
-        (wait_told at new s wants b).fixed same
-        (ap (λ (x : LaneHistory). x.done)
-        (told_history s.view _ h (wait_told at new s wants b) same)
-        ∙ sym (ap (λ d. (told_by d (Begin wants) None h).done)
-        (ap (λ (f : Fields). f.drawn) b.fields)))
+        told.fixed same
+        (ap (λ (x : LaneHistory). x.done) (told_history s.view _ h told same)
+        ∙ sym (ap (λ d. (told_by d (Begin wants) None h).done) drawn))
+        (ends_untold new.drawn _ drawn (told_open s.view _ told opened.number.none))
     begun_turns s opened same (Err r) b =
         let tried = tried_told s wants b.all b.view b.tried in
         aborted_call_stands at new h (at_level 1 (with_locks b.all (moved s b.view))) (Begin wants)
