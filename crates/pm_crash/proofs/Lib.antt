@@ -17,6 +17,7 @@ pub mod Fresh
 pub mod SmallWords
 pub mod KeptImage
 pub mod ImageMeans
+pub mod OpenCalls
 pub mod TornSlots
 pub mod Apart
 pub mod Numbers

@@ -8,6 +8,7 @@ pub mod Described
 pub mod Images
 pub mod Freshness
 pub mod Laws
+pub mod Fates
 pub mod Torn
 pub mod Answers
 pub mod Objects

@@ -13,6 +13,7 @@
 
 mod answers;
 mod described;
+mod fates;
 mod footprints;
 mod freshness;
 mod histories;
@@ -25,6 +26,7 @@ mod writes;
 
 pub use answers::{lines_without_room_have_causes, reports_have_causes};
 pub use described::descriptors_have_classes;
+pub use fates::{awaited_stores_are_single, open_calls_have_fates};
 pub use footprints::footprints_stand;
 pub use freshness::histories_are_fresh;
 pub use histories::{
