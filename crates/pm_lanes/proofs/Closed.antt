@@ -1,7 +1,9 @@
 -- What a pool is left as by lanes that came back: their run began on the words that recovery made
 -- of an image that means a pool, so the laws of runs hold of it.
-use Rattle.std.proofs.Common.{◌≡◌, ℕ, zero, suc, ◌<◌, true, List, [], ◌∷◌, length, slice_index}
+use Rattle.std.proofs.Common.{◌≡◌, ℕ, zero, suc, ◌<◌, ◌≤◌, ◌==◌, Bool, true, false, cond}
+use Rattle.std.proofs.Common.{List, [], ◌∷◌, Contains, length, slice_index, Some}
 use Rattle.std.proofs.Common.{get_or, refl, sym, ap, ◌∙◌, subst, arith}
+use Rattle.std.proofs.lemmas.Bool.{eqb-true, or_left}
 use mathlib.Core.Option.{some}
 use lib.ListN.{get_elem?}
 use Rattle.pm_image.specs.HeapFaults.{heap_fault}
@@ -16,25 +18,31 @@ use Rattle.pm_recover.proofs.Meaning.{as_they_stand, clean_logs, meaning_kept}
 use Rattle.pm_recover.proofs.Sound.{sound_if_meaning}
 use Rattle.pm_view.specs.declared.change.Change.{Change}
 use Rattle.pm_view.specs.Log.{is_early}
-use Rattle.pm_view.specs.View.{View}
+use Rattle.pm_view.specs.View.{Numbered, View, entry_drawn}
+use Rattle.pm_world.specs.Crash.{is_decided_in}
 use Rattle.pm_world.specs.Runs.{Moment}
-use Rattle.pm_world.specs.World.{Opening, Views}
+use Rattle.pm_world.specs.World.{Opening, Past, Views, numbered_by}
 use Rattle.pm_world.proofs.SoloWorlds.{survivors_are}
 use Rattle.pm_crash.specs.Described.{MemoryHasClasses}
 use Rattle.pm_crash.specs.Facts.{HaveFacts}
+use Rattle.pm_crash.specs.Fates.{AwaitsOne, EndsOpen}
 use Rattle.pm_crash.specs.Footprints.{Footprints}
 use Rattle.pm_crash.specs.Held.{HoldsPool}
 use Rattle.pm_crash.specs.Images.{OpensPool}
-use Rattle.pm_crash.specs.Replayed.{HasFacts}
+use Rattle.pm_crash.specs.Replayed.{HasFacts, HoldsReplay}
 use Rattle.pm_crash.proofs.EntryFacts as entries
 use Rattle.pm_crash.proofs.ImageMeans as images
 use Rattle.pm_crash.proofs.Onward as onward
+use Rattle.pm_crash.proofs.OpenCalls as fates
+use Rattle.pm_crash.proofs.Replaying as replaying
 use Rattle.pm_crash.proofs.RunClasses as classes
 use Rattle.pm_shared.specs.Closings.{Closes}
 use Rattle.pm_shared.specs.declared.rule.Beginning.{Beginning}
-use Rattle.pm_shared.specs.Openings.{idle_view, opening_of}
-use Rattle.pm_lanes.specs.Closed.{AllAreBack, AllHaveFacts, AnsweredCallsAreKept, BackWith}
-use Rattle.pm_lanes.specs.Closed.{ClosedPoolsMeanTheirHistories, KeptImagesSurvive}
+use Rattle.pm_shared.specs.Openings.{opening_of}
+use Rattle.pm_lanes.specs.Closed.{AllAreBack, AllHaveFacts, AnsweredCallsAreKept}
+use Rattle.pm_lanes.specs.Closed.{ClosedPoolsHaveFacts, ClosedPoolsMeanTheirHistories}
+use Rattle.pm_lanes.specs.Closed.{ClosedPoolsReplay, EntriesAreCalls, IsCallOf, KeptImagesSurvive}
+use Rattle.pm_lanes.specs.Closed.{OpenCallsAreJudged, OtherCallsAreKept, keeps_call}
 use Rattle.pm_lanes.specs.Opens.{IsOpened}
 
 -- ---- THE OPENING'S WORDS hold the pool that the image meant
@@ -109,6 +117,10 @@ module _ (b : Beginning) (back : List View) (words : List ℕ) (closed : Closes 
       (λ k l.
       (ap (λ (vs : Views). (vs k).claims) same, ap (λ (vs : Views). (vs k).log.entries) same)))
 
+  awaits : (k : ℕ) → AwaitsOne (last.views k)
+  awaits = fates.runs o closed.run.turns first last closed.run.run
+      (λ k. subst AwaitsOne (sym (ap (λ (vs : Views). vs k) closed.run.begins.views_are)) tt)
+
   -- what is so of each view that came back is so of each lane's view
   of_lanes : (P : View → Type 0) → AllAreBack b.lanes back
       → ((n : ℕ) (v : View) → get_elem? back n ≡ some v → P v)
@@ -131,9 +143,28 @@ means before layout words image b back opened closed all facts_of survives none 
     (footprints b back words closed (again before layout b opened).header.id
     (id_is before layout b opened))
     (described b back words closed)
-    (facts b back words closed (again before layout b opened).header.id (id_is before layout b opened)
-    all facts_of)
+    (facts b back words closed (again before layout b opened).header.id
+    (id_is before layout b opened) all facts_of)
     (opens before layout b opened) survives none
+
+pub replays : ClosedPoolsReplay
+replays before layout words image b back opened closed all facts_of =
+    let held : HoldsReplay (opening_of b) closed.last.past (keeps_call b closed.last image)
+    closed.last.past.length (again before layout b opened).header opened.pool =
+    replaying.history_holds (opening_of b) closed.last.views closed.last.past
+    (again before layout b opened).header opened.pool
+    (footprints b back words closed (again before layout b opened).header.id
+    (id_is before layout b opened))
+    (facts b back words closed (again before layout b opened).header.id
+    (id_is before layout b opened) all facts_of)
+    (opens before layout b opened) (keeps_call b closed.last image)
+    (λ n l e. or_left (closed.last.past.decided n)
+    (is_decided_in image closed.last.views (opening_of b).lanes n) e)
+    closed.last.past.length (omega arith) in
+    (held.last, held.replay)
+
+pub have_facts : ClosedPoolsHaveFacts
+have_facts b back words closed all each = facts b back words closed b.pool refl all each
 
 pub answered : AnsweredCallsAreKept
 answered b back words image n v closed there early call inside of_lane =
@@ -172,3 +203,53 @@ kept b back words image undrained keep closed with_ few is =
         at.lane_is
         (subst (λ (u : View).
         AreUndrained (get_or undrained at.view.fixed.lane []) u.changes) (sym own.1) here))
+
+-- ---- THE FATES OF CALLS
+
+-- the entries of a lane are its calls
+module _ (past : Past) (lane : ℕ) where
+  one_of : (m : ℕ) (b : Bool) → (past.drew m).fixed.lane == lane ≡ b → m < past.length
+      → (e : Numbered) → (Contains (numbered_by lane past.drew m) e → IsCallOf past lane e)
+      → Contains (cond b (entry_drawn m (past.drew m) ∷ numbered_by lane past.drew m)
+      (numbered_by lane past.drew m)) e → IsCallOf past lane e
+  one_of m false is l e earlier there = earlier there
+  one_of m true is l e earlier (zero, low, here) = record {
+    call = m;
+    inside = l;
+    of_lane = eqb-true (past.drew m).fixed.lane lane is;
+    is = sym here;
+  }
+  one_of m true is l e earlier (suc i, low, there) = earlier (i, omega (arith, low), there)
+
+  entry_is : (m : ℕ) → m ≤ past.length → (e : Numbered)
+      → Contains (numbered_by lane past.drew m) e → IsCallOf past lane e
+  entry_is zero l e there = absurd (let low = there.1 in omega (arith, low))
+  entry_is (suc m) l e there =
+      one_of m ((past.drew m).fixed.lane == lane) refl (omega (arith, l)) e
+      (entry_is m (omega (arith, l)) e) there
+
+pub entries_are : EntriesAreCalls
+entries_are b back words n v e closed there among =
+    let own = closed.lanes n v there in
+    entry_is closed.last.past v.fixed.lane closed.last.past.length (omega arith) e
+    (subst (λ (es : List Numbered). Contains es e)
+    (ap (λ (u : View). u.entries) (sym own.1)
+    ∙ (closed.world.each_lane v.fixed.lane own.0).entries) among)
+
+pub others : OtherCallsAreKept
+others b back words image n v number call closed there ends inside of_lane ne =
+    let own = closed.lanes n v there in
+    fates.others (opening_of b) closed.last.mem closed.last.views closed.last.past image number
+    call closed.world inside
+    (subst (EndsOpen number) (sym (ap closed.last.views of_lane ∙ own.1)) ends) ne
+
+pub judges : OpenCallsAreJudged
+judges b back words image undrained n v call closed with_ survives there ends inside of_lane =
+    let own = closed.lanes n v there in
+    fates.judges (opening_of b) closed.last.mem closed.last.views closed.last.past image words
+    (get_or undrained v.fixed.lane []) v.fixed.lane call closed.world
+    (awaits b back words closed v.fixed.lane)
+    survives closed.words_are
+    (subst (λ (u : View). AreUndrained (get_or undrained v.fixed.lane []) u.changes) (sym own.1)
+    (with_.each n v there))
+    inside of_lane (subst (EndsOpen (Some (suc call))) (sym own.1) ends)

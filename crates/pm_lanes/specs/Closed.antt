@@ -1,11 +1,13 @@
 -- WHAT A POOL IS LEFT AS by lanes that ran, came back, and whose table closed, where power fails
 -- then: docs/MODEL.md, "Crash".
-use Rattle.std.specs.Prelude.{◌≡◌, ℕ, ◌<◌, ◌≤◌, All, Bool, true, List, [], length, slice_index_or}
+use Rattle.std.specs.Prelude.{◌≡◌, ◌≢◌, ℕ, suc, ◌<◌, ◌≤◌, All, Bool, true, Contains, List, []}
+use Rattle.std.specs.Prelude.{length, slice_index_or, Option, Some}
 use mathlib.Core.Option.{some}
 use lib.ListN.{get_elem?}
 use Rattle.pm_crash.specs.Facts.{HaveFacts}
+use Rattle.pm_crash.specs.Fates.{EndsOpen, is_judged_kept}
 use Rattle.pm_crash.specs.Images.{MeansReplay}
-use Rattle.pm_crash.specs.Replayed.{kept_calls, kept_pending}
+use Rattle.pm_crash.specs.Replayed.{HasFacts, Replay, kept_calls, kept_pending}
 use Rattle.pm_memory.specs.Changes.{AreUndrained}
 use Rattle.pm_memory.specs.Keep.{IsKeptImage}
 use Rattle.pm_objects.specs.declared.pool.PoolView.{PoolView}
@@ -15,9 +17,10 @@ use Rattle.pm_shared.specs.Openings.{opening_of}
 use Rattle.pm_view.specs.Changes.{IsFormed}
 use Rattle.pm_view.specs.declared.change.Change.{Change}
 use Rattle.pm_view.specs.Log.{is_early}
-use Rattle.pm_view.specs.View.{View}
+use Rattle.pm_view.specs.View.{Numbered, View, entry_drawn}
 use Rattle.pm_world.specs.Crash.{NoneTorn, Survives, is_kept}
 use Rattle.pm_world.specs.Runs.{Moment}
+use Rattle.pm_world.specs.World.{Past}
 use Rattle.pm_lanes.specs.Opens.{IsOpened}
 
 -- ---- LANES CAME BACK
@@ -65,6 +68,12 @@ MeansHistory b last pool image = MeansReplay image b.shape.lanes b.shape.zones p
     (kept_calls (keeps_call b last image) last.past.drew last.past.length)
     (kept_pending (keeps_call b last image) last.past.drew last.past.length)
 
+-- the calls that the image does not lose lead from this pool to some pool
+abbrev pub ReplaysHistory : Beginning → Moment → PoolView → List ℕ → Type 0
+ReplaysHistory b last pool image = (r : PoolView)
+    × Replay pool (kept_calls (keeps_call b last image) last.past.drew last.past.length) r
+    (kept_pending (keeps_call b last image) last.past.drew last.past.length)
+
 -- ---- THE LAWS
 
 -- WHAT A KEEP NUMBER LEAVES of the words may survive, where all lanes came back with these changes
@@ -84,6 +93,19 @@ ClosedPoolsMeanTheirHistories = (before layout words image : List ℕ) (b : Begi
     → MaySurvive b closed.last image → NoRecordTorn b closed.last image
     → MeansHistory b closed.last opened.pool image
 
+-- WHATEVER IS TORN, the calls that an image does not lose lead from the pool that was opened to
+-- some pool; and each call of the history has its fact
+abbrev pub ClosedPoolsReplay : Type 0
+ClosedPoolsReplay = (before layout words image : List ℕ) (b : Beginning) (back : List View)
+    → (opened : IsOpened before layout b.words.items b.shape b.pool)
+    → (closed : Closes b back words) → AllAreBack b.lanes back → AllHaveFacts back
+    → ReplaysHistory b closed.last opened.pool image
+
+abbrev pub ClosedPoolsHaveFacts : Type 0
+ClosedPoolsHaveFacts = (b : Beginning) (back : List View) (words : List ℕ)
+    → (closed : Closes b back words) → AllAreBack b.lanes back → AllHaveFacts back
+    → HasFacts closed.last.past
+
 -- A LANE THAT CAME BACK BETWEEN TWO CALLS, or in one without a number yet, has no call that an
 -- image loses
 abbrev pub AnsweredCallsAreKept : Type 0
@@ -92,3 +114,37 @@ AnsweredCallsAreKept = (b : Beginning) (back : List View) (words image : List �
     → is_early v.log.phase ≡ true → (call : ℕ) → call < closed.last.past.length
     → (closed.last.past.drew call).fixed.lane ≡ v.fixed.lane
     → keeps_call b closed.last image call ≡ true
+
+-- ---- THE FATES OF CALLS
+
+-- the entry is call `call` of the history, by this lane
+pub record IsCallOf (past : Past) (lane : ℕ) (e : Numbered) : Type 0 where
+  pub call : ℕ
+  pub inside : call < past.length
+  pub of_lane : (past.drew call).fixed.lane ≡ lane
+  pub is : e ≡ entry_drawn call (past.drew call)
+
+-- each entry of a lane that came back is a call of the history
+abbrev pub EntriesAreCalls : Type 0
+EntriesAreCalls = (b : Beginning) (back : List View) (words : List ℕ) (n : ℕ) (v : View)
+    (e : Numbered) → (closed : Closes b back words) → get_elem? back n ≡ some v
+    → Contains v.entries e → IsCallOf closed.last.past v.fixed.lane e
+
+-- EACH CALL OF A LANE BUT ITS OPEN ONE is kept by every image
+abbrev pub OtherCallsAreKept : Type 0
+OtherCallsAreKept = (b : Beginning) (back : List View) (words image : List ℕ) (n : ℕ) (v : View)
+    (number : Option ℕ) (call : ℕ) → (closed : Closes b back words) → get_elem? back n ≡ some v
+    → EndsOpen number v → call < closed.last.past.length
+    → (closed.last.past.drew call).fixed.lane ≡ v.fixed.lane → number ≢ Some (suc call)
+    → keeps_call b closed.last image call ≡ true
+
+-- OF THE OPEN ONE the words and what the lane has undrained tell whether an image that may survive
+-- keeps it
+abbrev pub OpenCallsAreJudged : Type 0
+OpenCallsAreJudged = (b : Beginning) (back : List View) (words image : List ℕ)
+    (undrained : List (List Change)) (n : ℕ) (v : View) (call : ℕ)
+    → (closed : Closes b back words) → BackWith back undrained → MaySurvive b closed.last image
+    → get_elem? back n ≡ some v → EndsOpen (Some (suc call)) v → call < closed.last.past.length
+    → (closed.last.past.drew call).fixed.lane ≡ v.fixed.lane
+    → keeps_call b closed.last image call
+    ≡ is_judged_kept b.shape words (slice_index_or undrained v.fixed.lane []) image v.fixed.lane

@@ -1,14 +1,29 @@
 ghost use Rattle.pm_lanes.specs.Closed.{AnsweredCallsAreKept, ClosedPoolsMeanTheirHistories};
+ghost use Rattle.pm_lanes.specs.Closed.{ClosedPoolsHaveFacts, ClosedPoolsReplay};
 ghost use Rattle.pm_lanes.specs.Closed.{KeptImagesSurvive};
+ghost use Rattle.pm_lanes.specs.Closed.{EntriesAreCalls, OpenCallsAreJudged, OtherCallsAreKept};
 
 /// A law: of a pool that was opened, whose lanes all came back, each with facts for its calls, and
 /// whose table closed, every image that a power failure may leave means its history: the pool to
 /// which the calls lead that it does not lose, one whole call after another, from the pool that
 /// was opened; unless a record is torn that a lane was writing. A lane that came back between two
 /// calls has no call that an image loses. What a keep number leaves of the words is such an image.
-/// No code runs.
+/// Where records are torn, too, the calls that an image does not lose lead to some pool, and each
+/// call of the history has its fact. No code runs.
 pub fn closed_pools_mean_their_histories()
     ensures means { ClosedPoolsMeanTheirHistories }
     ensures answered { AnsweredCallsAreKept }
     ensures kept { KeptImagesSurvive }
+    ensures replays { ClosedPoolsReplay }
+    ensures facts { ClosedPoolsHaveFacts }
+{}
+
+/// A law: where the table of a pool closed, whether an image that may survive keeps the call that
+/// a lane came back with open is told from the lane's seal and generation: in the image, and in the
+/// words as they would be if all that the lane has undrained were lost. Each other call of the
+/// lane is kept by every image; and each entry of the lane is a call of the history. No code runs.
+pub fn open_calls_are_judged()
+    ensures entries { EntriesAreCalls }
+    ensures others { OtherCallsAreKept }
+    ensures open_call { OpenCallsAreJudged }
 {}

@@ -22,7 +22,7 @@ mod opening;
 mod solo;
 
 pub use fault::OpenFault;
-pub use laws::closed_pools_mean_their_histories;
+pub use laws::{closed_pools_mean_their_histories, open_calls_are_judged};
 pub use opening::open;
 pub use solo::open_solo;
 

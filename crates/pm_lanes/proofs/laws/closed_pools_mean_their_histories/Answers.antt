@@ -9,3 +9,9 @@ returns-clause-answered _ = closed.answered
 
 pub returns-clause-kept : goal.returns-clause-kept
 returns-clause-kept _ = closed.kept
+
+pub returns-clause-replays : goal.returns-clause-replays
+returns-clause-replays _ = closed.replays
+
+pub returns-clause-facts : goal.returns-clause-facts
+returns-clause-facts _ = closed.have_facts
