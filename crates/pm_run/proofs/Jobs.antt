@@ -37,6 +37,18 @@ module _ {A : Type 0} where
   newest_there [] x = refl
   newest_there (z ∷ xs) x = newest_there xs x
 
+  -- what is so of each item and of one more is so of each of all
+  pub one_more_each : (P : ℕ → A → Type 0) (xs : List A) (x : A)
+      → ((k : ℕ) (d : A) → k < length xs → P k (get_or xs k d)) → P (length xs) x
+      → (k : ℕ) (d : A) → k < length (xs ++ x ∷ []) → P k (get_or (xs ++ x ∷ []) k d)
+  one_more_each P xs x each more k d l = ⊎_elim
+      (λ (e : k ≡ length xs). subst (λ n. P n (get_or (xs ++ x ∷ []) n d)) (sym e)
+      (subst (P (length xs)) (sym (next_item xs [] x d)) more))
+      (λ (ne : k ≢ length xs).
+      let low : k < length xs = let n = length_push xs x in omega (arith, l, n, ne) in
+      subst (P k) (sym (older xs x d k low)) (each k d low))
+      (cases_eq k (length xs))
+
   -- what was yielded, with the rest, is the whole
   pub next_of : (xs ys zs : List A) (x d : A) → xs ++ x ∷ ys ≡ zs → get_or zs (length xs) d ≡ x
   next_of xs ys zs x d e = ap (λ (l : List A). get_or l (length xs) d) (sym e) ∙ next_item xs ys x d
@@ -143,8 +155,8 @@ module _ {W : Type 0} (left : W → W → View → Type 0) (before : List W) whe
         view = is.ran.view;
         there = older_there back v is.ran.view k is.ran.there;
         lane_is = is.ran.lane_is;
-        so = subst (λ (x : W). left (get_or before k w) x is.ran.view)
-            (sym (older after work w k l)) is.ran.so;
+        work_says = subst (λ (x : W). left (get_or before k w) x is.ran.view)
+            (sym (older after work w k l)) is.ran.work_says;
       };
       facts = is.facts;
       drained = subst (λ (cs : List Change). AreUndrained cs is.ran.view.changes)
@@ -161,7 +173,7 @@ module _ {W : Type 0} (left : W → W → View → Type 0) (before : List W) whe
           there = subst (λ n. get_elem? (back ++ v ∷ []) n ≡ some v) are.views
               (newest_there back v);
           lane_is = lane_is;
-          so = subst (λ (x : W). left (get_or before (length after) w) x v)
+          work_says = subst (λ (x : W). left (get_or before (length after) w) x v)
               (sym (next_item after [] work w)) (so w);
         };
         facts = facts;
@@ -208,4 +220,4 @@ module _ {N W : Type 0} (left : W → W → View → Type 0) (before : List W)
       (sym (ap (λ n. get_or before n w) count
       ∙ get_or_default before (length yielded) w job.work
       (subst (λ n. length yielded < n) done.count (fewer yielded rest jobs job all))))
-      next_done.so)
+      next_done.work_says)

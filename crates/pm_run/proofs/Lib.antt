@@ -1,2 +1,3 @@
 mod Jobs
+mod Flags
 mod Runs

@@ -1,6 +1,6 @@
 -- What lanes leave that ran works, once all came back and the table closed.
-use Rattle.std.proofs.Common.{◌≡◌, ℕ, zero, suc, ◌<◌, ◌≤◌, List, [], ◌∷◌, length, get_or}
-use Rattle.std.proofs.Common.{refl, sym, ap, ◌∙◌, subst, arith}
+use Rattle.std.proofs.Common.{◌≡◌, ℕ, zero, suc, ◌<◌, Bool, List, [], ◌∷◌, length, get_or}
+use Rattle.std.proofs.Common.{sym, ◌∙◌, subst, arith}
 use mathlib.Core.Option.{some, some-injective, some-ne-none}
 use lib.ListN.{get_elem?}
 use Rattle.pm_crash.specs.Facts.{HaveFacts}
@@ -11,6 +11,7 @@ use Rattle.pm_shared.specs.Closings.{Closes}
 use Rattle.pm_shared.specs.declared.rule.Beginning.{Beginning}
 use Rattle.pm_view.specs.View.{View}
 use Rattle.pm_view.specs.declared.change.Change.{Change}
+use Rattle.pm_run.specs.Fates.{AreJudged}
 use Rattle.pm_run.specs.Jobs.{AreBack, LaneBack}
 use Rattle.pm_run.specs.Runs.{HaveRun}
 use Rattle.pm_run.proofs.Jobs.{some_item}
@@ -46,8 +47,8 @@ module _ {W : Type 0} (left : W → W → View → Type 0) (before : List W) (ba
   all_facts n v there =
       subst HaveFacts (same n v there) (at_lane n (at_place n v there)).facts
 
-  back_with : BackWith back undrained
-  back_with = record {
+  all_with : BackWith back undrained
+  all_with = record {
     all = all_back (length undrained) (sym are.lists);
     each = λ n v there. let is = at_lane n (at_place n v there) in
         subst (λ (u : View). AreUndrained (get_or undrained u.fixed.lane []) u.changes)
@@ -58,9 +59,10 @@ module _ {W : Type 0} (left : W → W → View → Type 0) (before : List W) (ba
   }
 
   pub have_run : KeptImagesSurvive → (b : Beginning) (words image : List ℕ) (keep : ℕ)
-      → length after ≡ b.lanes → Closes b back words → IsKeptImage keep words undrained image
-      → HaveRun left b keep before after image
-  have_run survive b words image keep count closed is = record {
+      → (flags : List Bool) → length after ≡ b.lanes → Closes b back words
+      → IsKeptImage keep words undrained image → AreJudged b.shape words undrained image flags
+      → HaveRun left b keep before after image flags
+  have_run survive b words image keep flags count closed is judged = record {
     back = back;
     words = words;
     closed = closed;
@@ -68,11 +70,12 @@ module _ {W : Type 0} (left : W → W → View → Type 0) (before : List W) (ba
     facts = all_facts;
     undrained = undrained;
     count = are.lists ∙ count;
-    with_ = back_with;
+    back_with = all_with;
     kept = is;
-    survives = survive b back words image undrained keep closed back_with
+    survives = survive b back words image undrained keep closed all_with
         (let n : length undrained ≡ b.lanes = are.lists ∙ count in omega (arith, n)) is;
     size = is.size ∙ closed.size;
+    judged = judged;
     works = count;
     each = λ k w l. (are.each k w (subst (λ n. k < n) (sym count) l)).ran;
   }

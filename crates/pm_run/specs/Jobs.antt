@@ -41,7 +41,7 @@ pub record IsDone {N W : Type 0} (left : W → W → View → Type 0) (k : ℕ) 
   pub seen : IsSeen job.lane.memory view
   pub facts : HaveFacts view
   pub lane_is : view.fixed.lane ≡ k
-  pub so : left before job.work view
+  pub work_says : left before job.work view
 
 -- each job is what its thread left of it
 abbrev pub AllRan : {N W : Type 0} → (W → W → View → Type 0) → List (Job N W) → List (Job N W)

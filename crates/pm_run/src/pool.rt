@@ -8,10 +8,10 @@ ghost use Rattle.pm_shared.specs.Openings.{CanBegin, pool_of, pool_with};
 ghost use Rattle.pm_shared.specs.Seats.{IsSeen};
 
 use crate::Work;
+use crate::fates::crash_judged;
 use crate::job::{Job, run_jobs};
 use pm_lanes::closed_pools_mean_their_histories;
 use pm_layout::Shape;
-use pm_memory::crash;
 use pm_shared::{Beginning, PoolSeat, SharedLane, SharedMem, TableName};
 use pm_view::Change;
 use pm_world::Lane;
@@ -25,6 +25,9 @@ use std::thread::Threads;
 pub struct Ran<W> {
     pub image: Vec<u64>,
     pub works: Vec<W>,
+    /// Of each lane, whether the image keeps the call that the lane has open: a call that has its
+    /// number and is not answered. Of a lane without such a call it says nothing.
+    pub kept: Vec<bool>,
 }
 
 /// The memory that lanes share, with the pool's id and shape.
@@ -141,11 +144,13 @@ fn run_on<N: TableName + Send + Sync, R: Threads + Wait + Sync, W: Work + Send +
     requires works { length works.items ≡ pool.memory.table.shared.key.lanes }
     requires seat { seat.me ≡ pool_of pool.memory.table.shared.key 0 [] }
     ensures { IfOk result (λ ran. HaveRun W.left pool.memory.table.shared.key keep works.items
-        ran.works.items ran.image.items) }
+        ran.works.items ran.image.items ran.kept.items) }
 {
     let mut seat = seat;
     let mut undrained = Vec::with_capacity(alloc, works.len())?;
     let mut done = Vec::with_capacity(alloc, works.len())?;
+    let mut logs = Vec::with_capacity(alloc, works.len())?;
+    let mut kept = Vec::with_capacity(alloc, works.len())?;
     let mut jobs = hand_out::<N, W>(alloc, &pool, &mut seat, works)?;
     run_all(rt, &mut jobs);
     take_back(&mut seat, jobs, &mut undrained, &mut done);
@@ -153,17 +158,29 @@ fn run_on<N: TableName + Send + Sync, R: Threads + Wait + Sync, W: Work + Send +
     let Pool {
         memory,
         id: _,
-        shape: _,
+        shape,
     } = pool;
     let words = memory.close(seat);
-    let image = crash(words, undrained.as_slice(), keep);
-    Ok(Ran { image, works: done })
+    let image = crash_judged(
+        words,
+        undrained.as_slice(),
+        shape,
+        keep,
+        &mut logs,
+        &mut kept,
+    );
+    Ok(Ran {
+        image,
+        works: done,
+        kept,
+    })
 }
 
 /// Runs the works on the lanes of a pool, work k on lane k, each in a thread of its own, and gives
 /// the image that the lanes leave where power fails at the end: of each lane's undrained changes as
-/// many are kept as `keep` says (docs/FORMAT.md, "Keep"). All memory is taken before the first work
-/// runs. Where no thread can be made works run one after another.
+/// many are kept as `keep` says (docs/FORMAT.md, "Keep"). Of each lane it tells whether the image
+/// keeps the call that the lane has open. All memory is taken before the first work runs. Where no
+/// thread can be made works run one after another.
 ///
 /// # Errors
 ///
@@ -178,7 +195,8 @@ pub fn run_lanes<R: Threads + Wait + Sync, W: Work + Send + Drop>(
     requires begins { CanBegin beginning }
     requires works { length works.items ≡ beginning.lanes }
     ensures { IfOk result
-        (λ ran. HaveRun W.left beginning keep works.items ran.works.items ran.image.items) }
+        (λ ran. HaveRun W.left beginning keep works.items ran.works.items ran.image.items
+        ran.kept.items) }
 {
     let id = beginning.pool;
     let shape = beginning.shape;

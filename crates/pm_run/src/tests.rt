@@ -49,7 +49,8 @@ fn two_lanes(alloc: Global) -> Result<Beginning, Fail>
     }
 }
 
-/// Each work runs once, on a lane of its own, and the image is the recovered words.
+/// Each work runs once, on a lane of its own; the image is the recovered words, and has no lane's
+/// open call.
 #[test]
 fn idle_lanes_change_nothing(rt: HostRuntime) -> Result<(), Fail> {
     for keep in 0..3 {
@@ -61,6 +62,7 @@ fn idle_lanes_change_nothing(rt: HostRuntime) -> Result<(), Fail> {
         let ran = run_lanes(&rt, rt.alloc(), beginning, works, keep)?;
         assert!(rt; ran.image.as_slice() == before.as_slice());
         assert!(rt; ran.works.iter().all(|work| work.runs == 1));
+        assert!(rt; ran.kept.len() == 2 && ran.kept.iter().all(|kept| !*kept));
     }
     Ok(())
 }

@@ -9,5 +9,5 @@ returns g c = let x = c.run.ensures c.args.self.now.number c.requires in record 
   seen = x.0.seen;
   facts = x.0.facts;
   lane_is = x.1;
-  so = x.2;
+  work_says = x.2;
 }
