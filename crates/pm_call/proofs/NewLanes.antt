@@ -16,6 +16,7 @@ use Rattle.pm_plan.proofs.AreaParts.{part_generation, part_seal}
 use Rattle.pm_call.specs.Histories.{nothing_told}
 use Rattle.pm_call.specs.Stages.{IsBetween}
 use Rattle.pm_call.specs.Standing.{Stands, StandsWith}
+use Rattle.pm_call.proofs.OpenedCalls.{between_may_open}
 use Rattle.pm_call.proofs.Standing.{idle_stands, stands_so}
 
 module _ (fixed : Constants) (generation : ℕ) where
@@ -96,12 +97,7 @@ module _ (fixed : Constants) (generation : ℕ) where
         → Rests at lane (unused (opened fixed generation) none) → StandsWith at lane (nothing_told fixed.lane)
     new_stands at lane rests = idle_stands at lane (nothing_told fixed.lane)
         (unused (opened fixed generation) none) refl rests
-        (record {
-          before = unused (opened fixed generation) none;
-          between = new_between;
-          saw = [];
-          since = refl;
-        })
+        (between_may_open (unused (opened fixed generation) none) new_between)
         refl refl
 
 -- SO A LANE STANDS over a memory of which nothing was asked, and told nothing

@@ -1,14 +1,14 @@
 -- A CALL OPENS as its lane, between two calls, sees a number; and a lane whose call is open takes the locks that are wanted and begins the outermost level.
-use Rattle.std.proofs.Common.{◌≡◌, ℕ, ◌<◌, List, [], ◌∷◌, refl, sym, ap, subst, arith, None, inl, ◌+◌, ◌≤◌, nat_le, true, false, not, ◌==◌, ◌++◌, ◌∙◌}
+use Rattle.std.proofs.Common.{◌≡◌, ℕ, ◌<◌, List, [], ◌∷◌, refl, sym, ap, subst, arith, None, inl, inr, ⊎_elim, ◌⊎◌, ◌+◌, ◌≤◌, nat_le, true, false, not, ◌==◌, ◌++◌, ◌∙◌}
 use Rattle.std.specs.List.{AllByRecursion, Contains}
 use Rattle.pm_layout.specs.Areas.{greatest_generation}
 use Rattle.pm_view.specs.Changes.{Undrained}
-use Rattle.pm_view.specs.Log.{Log, Open, Phase, new_log}
+use Rattle.pm_view.specs.Log.{Log, Phase}
 use Rattle.pm_view.specs.Places.{Small, Big, Root, Place}
 use Rattle.pm_view.specs.Steps.{Step}
 use Rattle.pm_view.specs.Steps.Step.{NumberSeen}
 use Rattle.pm_view.specs.View.{Constants, View, Told}
-use Rattle.pm_view.specs.Views.{after, begun, with_seen}
+use Rattle.pm_view.specs.Views.{begun, with_seen}
 use Rattle.pm_world.specs.InWorld.{SizesFit}
 use Rattle.pm_world.specs.LaneFields.{Standing, moved, kept_of}
 use Rattle.pm_world.specs.declared.lane.HeldLock.{HeldLock}
@@ -17,7 +17,7 @@ use Rattle.pm_call.specs.Did.{IsOver}
 use Rattle.pm_call.specs.Held.{HoldsAll, AreHeld, has_line, is_in_locks}
 use Rattle.pm_call.specs.Locking.{CallsMayOpen, IsOpened, AgreesOn, CanLock, OpenedLanesMayLock, TransactionsMayBegin, LeadsLocks, TakesLocks, to_take}
 use Rattle.pm_call.specs.Stages.{IsBetween}
-use Rattle.pm_call.specs.Between.{LookedCallsMayOpen, MayOpen, saw_number, saw_numbers}
+use Rattle.pm_call.specs.Between.{LookedCallsMayOpen, MayOpen, opened_with, saw_number}
 use Rattle.pm_call.proofs.Staying.{holds_with, pending_opened}
 use Rattle.std.specs.Prelude.{length, map}
 use Rattle.std.proofs.lemmas.Bool.{and_left, and_right, both_ways}
@@ -38,16 +38,12 @@ use Rattle.pm_undo.specs.Spans as spans
 first_seen : (x : Step) (seen : List Step) → Contains (x ∷ seen) x
 first_seen x seen = (0, omega arith, refl)
 
--- the view once the call is open, having seen these
-abbrev pub open_view : Standing → List Step → View
-open_view s seen = record s.view { log = new_log Open s.view.log.generation; seen = seen; call = []; number = None; published = [] }
-
 module _ (s : Standing) (n : ℕ) (earlier : List Step) (is : IsBetween s) (more : s.view.log.generation < greatest_generation s.view.fixed.shape) (below : n < greatest_generation s.view.fixed.shape) where
   abbrev over : IsOver s
   over = is.over
 
   abbrev next : View
-  next = open_view s (NumberSeen n ∷ earlier)
+  next = (opened_with s (NumberSeen n ∷ earlier)).view
 
   sizes : SizesFit next
   sizes (Small c i) = over.sizes (Small c i)
@@ -88,47 +84,37 @@ module _ (s : Standing) (n : ℕ) (earlier : List Step) (is : IsBetween s) (more
   }
 
 -- it opens as the lane looks for the first time, and stays so as it looks again
-abbrev pub numbers_seen : List ℕ → List Step
-numbers_seen [] = []
-numbers_seen (n ∷ ns) = NumberSeen n ∷ numbers_seen ns
-
-pub saw_open : (s : Standing) → IsBetween s → (n : ℕ) (ns : List ℕ) → after (saw_numbers s ns).view (NumberSeen n) ≡ open_view s (NumberSeen n ∷ numbers_seen ns)
-saw_open s is n [] = ap (λ (ph : Phase). with_seen (NumberSeen n) (begun ph s.view)) (ap (λ (l : Log). l.phase) is.over.log)
-saw_open s is n (m ∷ ms) = ap (λ (v : View). after v (NumberSeen n)) (saw_open s is m ms)
+saw_first : (s : Standing) → IsBetween s → (n : ℕ) → saw_number s n ≡ opened_with s (NumberSeen n ∷ [])
+saw_first s is n = ap (λ (ph : Phase). moved s (with_seen (NumberSeen n) (begun ph s.view))) (ap (λ (l : Log). l.phase) is.over.log)
 
 pub calls_may_open : CallsMayOpen
-calls_may_open s n is more below = subst (λ (y : View). IsOpened (moved s y)) (sym (saw_open s is n [])) (opened s n [] is more below)
-
-pub looks_keep : (s : Standing) → IsBetween s → (ns : List ℕ) → ((saw_numbers s ns).view.log.generation ≡ s.view.log.generation) × (saw_numbers s ns ≡ moved s (saw_numbers s ns).view) × ((saw_numbers s ns).view.fixed ≡ s.view.fixed)
-looks_keep s is [] = (refl, refl, refl)
-looks_keep s is (n ∷ ns) = (
-  ap (λ (v : View). v.log.generation) (saw_open s is n ns),
-  ap (λ (t : Standing). moved t (after (saw_numbers s ns).view (NumberSeen n))) (looks_keep s is ns).1,
-  ap (λ (v : View). v.fixed) (saw_open s is n ns),
-)
+calls_may_open s n is more below = subst IsOpened (sym (saw_first s is n)) (opened s n [] is more below)
 
 pub between_may_open : (s : Standing) → IsBetween s → MayOpen s
-between_may_open s is = record { before = s; between = is; saw = []; since = refl }
+between_may_open s is = record { before = s; between = is; since = inl refl }
+
+pub saw_open : (s : Standing) (n : ℕ) → (may : MayOpen s) → (earlier : List Step) × (saw_number s n ≡ opened_with may.before (NumberSeen n ∷ earlier))
+saw_open s n may = ⊎_elim
+    (λ (e : s ≡ may.before). ([], ap (λ (t : Standing). saw_number t n) e ∙ saw_first may.before may.between n))
+    (λ (z : (seen : List Step) × (s ≡ opened_with may.before seen)). (z.0, ap (λ (t : Standing). saw_number t n) z.1))
+    may.since
 
 pub look_may_open : (s : Standing) (n : ℕ) → MayOpen s → MayOpen (saw_number s n)
-look_may_open s n may = record { before = may.before; between = may.between; saw = n ∷ may.saw; since = ap (λ (t : Standing). saw_number t n) may.since }
+look_may_open s n may = let o = saw_open s n may in record { before = may.before; between = may.between; since = inr (NumberSeen n ∷ o.0, o.1) }
 
 pub looked_calls_may_open : LookedCallsMayOpen
-looked_calls_may_open s n may more below = subst Opens (sym may.since) opens more below where
-  Opens : Standing → Type 0
-  Opens t = t.view.log.generation < greatest_generation t.view.fixed.shape → n < greatest_generation t.view.fixed.shape → IsOpened (saw_number t n)
-
-  same : saw_number (saw_numbers may.before may.saw) n ≡ moved may.before (open_view may.before (NumberSeen n ∷ numbers_seen may.saw))
-  same = ap (λ (t : Standing). moved t (after (saw_numbers may.before may.saw).view (NumberSeen n))) (looks_keep may.before may.between may.saw).1
-      ∙ ap (moved may.before) (saw_open may.before may.between n may.saw)
-
-  opens : Opens (saw_numbers may.before may.saw)
-  opens more_then below_then =
-      let k = looks_keep may.before may.between may.saw in
-      let fewer = subst (λ g. g < greatest_generation (saw_numbers may.before may.saw).view.fixed.shape) k.0 more_then in
-      subst IsOpened (sym same) (opened may.before n (numbers_seen may.saw) may.between
-      (subst (λ (f : Constants). may.before.view.log.generation < greatest_generation f.shape) k.2 fewer)
-      (subst (λ (f : Constants). n < greatest_generation f.shape) k.2 below_then))
+looked_calls_may_open s n may more below =
+    let o = saw_open s n may in
+    let b = kept may.since in
+    subst IsOpened (sym o.1) (opened may.before n o.0 may.between
+    (subst (λ (f : Constants). may.before.view.log.generation < greatest_generation f.shape) b.1 (subst (λ g. g < greatest_generation s.view.fixed.shape) b.0 more))
+    (subst (λ (f : Constants). n < greatest_generation f.shape) b.1 below))
+  where
+    kept : (s ≡ may.before) ⊎ ((seen : List Step) × (s ≡ opened_with may.before seen)) → (s.view.log.generation ≡ may.before.view.log.generation) × (s.view.fixed ≡ may.before.view.fixed)
+    kept since = ⊎_elim
+        (λ (e : s ≡ may.before). (ap (λ (t : Standing). t.view.log.generation) e, ap (λ (t : Standing). t.view.fixed) e))
+        (λ (z : (seen : List Step) × (s ≡ opened_with may.before seen)). (ap (λ (t : Standing). t.view.log.generation) z.1, ap (λ (t : Standing). t.view.fixed) z.1))
+        since
 
 -- ---- THE OUTERMOST LEVEL BEGINS in an open call
 module _ (s : Standing) (op : IsOpened s) where

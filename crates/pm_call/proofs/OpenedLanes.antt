@@ -1,48 +1,44 @@
 -- WHAT OPENING A CALL leaves of a lane.
-use Rattle.std.proofs.Common.{◌≡◌, inl, inr, ℕ, ◌^◌, ◌<◌, ◌≤◌, true, List, [], ◌∷◌, map, refl, sym, ap, ◌∙◌, arith, Ok, Err}
+use Rattle.std.proofs.Common.{◌≡◌, inl, inr, ⊎_elim, ℕ, ◌^◌, ◌<◌, ◌≤◌, true, List, ◌∷◌, map, sym, ap, ◌∙◌, arith, Ok, Err}
 use Rattle.pm_memory.specs.Runs.{Made}
 use Rattle.pm_objects.specs.declared.refusal.Refusal.TheVariants as refusal
 use Rattle.pm_view.specs.Log.{Log, is_early}
 use Rattle.pm_view.specs.Steps.{Step}
 use Rattle.pm_view.specs.Steps.Step.{NumberSeen}
 use Rattle.pm_view.specs.View.{View}
-use Rattle.pm_view.specs.Views.{after}
-use Rattle.pm_world.specs.LaneFields.{Fields, Rests, Standing, at_rest, kept_of, moved}
+use Rattle.pm_world.specs.LaneFields.{Fields, Rests, Standing, at_rest, kept_of}
 use Rattle.pm_world.specs.Lawful.{Allowed}
 use Rattle.pm_world.specs.declared.lane.Lane.{Lane}
-use Rattle.pm_call.specs.Between.{IsLaneBetween, MayOpen, saw_number, saw_numbers}
+use Rattle.pm_call.specs.Between.{IsLaneBetween, MayOpen, opened_with, saw_number}
 use Rattle.pm_call.specs.Opening.{CallOpened}
 use Rattle.pm_call.specs.Stages.{IsBetween}
-use Rattle.pm_call.proofs.OpenedCalls.{looked_calls_may_open, looks_keep, saw_open}
+use Rattle.pm_call.proofs.OpenedCalls.{looked_calls_may_open, saw_open}
 
 -- ---- A CALL OPENS
 
--- a look at the number leaves the lane's fields
-module _ (s : Standing) (is : IsBetween s) where
-  rests_numbers : (ns : List ℕ) → at_rest (saw_numbers s ns) ≡ at_rest s
-  rests_numbers [] = refl
-  rests_numbers (n ∷ ns) = ap (λ (t : Standing). at_rest
-      (moved t (after (saw_numbers s ns).view (NumberSeen n)))) (looks_keep s is ns).1
-      ∙ (ap (λ (v : View). at_rest (moved s v)) (saw_open s is n ns)
-      ∙ sym (ap (λ (l : Log). record (at_rest s) {
-        records = map (kept_of s.view.fixed.shape)
-            l.records;
-      }) is.over.log))
+-- an open call in which nothing is done leaves the lane's fields
+rests_open : (s : Standing) → IsBetween s → (seen : List Step)
+    → at_rest (opened_with s seen) ≡ at_rest s
+rests_open s is seen = sym (ap (λ (l : Log). record (at_rest s) {
+  records = map (kept_of s.view.fixed.shape) l.records;
+}) is.over.log)
 
-  early_numbers : (ns : List ℕ) → is_early (saw_numbers s ns).view.log.phase ≡ true
-  early_numbers [] = ap (λ (l : Log). is_early l.phase) is.over.log
-  early_numbers (n ∷ ns) = ap (λ (v : View). is_early v.log.phase) (saw_open s is n ns)
+module _ (s : Standing) (may : MayOpen s) where
+  pub rests_since : at_rest s ≡ at_rest may.before
+  rests_since = ⊎_elim (λ e. ap at_rest e)
+      (λ z. ap at_rest z.1 ∙ rests_open may.before may.between z.0) may.since
 
-module _ (s : Standing) (open_ : MayOpen s) where
-  rests_so : (n : ℕ) → at_rest (saw_number s n) ≡ at_rest s
-  rests_so n = ap (λ (t : Standing). at_rest (saw_number t n)) open_.since
-      ∙ (rests_numbers open_.before open_.between (n ∷ open_.saw)
-      ∙ (sym (rests_numbers open_.before open_.between open_.saw)
-      ∙ ap at_rest (sym open_.since)))
+  pub rests_so : (n : ℕ) → at_rest (saw_number s n) ≡ at_rest s
+  rests_so n =
+      let o = saw_open s n may in
+      ap at_rest o.1
+      ∙ (rests_open may.before may.between (NumberSeen n ∷ o.0) ∙ sym rests_since)
 
   early : is_early s.view.log.phase ≡ true
-  early = ap (λ (t : Standing). is_early t.view.log.phase) open_.since
-      ∙ early_numbers open_.before open_.between open_.saw
+  early = ⊎_elim
+      (λ e. ap (λ (t : Standing). is_early t.view.log.phase) e
+      ∙ ap (λ (l : Log). is_early l.phase) may.between.over.log)
+      (λ z. ap (λ (t : Standing). is_early t.view.log.phase) z.1) may.since
 
 module _ {M : Type 0} (at : M → View → Type 0) (old : Lane M) where
   pub may_see : IsLaneBetween at old → (n : ℕ) → (v : View) × at old.memory v

@@ -1,7 +1,7 @@
 -- THE ENTRIES OF A LANE THAT STOPPED HAVE THEIR FACTS. A step puts an entry before those that are
 -- there, or leaves them; so where those after some steps have their facts, those of each view on the
 -- way have them.
-use Rattle.std.proofs.Common.{ℕ, zero, suc, Bool, true, false, List, [], ◌∷◌, ◌++◌, take, sym, ◌∙◌, subst}
+use Rattle.std.proofs.Common.{ℕ, zero, suc, Bool, true, false, List, [], ◌∷◌, ◌++◌, take, sym, ◌∙◌, subst, ⊎_elim}
 use Rattle.pm_objects.specs.declared.calls.Want.{Want}
 use Rattle.pm_view.specs.declared.occ.Occ.{Occ}
 use Rattle.pm_view.specs.Log.{Phase, Idle, Open, Drawn, Sealing, Applying, Clearing, Retiring, Voiding}
@@ -17,7 +17,7 @@ use Rattle.pm_lock.specs.Steps.{refusals, stops, takes}
 use Rattle.pm_lock.proofs.Holds.{waits_taken}
 use Rattle.pm_lock.proofs.Waiting.{all_then, refusals_try, twice_more}
 use Rattle.pm_plan.specs.Plans.{Plan}
-use Rattle.pm_call.specs.Between.{MayOpen, saw_numbers}
+use Rattle.pm_call.specs.Between.{MayOpen}
 use Rattle.pm_call.specs.Commits.{CommitCut}
 use Rattle.pm_call.specs.Did.{Cut}
 use Rattle.pm_call.specs.Locking.{to_take}
@@ -36,16 +36,6 @@ begun_had (Applying todo) v f = f
 begun_had Clearing v f = f
 begun_had (Retiring n) v f = f
 begun_had Voiding v f = f
-
-begun_has : (phase : Phase) (v : View) → HaveFacts v → HaveFacts (begun phase v)
-begun_has Idle v f = f
-begun_has Open v f = f
-begun_has (Drawn n) v f = f
-begun_has (Sealing n) v f = f
-begun_has (Applying todo) v f = f
-begun_has Clearing v f = f
-begun_has (Retiring n) v f = f
-begun_has Voiding v f = f
 
 occupied_had : (won : Bool) (v : View) (at : Occ) (bits : ℕ) → HaveFacts (occupied won v at bits)
     → HaveFacts v
@@ -140,13 +130,10 @@ wait_is_stopped at lane s wants f w =
           (stops_have x w.refused line write got);
     }
 
--- ---- BETWEEN TWO CALLS: it looked at numbers alone since its last call
-
-saw_has : (s : Standing) (saw : List ℕ) → HaveFacts s.view → HaveFacts (saw_numbers s saw).view
-saw_has s [] f = f
-saw_has s (n ∷ ns) f =
-    begun_has (saw_numbers s ns).view.log.phase (saw_numbers s ns).view (saw_has s ns f)
+-- ---- BETWEEN TWO CALLS: its last call has its number, and no later one
 
 pub may_open_facts : (s : Standing) → MayOpen s → HaveFacts s.view
-may_open_facts s may = subst (λ (t : Standing). HaveFacts t.view) (sym may.since)
-    (saw_has may.before may.saw may.between.over.facts)
+may_open_facts s may = ⊎_elim
+    (λ e. subst (λ (t : Standing). HaveFacts t.view) (sym e) may.between.over.facts)
+    (λ z. subst (λ (t : Standing). HaveFacts t.view) (sym z.1) may.between.over.facts)
+    may.since

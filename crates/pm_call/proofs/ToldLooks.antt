@@ -108,7 +108,7 @@ waits_silent (l ∷ locks) steps are = subst AreSilent (sym are.2)
     (refusals_silent are.0 l.line l.write) (takes_silent l.line l.write true, tt))
     (waits_silent locks are.1 are.3))
 
-stops_silent : (n line : ℕ) (write : Bool) → AreSilent (stops n line write)
+pub stops_silent : (n line : ℕ) (write : Bool) → AreSilent (stops n line write)
 unfolding stops
 stops_silent n line write =
     silent_both (refusals n line write) (takes line write false ∷ StopSeen true ∷ [])
