@@ -6,8 +6,10 @@ use std::fs::{Metadata, OpenFile, OpenOptions};
 use std::io::{ErrorKind, Read, Seek, SeekFrom, Write};
 use std::process::id;
 use std::rt::Files;
+use std::sync::atomic::{AtomicU64, Ordering};
 use std::test::Fail;
-use std::{fs, io};
+use std::thread::Threads;
+use std::{fs, io, thread};
 
 /// An output that nobody reads.
 struct ClosedOutput;
@@ -302,4 +304,67 @@ fn the_output_takes_a_line(rt: HostRuntime) {
     let mut closed = OutputSink::new(&ClosedOutput);
     assert_eq!(rt; put(&mut closed, "a line\n"), Err(SinkFault::Failed));
     assert_eq!(rt; closed.faults(), 1);
+}
+
+/// A lane whose lines are 1 to `lines`. At each line but the last it writes its number behind what
+/// was written, as a decimal digit.
+fn walk<G: Gate>(gate: &G, lane: u64, lines: u64, written: &AtomicU64) {
+    for line in 1..lines {
+        gate.pass(lane, line);
+        let _ = written.fetch_update(Ordering::SeqCst, Ordering::SeqCst, |n| {
+            Some(n.wrapping_mul(10).wrapping_add(lane))
+        });
+    }
+    gate.pass(lane, lines);
+}
+
+/// What two lanes of three lines each write.
+fn written_by_two<G: Gate + Sync, R: Threads + Sync>(rt: &R, gate: &G) -> u64 {
+    let written = AtomicU64::new(0);
+    let shared = &written;
+    thread::join(
+        rt,
+        move || walk(gate, 1, 3, shared),
+        move || walk(gate, 2, 3, shared),
+    );
+    written.load(Ordering::SeqCst)
+}
+
+const fn at(lane: u64, line: u64) -> Place {
+    Place { lane, line }
+}
+
+/// Each lane is held until the other came, whichever comes first.
+#[test]
+fn two_lanes_meet_at_a_gate(rt: HostRuntime) {
+    for (one, other, want) in [
+        // The second lane runs once the first is at its end, and the other way.
+        ((at(2, 1), at(1, 3)), (at(1, 1), at(2, 1)), 1122),
+        ((at(1, 1), at(2, 3)), (at(2, 1), at(1, 1)), 2211),
+        // The second runs between the two writes of the first.
+        ((at(2, 1), at(1, 2)), (at(1, 2), at(2, 3)), 1221),
+    ] {
+        let gate = MeetingGate::new(one, other, MOST_TURNS);
+        assert_eq!(rt; written_by_two(&rt, &gate), want);
+        assert!(rt; !gate.ran_out());
+    }
+}
+
+#[test]
+fn a_gate_whose_turns_run_out_lets_go(rt: HostRuntime) {
+    let never = (at(1, 2), at(2, 4));
+    let gate = MeetingGate::new(never, never, 1000);
+    gate.pass(1, 1);
+    assert!(rt; !gate.ran_out());
+    gate.pass(1, 2);
+    assert!(rt; gate.ran_out());
+}
+
+#[test]
+fn an_idle_gate_holds_nobody(rt: HostRuntime) {
+    let written = written_by_two(&rt, &IdleGate);
+    assert!(rt;
+        [1122, 1212, 1221, 2112, 2121, 2211].contains(&written),
+        "{written}"
+    );
 }
