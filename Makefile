@@ -1,7 +1,7 @@
 # `make demo` tells the story of the program; `make test` is the gate.
 POOL := build/demo.pool
 
-.PHONY: build demo test gate transcripts bench refuse pages clean
+.PHONY: build demo test gate transcripts bench refuse soak pages clean
 
 # The proved program, at build/pmempool. With no words it prints its usage and ends with status 2, which is how `rt run` is to
 # end here; where `rt` ends otherwise, or did not come to run the program, there is no build/pmempool.
@@ -93,6 +93,16 @@ refuse:
 	  echo "$$crate $$n: status $$status"; grep -E 'left:|error:' build/refuse.log | sort | uniq -c; \
 	  if test $$status -eq 4; then cat build/refuse.log; exit 1; fi; \
 	done; done
+
+# Random scripts on random pools for an hour, outside the gate: a plain model judges what is printed and written, and is itself
+# tried first. Until scripts of more than one lane run, the words are those of a program of one lane.
+SOAK := --plain
+
+soak: build
+	tools/soak.py --selftest
+	tools/rehearsal.py
+	tools/rehearsal.py --program build/pmempool
+	tools/soak.py $(SOAK) --seconds 3600
 
 # The table of claims in docs/VERIFICATION.md, made from the sources; and every link, clause and
 # quotation of the pages is checked. It changes no other page; `tools/pages.py --check` changes none.
