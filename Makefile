@@ -101,6 +101,7 @@ SOAK := --plain
 soak: build
 	tools/soak.py --selftest
 	tools/rehearsal.py
+	tools/rehearsal.py --faults
 	tools/rehearsal.py --program build/pmempool
 	tools/soak.py $(SOAK) --seconds 3600
 

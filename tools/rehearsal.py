@@ -2,12 +2,16 @@
 """A rehearsal of tools/soak.py: its judge judges a small stand-in of the program, of many lanes.
 
     tools/rehearsal.py [--cases N] [--seed N] [--lanes N]
+    tools/rehearsal.py --faults [--cases N] [--seed N] [--lanes N]
     tools/rehearsal.py --program PATH [--cases N] [--seed N]
 
 The stand-in makes each memory call of its lanes on plain bytes, in a random order of the lanes,
 and takes away what a power failure may take. The judge must accept each of its answers, and refuse
 each in which one number of the report or one word of the pool was changed. Counts of both are
 printed.
+
+With `--faults` the stand-in is wrong in one way after another, as locks that are given back before
+the commit; some case must show each to the judge.
 
 With a program, scripts of one lane run on both: what the program prints and writes must be what
 the stand-in does, word for word, so each memory call up to the stop, and what survives it.
@@ -107,10 +111,15 @@ class Worker:
             except Stopped:
                 self.end = f"lane {self.number} stopped after {self.made} calls"
                 return
-            for off in self.held:
-                del self.world.locks[off][self.number]
-                yield
+            yield
+            self.let_go()
         self.end = f"lane {self.number} ended"
+
+    def let_go(self):
+        """Gives the locks back."""
+        for off in self.held:
+            del self.world.locks[off][self.number]
+        self.held = {}
 
     def draw(self, entry):
         yield
@@ -335,11 +344,68 @@ def lose(world, workers, keep):
                 world.image.set(place, mine[kept][1])
 
 
-def play(case, rng):
-    """The stand-in's answer to a case."""
-    world = World(case)
+class SharedRaise(World):
+    """Raises a lock that other lanes hold for reading."""
+
+    def take(self, lane, off, for_write):
+        held = self.locks.setdefault(off, {})
+        if any(mode for k, mode in held.items() if k != lane):
+            return False
+        held[lane] = for_write or held.get(lane, False)
+        return True
+
+
+class NoLocks(World):
+    """Gives each lock to whoever asks."""
+
+    def take(self, lane, off, for_write):
+        self.locks.setdefault(off, {})[lane] = for_write
+        return True
+
+
+class LooseCommit(Worker):
+    """Gives its locks back before it commits."""
+
+    def commit(self, entry):
+        self.let_go()
+        yield from super().commit(entry)
+
+
+class LooseAbort(Worker):
+    """Gives its locks back before it rolls back."""
+
+    def roll_back(self):
+        self.let_go()
+        yield from super().roll_back()
+
+
+class KeepsAborted(Worker):
+    """Rolls nothing back."""
+
+    def roll_back(self):
+        self.recorded = {place: self.image.word(place) for place in self.recorded}
+        yield from super().roll_back()
+
+
+class SkipsFlush(Worker):
+    """Drains where the first line was not flushed."""
+
+    def persist(self):
+        lines = sorted({place // LINE for place, _, flushed in self.changes if not flushed})
+        for line in lines[len(lines) > 1:]:
+            yield from self.flush(line)
+        yield from self.drain()
+
+
+FAULTS = [(SharedRaise, Worker), (NoLocks, Worker), (World, LooseCommit), (World, LooseAbort),
+          (World, KeepsAborted), (World, SkipsFlush)]
+
+
+def play(case, rng, kinds=(World, Worker)):
+    """The answer to a case by a stand-in of these kinds."""
+    world, lane = kinds[0](case), kinds[1]
     calls, opened = soak.calls_of(case.script)
-    workers = [Worker(world, k, calls.get(k, []), case.stops.get(k)) for k in range(opened)]
+    workers = [lane(world, k, calls.get(k, []), case.stops.get(k)) for k in range(opened)]
     live = [worker.run() for worker in workers]
     # Some lanes are faster than others.
     pace = [rng.choice([1, 1, 3, 10]) for _ in live]
@@ -430,6 +496,23 @@ def rehearse(words):
           f"{told}")
 
 
+def find_faults(words):
+    """Stand-ins that are wrong: the judge must find each by some case."""
+    missed = 0
+    for kinds in FAULTS:
+        name = next(kind for kind in kinds if kind not in (World, Worker)).__name__
+        for number in range(20 * words.cases):
+            rng = random.Random(f"{words.seed}/{number}")
+            case = soak.make_case(rng, None, words.lanes, False, None)
+            if not Judge(case, None).refusal() and judged(case, play(case, rng, kinds))[0]:
+                print(f"{name}: found by case {number}")
+                break
+        else:
+            print(f"{name}: NOT FOUND")
+            missed += 1
+    sys.exit(missed > 0)
+
+
 def compare(words):
     """The program beside the stand-in, on scripts of one lane."""
     earlier = None
@@ -459,9 +542,12 @@ def main():
     parser.add_argument("--seed", type=int, default=int(time.time()))
     parser.add_argument("--lanes", type=int, default=8)
     parser.add_argument("--program")
+    parser.add_argument("--faults", action="store_true")
     words = parser.parse_args()
     if words.program:
         compare(words)
+    elif words.faults:
+        find_faults(words)
     else:
         rehearse(words)
 

@@ -979,7 +979,7 @@ class Judge:
         stop = self.case.stops.get(lane.number)
         must(stop is None or lane.counted <= stop, f"{lane.counted} counted calls: {text}")
         call = lane.call()
-        is_spent = call and lane.generation >= LAST_GENERATION
+        is_spent = call and not lane.open and lane.generation >= LAST_GENERATION
         self.fates[text.split(" ")[2]] += 1
         if parts[2]:
             must(call is None and lane.open is None, f"calls are left: {text}")
