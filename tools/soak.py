@@ -342,8 +342,10 @@ class Writer:
                 self.lines.append(self.close())
                 levels -= 1
             elif choice < 0.24 and not self.plain:
-                off = rng.choice(self.offs)
-                kind = rng.choice(["lock", "lockr"])
+                # A lock that is held for reading is raised, half of the time.
+                read = [off for off in held if not held[off]]
+                off = rng.choice(read if read and rng.random() < 0.5 else self.offs)
+                kind = "lock" if off in read else rng.choice(["lock", "lockr"])
                 held[off] = kind == "lock" or held.get(off, False)
                 name = self.name(off) if rng.random() < 0.95 else self.any_id()
                 self.lines.append(f"{kind} {name}")
@@ -422,13 +424,21 @@ class Writer:
         self.pending = []
         return word
 
+    def many_sets(self):
+        """More sets than can be pending, or in a transaction that publishes too many."""
+        off = self.rng.choice(self.offs)
+        sets = [f"set {self.name(off)} 0 {value}" for value in range(self.rng.choice([40, 65]))]
+        if self.rng.random() < 0.5:
+            return [*sets, "publish"]
+        return [f"begin {self.name(off)}", *sets, "publish", *sets, "publish", "commit"]
+
     def write(self):
         """The lines of one to seven calls."""
         for _ in range(self.rng.choice([1, 1, 2, 3, 4, 7])):
             if self.rng.random() < 0.7:
                 self.transaction()
-            elif self.rng.random() < 0.03:
-                self.lines += [self.action() for _ in range(70)]
+            elif self.rng.random() < 0.05:
+                self.lines += self.many_sets()
             elif self.rng.random() < 0.02 and not self.plain:
                 self.lines += ["begin"] * 66 + ["commit"] * 66
             else:
