@@ -1,10 +1,9 @@
 #!/usr/bin/env python3
 """What each public function of the transactions costs, beside its counterpart for a single lane.
 
-    tools/by_function.py             prints the calls of pm_tx and pm_action and their counterparts
-    tools/by_function.py --laws      prints the other public functions of pm_tx and pm_action, and
-                                     those of pm_call, most of them laws
-    tools/by_function.py --files     prints as well the files of lemmas that serve several calls
+    tools/by_function.py           prints the calls of pm_tx and pm_action, and their counterparts
+    tools/by_function.py --laws    prints the other public functions of pm_tx and pm_action, and
+                                   those of pm_call, most of them laws
 
 Columns: the characters of the function's contract, without line breaks; its clauses; the lines of
 its answers and invariants; the lines of those of the functions that it calls, directly or not, in
@@ -13,10 +12,12 @@ that serve other calls of the table too, and how many such files there are. A si
 pm_action and pm_call; or solo_tx, solo_transaction and solo_action. A file serves a function where
 its answers, or those of a function that it calls, import it, directly or through such a file, in
 the crates of the side. Blank lines don't count. A file is counted whole, whichever of its lemmas
-are used. The last rows count each function and each file once.
+are used. The rows of several calls count each function and each file once. Below the table stand
+the files that serve several of them, by how many, each with its lines.
 """
 import re
 import sys
+import textwrap
 from pathlib import Path
 
 CRATES = Path(__file__).resolve().parent.parent / "crates"
@@ -267,14 +268,17 @@ def definitions(side):
 
 
 def print_files(title, count):
-    """The files of lemmas that serve several calls, most served first."""
-    print(f"\n{title}: files of lemmas that serve several calls: lines, calls")
-    order = sorted((-n, str(file.relative_to(CRATES)), file) for file, n in count.items() if n > 1)
-    for n, name, file in order:
-        print(f"  {name:55} {lines_of([file]):5} {-n:3}")
+    """The files of lemmas that serve several calls, by how many calls."""
+    print(f"\n{title}")
+    for most in sorted({n for n in count.values() if n > 1}, reverse=True):
+        files = sorted(file for file, n in count.items() if n == most)
+        # no line break between a file and its lines
+        each = [f"{file.parts[-3]}/{file.stem}\xa0{lines_of([file])}" for file in files]
+        text = f"{most} of them, {lines_of(files)} lines: {', '.join(each)}"
+        print(textwrap.fill(text, 100, subsequent_indent="    ").replace("\xa0", " "))
 
 
-def print_calls(with_files):
+def print_calls():
     """The calls, and their counterparts."""
     sides = Side(LANES), Side(SOLO)
     calls = [
@@ -298,12 +302,11 @@ def print_calls(with_files):
     print(f"{'all':15} {'many lanes':{width}} {cells_of_all(calls[0])}")
     lines = [definitions(side) for side in sides]
     print(f"lines of definitions: many lanes {lines[0]}, a single lane {lines[1]}")
-    if with_files:
-        print_files("Many lanes", counts[0])
-        print_files("A single lane", counts[1])
+    print_files("Files of lemmas of many lanes that serve several calls", counts[0])
+    print_files("Files of lemmas of a single lane that serve several calls", counts[1])
 
 
-def print_laws(with_files):
+def print_laws():
     """The other public functions of many lanes."""
     side = Side(LANES)
     shown = {title for _, titles, _ in CALLS for title in titles}
@@ -314,17 +317,16 @@ def print_laws(with_files):
     for row in rows:
         print(f"{row.one.title():{width}} {cells(row, count)}")
     print(f"{'all':{width}} {cells_of_all([[row] for row in rows])}")
-    if with_files:
-        print_files("The functions", count)
+    print_files("Files of lemmas that serve several of these functions", count)
 
 
 def main(words):
-    if set(words) - {"--laws", "--files"}:
+    if set(words) - {"--laws"}:
         sys.exit(__doc__)
-    if "--laws" in words:
-        print_laws("--files" in words)
+    if words:
+        print_laws()
     else:
-        print_calls("--files" in words)
+        print_calls()
 
 
 if __name__ == "__main__":
