@@ -23,7 +23,8 @@ use Rattle.pm_plan.specs.Plans.{one}
 use Rattle.pm_call.specs.PublicationParts.{PublishWasCut, PublishWasRefused, WasPublishedOutside, WordsSetAs}
 use Rattle.pm_call.specs.Publications.{publishes, unlocked, wants_to_set}
 use Rattle.pm_call.specs.Publishing.{words_pending}
-use Rattle.pm_call.specs.Standing.{EndsOpen, IsLaneStopped, Stands, StandsWith}
+use Rattle.pm_crash.specs.Fates.{EndsOpen}
+use Rattle.pm_call.specs.Standing.{IsLaneStopped, Stands, StandsWith}
 use Rattle.pm_call.proofs.OpenedCalls.{between_may_open}
 use Rattle.pm_call.proofs.Standing.{all_fixed, by_last, cut_stands, idle_stands, same_stands, spent_stands, stands_turned, stopped_in, working_stands}
 use Rattle.pm_call.proofs.StoppedLanes.{facts_on_the_way, may_open_facts, wait_is_stopped}

@@ -12,7 +12,8 @@ use Rattle.pm_view.specs.View.{View}
 use Rattle.pm_world.specs.declared.lane.Lane.{Lane}
 use Rattle.pm_call.specs.Did.{work_refusal}
 use Rattle.pm_call.specs.Histories.{LaneHistory, calls_ended, no_value, told_last, told_more, turned, turned_alone, unless}
-use Rattle.pm_call.specs.Standing.{EndsOpen, IsLaneStopped, StandsWith, TurnsHistory}
+use Rattle.pm_crash.specs.Fates.{EndsOpen}
+use Rattle.pm_call.specs.Standing.{IsLaneStopped, StandsWith, TurnsHistory}
 use Rattle.pm_action.specs.Actions.{Asked}
 use Rattle.pm_action.specs.Calls.{ByLevel}
 use Rattle.pm_action.specs.Inside.{Cancelled}

@@ -29,7 +29,8 @@ use Rattle.pm_call.specs.Histories.{LaneHistory, PlanTellsMore, calls_ended, end
 use Rattle.pm_call.specs.Opening.{NoneIsLeft}
 use Rattle.pm_call.specs.Plans.{commits, gives_up}
 use Rattle.pm_call.specs.Stages.{Ended, EndedAs, EndedBy, EndedSo, IsLanePast, IsPastAt, Leaves, at_level, closed, end_refusal, fields_past, stage_end_refusal, unlisted}
-use Rattle.pm_call.specs.Standing.{EndsOpen, IsLaneStopped, IsOverFor, Stands, StandsWith}
+use Rattle.pm_crash.specs.Fates.{EndsOpen}
+use Rattle.pm_call.specs.Standing.{IsLaneStopped, IsOverFor, Stands, StandsWith}
 use Rattle.pm_call.proofs.OpenedCalls.{between_may_open, look_may_open}
 use Rattle.pm_call.proofs.SilentPlans.{silent_step}
 use Rattle.pm_call.proofs.StoppedLanes.{commit_is_stopped, cut_is_stopped}

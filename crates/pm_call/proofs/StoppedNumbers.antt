@@ -22,7 +22,7 @@ use Rattle.pm_view.specs.Parts.{Part, GenerationPart, SealPart, part_of}
 use Rattle.pm_view.specs.Steps.{Step}
 use Rattle.pm_view.specs.Steps.Step.{Store, Or, And, Flush, Drain, Occupy, Draw, NumberSeen, Tell}
 use Rattle.pm_view.specs.View.{Constants, View}
-use Rattle.pm_view.specs.Views.{after, after_all, begun, log_left, occupied, part_in, shape_of}
+use Rattle.pm_view.specs.Views.{after, after_all, log_left, occupied, part_in, shape_of}
 use Rattle.pm_world.specs.LaneFields.{Standing}
 use Rattle.pm_world.specs.Lawful.{MayStore, StoreFits}
 use Rattle.pm_plan.specs.Plans.{Plan, Ready, in_turn, makes_room, one, persists, persists_all, stores}
@@ -31,10 +31,10 @@ use Rattle.pm_plan.proofs.Plans.{after_all-append, ready_left, ready_right}
 use Rattle.pm_redo.specs.Plans.{applies, clears, performs, seals, writes_log, writes_seal}
 use Rattle.pm_undo.specs.Plans.{ends_word, retires}
 use Rattle.pm_call.specs.At.{set_entry}
-use Rattle.pm_call.specs.Between.{MayOpen, saw_numbers}
+use Rattle.pm_call.specs.Between.{MayOpen}
 use Rattle.pm_call.specs.Plans.{commits, ends_call, ends_records, finishes, gives_up, logs_entries, performs_call, takes_back}
 use Rattle.pm_call.specs.Publications.{publishes}
-use Rattle.pm_call.specs.Standing.{EndsOpen}
+use Rattle.pm_crash.specs.Fates.{EndsOpen}
 use Rattle.pm_call.proofs.SilentPlans.{AreSilent, IsAsTold, IsSilentPlan, is_silent, silent_applies, silent_back, silent_log, silent_persists, silent_room, silent_seal, silent_step, silent_steps, silent_store, told_same, told_then}
 
 -- ---- A CALL THAT IS GIVEN UP
@@ -310,17 +310,10 @@ ends_open (Some n) v is unended =
 pub ends_untold : (d : Option ℕ) (v : View) → d ≡ None → v.number ≡ None → EndsOpen d v
 ends_untold d v told none = ends_open d v (told ∙ sym none) (inl none)
 
--- between two calls it looked at numbers alone since its last call
-begun_ends : (phase : Phase) (v : View) → EndsOpen None v → EndsOpen None (begun phase v)
-begun_ends Idle v ends = inr refl
-begun_ends phase v ends = ends
-
-saw_ends : (s : Standing) (saw : List ℕ) → EndsOpen None s.view
-    → EndsOpen None (saw_numbers s saw).view
-saw_ends s [] ends = ends
-saw_ends s (n ∷ ns) ends =
-    begun_ends (saw_numbers s ns).view.log.phase (saw_numbers s ns).view (saw_ends s ns ends)
-
+-- between two calls the last has ended, or one was opened in which nothing was done
 pub may_open_ends : (s : Standing) → MayOpen s → EndsOpen None s.view
-may_open_ends s may = subst (λ (t : Standing). EndsOpen None t.view) (sym may.since)
-    (saw_ends may.before may.saw (inl (ap (λ (l : Log). l.phase) may.between.over.log)))
+may_open_ends s may = ⊎_elim
+    (λ is. subst (λ (t : Standing). EndsOpen None t.view) (sym is)
+    (inl (ap (λ (l : Log). l.phase) may.between.over.log)))
+    (λ opened. subst (λ (t : Standing). EndsOpen None t.view) (sym opened.1) (inr refl))
+    may.since

@@ -1,14 +1,14 @@
 -- A LANE STANDS, as its fields say, with a history: what each call asks of its lane, and leaves.
-use Rattle.std.specs.Prelude.{◌≡◌, ◌≢◌, ◌⊎◌, ℕ, suc, true, false, [], Option, None, Some, Result}
+use Rattle.std.specs.Prelude.{◌≡◌, ℕ, suc, true, false, [], Option, None, Result}
 use Rattle.pm_objects.specs.declared.calls.Operation.{Operation}
 use Rattle.pm_objects.specs.declared.history.TxErr.{TxErr}
 use Rattle.pm_objects.specs.declared.history.TxErr.TheVariants as error
 use Rattle.pm_objects.specs.declared.history.Value.{Value}
 use Rattle.pm_objects.specs.declared.refusal.Refusal.{Refusal}
-use Rattle.pm_view.specs.Log.{Idle}
 use Rattle.pm_view.specs.View.{View}
 use Rattle.pm_world.specs.declared.lane.Lane.{Lane}
 use Rattle.pm_crash.specs.Facts.{HaveFacts}
+use Rattle.pm_crash.specs.Fates.{EndsOpen}
 use Rattle.pm_call.specs.Between.{IsLaneBetween}
 use Rattle.pm_call.specs.Did.{IsAt, work_refusal}
 use Rattle.pm_call.specs.Histories.{LaneHistory, calls_ended, history_of, last_ended, turned, unless}
@@ -20,11 +20,6 @@ pub record IsLaneStopped {M : Type 0} (at : M → View → Type 0) (lane : Lane 
   pub view : View
   pub seen : at lane.memory view
   pub facts : HaveFacts view
-
--- IN THIS VIEW no call waits to be decided or applied; or the one of this number does
-abbrev pub EndsOpen : Option ℕ → View → Type 0
-EndsOpen None v = (v.log.phase ≡ Idle) ⊎ (v.number ≡ None)
-EndsOpen (Some n) v = (v.number ≡ Some n) × (v.log.phase ≢ Idle)
 
 -- past the work of a level the call is over, but where an inner level was committed
 abbrev pub IsOverFor : ℕ → TxErr → LaneHistory → Type 0
