@@ -1,5 +1,5 @@
-//! Whole transactions over the calls of `pm_tx` and `pm_action`, on a single lane and on two of one
-//! pool. The crate has tests alone.
+//! Whole transactions over the calls of `pm_tx`, `pm_action` and `pm_root`, on a single lane and on
+//! two of one pool. The crate has tests alone.
 //!
 //! Each test makes a pool, opens it, and walks through transactions call by call: it says what each
 //! call returns, in which stage, level and error it leaves the lane, and what a later transaction

@@ -99,3 +99,9 @@ fn a_cancel_sets_no_word(rt: HostRuntime) -> Result<(), Fail> {
     let mut lane = single_lane(rt.alloc(), ROOT)?;
     walks::cancelled(&rt, &mut lane, root_id(1, ROOT)?)
 }
+
+#[test]
+fn a_root_is_found_between_transactions(rt: HostRuntime) -> Result<(), Fail> {
+    let mut lane = single_lane(rt.alloc(), ROOT)?;
+    walks::found(&rt, &mut lane, root_id(1, ROOT)?)
+}

@@ -135,3 +135,11 @@ pub fn cancel<M: LawfulMem>(lane: &mut Lane<M>) -> Result<(), Refusal>
 {
     pm_action::cancel(lane)
 }
+
+#[tactic(auto, using(pm_root::proofs::RootLooks::root_id_stands, pm_call::proofs::Standing::stands_between))]
+pub fn root_id<M: LawfulMem, R: Wait>(rt: &R, lane: &mut Lane<M>) -> Result<Oid, Refusal>
+    requires { Stands M.at lane.old }
+    ensures { Stands M.at lane.new }
+{
+    pm_root::root_id(rt, lane)
+}

@@ -8,6 +8,7 @@ mod limits;
 mod lockings;
 mod operations;
 mod others;
+mod roots;
 mod stages;
 
 ghost use Rattle.pm_call.specs.Standing.{Stands};
@@ -25,6 +26,7 @@ use pm_model::Stage;
 use pm_objects::{Oid, TxErr, Want};
 use pm_tx::{errno, level, stage};
 use pm_world::{Lane, LawfulMem};
+pub use roots::found;
 pub use stages::{past_a_commit, past_an_abort};
 use std::sync::Wait;
 use std::test::Fail;

@@ -3,7 +3,7 @@
 ghost use Rattle.pm_call.specs.Standing.{Stands};
 
 use super::{bytes_of, place, reads, writes};
-use crate::standing::{add_range, begin, commit, end, lock, write};
+use crate::standing::{add_range, begin, commit, end, lock, root_id, write};
 use pm_model::Stage;
 use pm_objects::{Oid, Refusal, TxErr, Want};
 use pm_world::{Lane, LawfulMem};
@@ -28,7 +28,7 @@ fn refused<M: LawfulMem, R: Abort + Wait>(
     Ok(())
 }
 
-/// While a lane holds the root for writing, another gets no lock of it; once it has ended its
+/// While a lane holds the root for writing, another finds its id, but gets no lock of it; once it has ended its
 /// transaction, the other reads what was committed.
 pub fn busy<M: LawfulMem, O: LawfulMem, R: Abort + Wait>(
     rt: &R,
@@ -44,6 +44,7 @@ pub fn busy<M: LawfulMem, O: LawfulMem, R: Abort + Wait>(
     begin(rt, lane, &[writes(root)])?;
     add_range(lane, root, 0, 8)?;
     write(lane, root, 0, &[7; 8])?;
+    assert_eq!(rt; root_id(rt, other), Ok(root));
     refused(rt, other, writes(root))?;
     commit(lane)?;
     refused(rt, other, reads(root))?;
