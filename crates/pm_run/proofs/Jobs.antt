@@ -115,11 +115,13 @@ module _ {N W : Type 0} where
     }
 
   -- jobs that are ready can run, and are done once they ran
-  pub all_can_run : (works : List W) (jobs : List (Job N W)) → AreReady works jobs
-      → All CanRun jobs
-  all_can_run works jobs are = all_at CanRun jobs (λ k job l.
+  pub all_can_run : (can : W → Type 0) (works : List W) (jobs : List (Job N W)) → All can works
+      → AreReady works jobs → All (CanRun can) jobs
+  all_can_run can works jobs all are = all_at (CanRun can) jobs (λ k job l.
       let here = subst (λ n. k < n) are.count l in
-      (are.each k (some_item works k here) job here).can_run)
+      let d = some_item works k here in
+      let is = are.each k d job here in
+      (subst can (sym is.work_is) (all k d here), is.is_new))
 
   pub all_done : (left : W → W → View → Type 0) (works : List W) (old new : List (Job N W))
       → AreReady works old → length new ≡ length old → AllRan left old new

@@ -2,8 +2,6 @@
 use Rattle.std.specs.Prelude.{◌≡◌, ℕ, ◌<◌, List, [], All, length, slice_index_or, Vec}
 use Rattle.std.specs.Global.{Global}
 use Rattle.atomic_table.specs.Table.{Me}
-use Rattle.pm_call.specs.Histories.{nothing_told}
-use Rattle.pm_call.specs.Standing.{StandsWith}
 use Rattle.pm_crash.specs.Facts.{HaveFacts}
 use Rattle.pm_memory.specs.Changes.{AreUndrained}
 use Rattle.pm_shared.specs.Openings.{pool_with}
@@ -12,20 +10,21 @@ use Rattle.pm_shared.specs.Seats.{IsSeen}
 use Rattle.pm_view.specs.Changes.{IsFormed}
 use Rattle.pm_view.specs.View.{View}
 use Rattle.pm_view.specs.declared.change.Change.{Change}
+use Rattle.pm_run.specs.NewLanes.{IsNew}
 use Rattle.pm_run.specs.Runs.{LaneRan}
 use Rattle.pm_run.specs.declared.job.Job.{Job}
 
 -- ---- BEFORE
 
--- of the job's lane nothing was asked
-abbrev pub CanRun : {N W : Type 0} → Job N W → Type 0
-CanRun job = StandsWith IsSeen job.lane (nothing_told job.number)
+-- of the job's lane nothing was asked, and its work can run
+abbrev pub CanRun : {N W : Type 0} → (W → Type 0) → Job N W → Type 0
+CanRun can job = can job.work × IsNew IsSeen job.lane job.number
 
 -- the job has lane k, and this work
 pub record IsReady {N W : Type 0} (k : ℕ) (work : W) (job : Job N W) : Type 0 where
   pub number_is : job.number ≡ k
   pub work_is : job.work ≡ work
-  pub can_run : CanRun job
+  pub is_new : IsNew IsSeen job.lane job.number
 
 pub record AreReady {N W : Type 0} (works : List W) (jobs : List (Job N W)) : Type 0 where
   pub count : length jobs ≡ length works

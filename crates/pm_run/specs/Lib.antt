@@ -1,3 +1,4 @@
 pub mod Fates
 pub mod Runs
 pub mod Jobs
+pub mod NewLanes

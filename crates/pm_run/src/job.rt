@@ -21,7 +21,7 @@ pub struct Job<'a, N: TableName, W> {
 impl<'a, N: TableName, W: Work> Job<'a, N, W> {
     /// Runs the work.
     fn run<R: Wait>(&mut self, rt: &R)
-        requires { CanRun self.old }
+        requires { CanRun W.can self.old }
         ensures { IsDone W.left self.old.number self.old.work self.new }
     {
         self.work.run(rt, &mut self.lane);
@@ -34,7 +34,7 @@ pub fn run_jobs<'a, N: TableName + Send + Sync, W: Work + Send, R: Threads + Wai
     jobs: &mut [Job<'a, N, W>],
 )
     requires some { 0 < length jobs.old }
-    requires ready { All CanRun jobs.old }
+    requires ready { All (CanRun W.can) jobs.old }
     ensures { AllRan W.left jobs.old jobs.new }
 {
     let threads = jobs.len();
@@ -43,7 +43,7 @@ pub fn run_jobs<'a, N: TableName + Send + Sync, W: Work + Send, R: Threads + Wai
         jobs,
         threads,
         &|_, job: &mut Job<'_, N, W>|
-            requires { CanRun job.old }
+            requires { CanRun W.can job.old }
             ensures { IsDone W.left job.old.number job.old.work job.new }
         { job.run(rt) },
     );

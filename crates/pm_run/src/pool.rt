@@ -1,8 +1,7 @@
 ghost use Rattle.std.specs.Prelude.{◌≡◌, ◌+◌, ◌<◌, ◌≤◌, [], length, map, All, IfOk, vec_len, vec_capacity};
 ghost use Rattle.std.specs.Result.{OnOk};
-ghost use Rattle.pm_call.specs.Histories.{nothing_told};
-ghost use Rattle.pm_call.specs.Standing.{StandsWith};
 ghost use Rattle.pm_run.specs.Jobs.{AllRan, AreReady, CameBack, CanJoin, CanRun, items_of};
+ghost use Rattle.pm_run.specs.NewLanes.{IsNew};
 ghost use Rattle.pm_run.specs.Runs.{HaveRun};
 ghost use Rattle.pm_shared.specs.Openings.{CanBegin, pool_of, pool_with};
 ghost use Rattle.pm_shared.specs.Seats.{IsSeen};
@@ -54,7 +53,7 @@ fn next_lane<'a, N: TableName>(
     ensures table { seat.new.table_id ≡ seat.old.table_id }
     ensures seat { OnOk result
         (seat.new.me ≡ pool_of pool.entry.now.memory.table.shared.key (number + 1) []) }
-    ensures lane { IfOk result (λ lane. StandsWith IsSeen lane (nothing_told number)) }
+    ensures lane { IfOk result (λ lane. IsNew IsSeen lane number) }
 {
     let memory = pool.memory.split::<N>(alloc, seat, number)?;
     Ok(Lane::new(alloc, memory, pool.id, pool.shape)?)
@@ -91,7 +90,7 @@ fn run_all<'a, N: TableName + Send + Sync, W: Work + Send, R: Threads + Wait + S
     jobs: &mut Vec<Job<'a, N, W>>,
 )
     requires some { 0 < length jobs.old.items }
-    requires ready { All CanRun jobs.old.items }
+    requires ready { All (CanRun W.can) jobs.old.items }
     ensures count { length jobs.new.items ≡ length jobs.old.items }
     ensures ran { AllRan W.left jobs.old.items jobs.new.items }
 {
@@ -142,6 +141,7 @@ fn run_on<N: TableName + Send + Sync, R: Threads + Wait + Sync, W: Work + Send +
     requires table { seat.table_id ≡ N.table }
     requires begins { CanBegin pool.memory.table.shared.key }
     requires works { length works.items ≡ pool.memory.table.shared.key.lanes }
+    requires can { All W.can works.items }
     requires seat { seat.me ≡ pool_of pool.memory.table.shared.key 0 [] }
     ensures { IfOk result (λ ran. HaveRun W.left pool.memory.table.shared.key keep works.items
         ran.works.items ran.image.items ran.kept.items) }
@@ -194,6 +194,7 @@ pub fn run_lanes<R: Threads + Wait + Sync, W: Work + Send + Drop>(
 ) -> Result<Ran<W>, AllocError>
     requires begins { CanBegin beginning }
     requires works { length works.items ≡ beginning.lanes }
+    requires can { All W.can works.items }
     ensures { IfOk result
         (λ ran. HaveRun W.left beginning keep works.items ran.works.items ran.image.items
         ran.kept.items) }

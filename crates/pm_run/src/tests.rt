@@ -21,8 +21,10 @@ struct Idle {
 }
 
 impl Work for Idle {
-    ghost use Rattle.std.specs.Prelude.{◌≡◌, []};
+    ghost use Rattle.std.specs.Prelude.{◌≡◌, [], ⊤};
     ghost use Rattle.pm_call.specs.Histories.{calls_ended};
+
+    ghost can = { λ work. ⊤ };
 
     ghost left = { λ before after view. calls_ended view ≡ [] };
 

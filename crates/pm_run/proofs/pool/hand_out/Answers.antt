@@ -28,7 +28,7 @@ loop-work-preserved g c =
       ready = subst (λ (js : List (Job g.row.N.Denot g.row.W.Denot)).
           AreReady (yielded ++ work ∷ []) js) (sym c.in_ok-push.ensures.items)
           (one_more_ready yielded jobs work job i.ready
-          (record { number_is = at; work_is = refl; can_run = c.in_ok-lane.ensures.lane }));
+          (record { number_is = at; work_is = refl; is_new = c.in_ok-lane.ensures.lane }));
       all = append_assoc yielded (work ∷ []) c.next.new.self.rest.items
           ∙ (ap (λ (l : List g.row.W.Denot). yielded ++ l) (sym c.in-Some.ensures.steps.0) ∙ i.all);
     }

@@ -1,5 +1,6 @@
-use Rattle.std.proofs.Common.{◌/◌, ap, sym, ◌∙◌, arith}
+use Rattle.std.proofs.Common.{◌/◌, ap, refl, sym, ◌∙◌, arith}
 use Rattle.pm_call.proofs.NewLanes.{new_lane_stands_with}
+use Rattle.pm_call.proofs.Positions.{rests_between}
 use Rattle.pm_layout.specs.Chunks.{words_of}
 use Rattle.pm_layout.specs.declared.shape.Shape.{Shape}
 use Rattle.pm_shared.specs.declared.rule.Beginning.{Beginning}
@@ -35,8 +36,12 @@ returns-clause-lane g c =
           omega (arith, n, few, same);
       seen = c.in_ok-memory.ensures.lane;
     } in
-    new_lane_stands_with IsSeen c.in_ok-memory.memory pool.shape
-    (none_owned (words_of pool.shape / 512)) c.in_ok-new.field-0 (fixed_of key c.args.number)
-    (generation_of key c.args.number) is
-    (λ u. c.in_ok-new.ensures.unused (fixed_of key c.args.number)
-    (generation_of key c.args.number) pool.named u)
+    let rests = c.in_ok-new.ensures.unused (fixed_of key c.args.number)
+    (generation_of key c.args.number) pool.named is in (
+      new_lane_stands_with IsSeen c.in_ok-memory.memory pool.shape
+          (none_owned (words_of pool.shape / 512)) c.in_ok-new.field-0 (fixed_of key c.args.number)
+          (generation_of key c.args.number) is
+          (λ u. c.in_ok-new.ensures.unused (fixed_of key c.args.number)
+          (generation_of key c.args.number) pool.named u),
+      rests_between IsSeen c.in_ok-new.field-0 _ refl rests,
+    )

@@ -12,7 +12,8 @@ use Rattle.pm_run.proofs.pool.run_on.Goals as goal
 
 pub run_all-requires-clause-ready : goal.run_all-requires-clause-ready
 run_all-requires-clause-ready g c κs within =
-    all_can_run c.args.works.items c.in_ok-jobs.jobs.items c.in_ok-jobs.ensures.jobs
+    all_can_run g.W.Work.can c.args.works.items c.in_ok-jobs.jobs.items c.requires.can
+    c.in_ok-jobs.ensures.jobs
 
 pub take_back-requires-clause-jobs : goal.take_back-requires-clause-jobs
 take_back-requires-clause-jobs g c = (

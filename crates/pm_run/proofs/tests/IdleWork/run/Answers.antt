@@ -6,7 +6,7 @@ use Rattle.pm_run.proofs.tests.IdleWork.run.Goals as goal
 pub returns-then-idle : goal.returns-then-idle
 returns-then-idle g c number stands =
     let idle = c.idle.ensures.0 c.if-idle.true in
-    let here = stands.between idle.unstopped idle.level in (
+    let here = stands.0.between idle.unstopped idle.level in (
       record {
         view = here.0.standing.view;
         seen = here.0.rests.memory;
