@@ -4,6 +4,11 @@ use Rattle.pm_script.specs.declared.script.ScriptLine.{ScriptLine}
 use Rattle.pm_calls.specs.Calls.{calls_of_lane, line_of}
 use Rattle.pm_calls.specs.declared.lanes.LaneRoom.{LaneRoom}
 use Rattle.pm_calls.specs.declared.room.CallRoom.{CallRoom}
+use Rattle.pm_calls.specs.declared.room.LineRoom.{LineRoom}
+
+-- the line that a room is for
+abbrev pub said_in : LineRoom → ScriptLine
+said_in room = room.said.now
 
 -- the lines of a call that is to be made
 abbrev pub lines_to_run : CallRoom → List ScriptLine

@@ -18,3 +18,6 @@ pub use laws::a_lanes_calls_are_whole;
 pub use names::{Names, id_of, names_root, want_of};
 pub use operations::call_of;
 pub use room::{CallRoom, LineRoom};
+
+#[cfg(test)]
+mod tests;

@@ -1,0 +1,17 @@
+pub mod CallLines
+pub mod Entries
+pub mod LaneCalls
+pub mod LaneRuns
+pub mod LaneWorks
+pub mod Levels
+pub mod LineEnds
+pub mod MadeCalls
+pub mod Ran
+pub mod Reported
+pub mod Reports
+pub mod RanCalls
+pub mod Rising
+pub mod RootLooks
+pub mod RunLines
+pub mod Shown
+pub mod Stopping

@@ -1,0 +1,11 @@
+pub mod Answers
+pub mod Entries
+pub mod Known
+pub mod Lines
+pub mod Made
+pub mod Reported
+pub mod Reports
+pub mod Running
+pub mod Runs
+pub mod Shown
+pub mod Works

@@ -1,0 +1,64 @@
+-- WHAT A SCRIPT LEAVES that lanes ran on the pool of an image, each in a thread of its own, where power
+-- fails at the end: docs/MODEL.md, "Crash".
+use Rattle.std.specs.Prelude.{◌≡◌, ℕ, ◌<◌, List, length, map, slice_index_or, Option}
+use Rattle.pm_crash.specs.Images.{block_for}
+use Rattle.pm_image.specs.Blocks.{blocks}
+use Rattle.pm_image.specs.Logs.{recovered_at}
+use Rattle.pm_image.specs.Means.{IsMeaning}
+use Rattle.pm_lanes.specs.Closed.{AllAreBack, BackWith, NoRecordTorn}
+use Rattle.pm_lanes.specs.Opens.{IsOpened}
+use Rattle.pm_memory.specs.Keep.{IsKeptImage}
+use Rattle.pm_model.specs.History.{IsHistory, ReplaysEntries, without_lost}
+use Rattle.pm_objects.specs.Pool.{IsPool}
+use Rattle.pm_objects.specs.declared.history.Entry.{Entry}
+use Rattle.pm_objects.specs.declared.pool.PoolView.{PoolView}
+use Rattle.pm_script.specs.declared.script.Script.{Script}
+use Rattle.pm_shared.specs.Closings.{Closes}
+use Rattle.pm_shared.specs.declared.rule.Beginning.{Beginning}
+use Rattle.pm_text.specs.declared.report.LaneEnd.TheVariants as end
+use Rattle.pm_view.specs.View.{View}
+use Rattle.pm_view.specs.declared.change.Change.{Change}
+use Rattle.pm_exec.specs.Reports.{IsLaneHistory}
+use Rattle.pm_exec.specs.declared.outcome.Outcome.{Outcome}
+
+-- THE PLAIN MODEL replays the entries that are not lost, one whole call after another, each with its
+-- values, from the pool that was opened
+pub record Replayed (pool : PoolView) (entries : List Entry) : Type 0 where
+  pub last : PoolView
+  pub replays : ReplaysEntries pool (without_lost entries) last
+
+-- THE IMAGE STANDS FOR IT: it means the pool to which they lead, and the blocks that it allocates are
+-- those of its objects in rising place, of which no two overlap
+pub record StandsFor (pool : PoolView) (entries : List Entry) (image : List ℕ) : Type 0 where
+  pub last : PoolView
+  pub replays : ReplaysEntries pool (without_lost entries) last
+  pub means : IsMeaning image last
+  pub blocks_are : blocks (recovered_at image pool.lanes) pool.lanes pool.zones ≡ map block_for last.objects
+  pub apart : IsPool last
+
+-- A SCRIPT RAN ON LANES: the pool was opened, lane k ran the script's lines of lane k up to its stop
+-- number, if it has one, all lanes came back, and what is left is what the keep number leaves of the
+-- words and of what each lane had undrained
+pub record RanOnLanes (image layout : List ℕ) (script : Script) (stops : List (Option ℕ)) (keep : ℕ) (out : Outcome) : Type 0 where
+  pub begin_ : Beginning
+  pub opened : IsOpened image layout begin_.words.items begin_.shape begin_.pool
+  pub lanes_are : begin_.lanes ≡ script.lanes
+  pub stops_are : begin_.stops ≡ stops
+  pub back : List View
+  pub words : List ℕ
+  pub closed : Closes begin_ back words
+  pub all : AllAreBack script.lanes back
+  pub undrained : List (List Change)
+  pub back_with : BackWith back undrained
+  pub kept : IsKeptImage keep words undrained out.image.items
+  pub size : length out.image.items ≡ length image
+  -- the report
+  pub is_history : IsHistory out.entries.items
+  pub ends : length out.lanes.items ≡ script.lanes
+  pub each : (lane : ℕ) → lane < script.lanes
+      → IsLaneHistory begin_.pool script.lines out.entries.items lane (slice_index_or out.lanes.items lane end.Ended)
+  -- what it means, with no premise; and, unless a record is torn that a lane was writing, what the
+  -- image means
+  pub replayed : Replayed opened.pool out.entries.items
+  pub stands : NoRecordTorn begin_ closed.last out.image.items
+      → StandsFor opened.pool out.entries.items out.image.items

@@ -1,0 +1,132 @@
+//! A script, run by lanes in threads on the pool of an image.
+
+ghost use Rattle.std.specs.Prelude.{◌≡◌, ◌≢◌, ◌<◌, ◌≤◌, All, IfErr, IfOk, ℕ, List, None, length, map};
+ghost use Rattle.std.specs.List.Sorted.{IsStrictlyIncreasing};
+ghost use Rattle.pm_lanes.specs.Opens.{IsOpenCause};
+ghost use Rattle.pm_script.specs.Operations.{closes};
+ghost use Rattle.pm_script.specs.Scripts.{AreCalls, of_lane, operations};
+ghost use Rattle.pm_script.specs.declared.script.ScriptLine.{ScriptLine};
+ghost use Rattle.pm_shared.specs.Openings.{CanBegin};
+ghost use Rattle.pm_calls.specs.Calls.{RunsOnLanes, numbers_of};
+ghost use Rattle.pm_exec.specs.Reported.{HaveReported};
+ghost use Rattle.pm_exec.specs.Reports.{AreWorksFor, AreWorksOf, HasCalls};
+ghost use Rattle.pm_exec.specs.Runs.{RanOnLanes};
+ghost use Rattle.pm_exec.specs.Works.{CanRunWork};
+
+use crate::outcome::Outcome;
+use crate::reporting::{ends_of, entries_of};
+use crate::work::LaneWork;
+use pm_calls::{LaneRoom, a_lanes_calls_are_whole, lane_rooms};
+use pm_lanes::{OpenFault, closed_pools_mean_their_histories, open, open_calls_are_judged};
+use pm_objects::Stops;
+use pm_raw::RawImage;
+use pm_run::{Ran, run_lanes};
+use pm_script::Script;
+use pm_shared::Beginning;
+use pm_shelf::Gate;
+use pm_text::LaneEnd;
+use std::alloc::{AllocError, Global};
+use std::sync::Wait;
+use std::thread::Threads;
+
+/// The works of lanes that are to run on this pool, with room for their answers.
+fn works_of<'s, G>(
+    alloc: Global,
+    rooms: Vec<LaneRoom<'s>>,
+    pool: u64,
+    gate: &'s G,
+) -> Result<Vec<LaneWork<'s, G>>, AllocError>
+    ensures { IfOk result (λ works. AreWorksOf pool rooms.entry.items works.items) }
+{
+    let mut works = Vec::with_capacity(alloc, rooms.len())?;
+    for room in rooms {
+        let LaneRoom { calls } = room;
+        let answers = Vec::with_capacity(alloc, calls.len())?;
+        works.push(LaneWork {
+            number: works.len() as u64,
+            pool,
+            gate,
+            calls: Some(calls),
+            answers,
+            unanswered: None,
+            end: LaneEnd::Ended,
+        })?;
+    }
+    Ok(works)
+}
+
+/// Runs the works, and makes the history of what they did.
+fn run_works<'s, R: Threads + Wait + Sync, G: Gate + Sync>(
+    rt: &R,
+    alloc: Global,
+    beginning: Beginning,
+    works: Vec<LaneWork<'s, G>>,
+    keep: u64,
+) -> Result<Outcome, AllocError>
+    requires begins { CanBegin beginning }
+    requires count { length works.items ≡ beginning.lanes }
+    requires works { (lines : List ScriptLine) × AreWorksFor beginning.pool lines beginning.lanes works.items }
+    requires calls { All HasCalls works.items }
+    requires can { All CanRunWork works.items }
+    ensures { IfOk result (HaveReported beginning keep works.entry.items) }
+{
+    let Ran { image, works, kept } = run_lanes(rt, alloc, beginning, works, keep)?;
+    closed_pools_mean_their_histories();
+    open_calls_are_judged();
+    let lanes = ends_of(alloc, works.as_slice())?;
+    let entries = entries_of(alloc, works, kept.as_slice())?;
+    Ok(Outcome {
+        image,
+        entries,
+        lanes,
+    })
+}
+
+/// Runs a script on the pool of an image, lane k's lines on lane k, each lane in a thread of its
+/// own. The image is recovered first; each lane makes counted calls up to its stop number, if it has
+/// one; and of what is then undrained so much survives as `keep` says. The room for all replies is
+/// taken before any lane runs.
+///
+/// # Errors
+///
+/// The first of these; nothing is left of a run.
+///
+/// - `Image`: the image has this fault (docs/FORMAT.md, "Faults").
+/// - `Layout`: the pool has another layout name.
+/// - `Lanes`: the script has more lanes than the pool.
+/// - `Memory`: there is no memory.
+pub fn exec<'a, R: Threads + Wait + Sync, G: Gate + Sync>(
+    rt: &R,
+    alloc: Global,
+    image: RawImage,
+    script: &Script,
+    layout: &'a str,
+    stops: Stops,
+    keep: u64,
+    gate: &G,
+) -> Result<Outcome, OpenFault<'a>>
+    requires calls { (lane : ℕ) → AreCalls (operations (of_lane lane script.now.lines)) }
+    requires rising { IsStrictlyIncreasing (numbers_of script.now.lines) }
+    requires words { All RunsOnLanes script.now.lines }
+    requires lanes { (1 ≤ script.now.lanes) × (script.now.lanes ≤ 32) }
+    ensures ran { IfOk result (RanOnLanes image layout.now script.now stops keep) }
+    ensures cause { IfErr result (IsOpenCause image layout.now script.now.lanes) }
+{
+    let Ok(rooms) = lane_rooms(alloc, script.lines.as_slice(), script.lanes) else {
+        return Err(OpenFault::Memory);
+    };
+    let beginning = match open(alloc, image, layout, script.lanes, stops) {
+        Ok(beginning) => beginning,
+        Err((_, fault)) => return Err(fault),
+    };
+    a_lanes_calls_are_whole();
+    let Ok(works) = works_of(alloc, rooms, beginning.pool, gate) else {
+        return Err(OpenFault::Memory);
+    };
+    closed_pools_mean_their_histories();
+    open_calls_are_judged();
+    match run_works(rt, alloc, beginning, works, keep) {
+        Ok(outcome) => Ok(outcome),
+        Err(_) => Err(OpenFault::Memory),
+    }
+}
