@@ -58,7 +58,7 @@ module _ {M : Type 0} (at : M → View → Type 0) (old : Lane M) where
     may_tell mid done here taken =
         let s = here.standing in
         let t = taken s here.works here.stands in
-        (t.2.0, t.2.2.memory, (leads s here.stands here.holds t.0 t.1 t.2.0 t.2.1).allowed)
+        (t.2.0, t.2.2.memory, (leads s here.stands here.holds t.0 t.1 t.2.0 t.2.1.takes).allowed)
 
     pub locked_wanted : (mid : Lane M) (may : View → Step → Type 0) → ((v : View) (n : Step) → Allowed v n → may v n) → (new : M) (done end : Unit {0}) → Here → WantedTaken at old mid wants (Ok done)
         → Made may (at mid.memory) (at new) (Tell op None) → LockedWanted at old (record mid { memory = new; level = level }) op wants level (Ok end)
@@ -67,10 +67,10 @@ module _ {M : Type 0} (at : M → View → Type 0) (old : Lane M) where
         let locks = is_locking here s works in
         let t = taken s works is in
         let x : View = t.2.0 in
-        let l = leads s is locks t.0 t.1 x t.2.1 in (
+        let l = leads s is locks t.0 t.1 x t.2.1.takes in (
           x,
           t.2.1,
-          may s is locks t.0 t.1 x t.2.1,
+          may s is locks t.0 t.1 x t.2.1.takes,
           l.unrefused,
           record {
             memory = (told x t.2.2.memory (grants x (Tell op None) l.allowed)).0;

@@ -1,6 +1,6 @@
 -- WHAT pm_lock PROMISES of the locks that are wanted is what a lane at work asks.
 use Rattle.std.specs.Prelude.{drop, filter, take}
-use Rattle.std.proofs.Common.{◌≡◌, ⊎_elim, inl, inr, ℕ, zero, suc, ◌+◌, Bool, true, false, Contains, List, [], ◌∷◌, ◌++◌, length, refl, sym, ap, ◌∙◌, subst, arith}
+use Rattle.std.proofs.Common.{◌≡◌, ⊎_elim, inl, inr, ℕ, zero, suc, ◌+◌, ◌<◌, Bool, true, false, Contains, List, [], ◌∷◌, ◌++◌, length, refl, sym, ap, ◌∙◌, subst, arith}
 use Rattle.std.proofs.lemmas.List.{take_all}
 use Rattle.std.proofs.lemmas.List.Elements.{Contains-append_right}
 use Rattle.pm_objects.specs.declared.calls.Want.{Want}
@@ -10,8 +10,9 @@ use Rattle.pm_view.specs.View.{View}
 use Rattle.pm_view.specs.Views.{after, after_all}
 use Rattle.pm_world.specs.LaneFields.{Standing}
 use Rattle.pm_world.specs.declared.lane.HeldLock.{HeldLock}
-use Rattle.pm_lock.specs.Acquiring.{AreFinds}
+use Rattle.pm_lock.specs.Acquiring.{AreFinds, FindsAll, FindsNone}
 use Rattle.pm_lock.specs.Holding.{IsTaken}
+use Rattle.pm_lock.specs.Locking.{lock_at}
 use Rattle.pm_lock.specs.Objects.{HasLooked, IsOfWorld}
 use Rattle.pm_lock.specs.Raising.{AreRaised, is_raised, raised, raises}
 use Rattle.pm_lock.specs.Steps.{AreWaits, refusals, takes, tries, waits}
@@ -22,6 +23,8 @@ use Rattle.pm_lock.proofs.Waiting.{all_then, once_more}
 use Rattle.pm_call.specs.LockRefusals.{TriedLocks}
 use Rattle.pm_call.specs.Locking.{to_take, to_write}
 use Rattle.pm_call.specs.LocksGot.{AreGotBy, BusyLocksAreTried, GotLocksAreTaken, MissedLocksAreTried, RefusedRaisesAreTried}
+use Rattle.pm_call.specs.WantedTaken.{TakesByTries, TriesOnce}
+use Rattle.pm_call.specs.WantedTried.{got_all}
 use Rattle.pm_call.proofs.TakenLocks.{no_finds, seen_raises}
 
 -- ---- what was seen, was seen
@@ -178,3 +181,36 @@ refused_raises_are_tried at s wants steps k line got found =
       raises_ = subst (λ (ls : List HeldLock). AreRaised looked (to_write s wants) (take k (s.locks ++ ls)) x) (took_all s wants) (some_raised looked (to_write s wants) (take k (s.locks ++ plan)) line);
       lists = ap (λ (ls : List HeldLock). raised (to_write s wants) (take k (s.locks ++ ls)) ++ drop k (s.locks ++ ls)) (took_all s wants);
     }
+
+-- ---- INSIDE A TRANSACTION each lock is tried once
+module _ (s : Standing) (wants : List Want) where
+  got_first : got_all s wants ≡ after_all s.view (tries (take (length (to_take s wants)) (to_take s wants)))
+  got_first = ap (λ (ls : List HeldLock). after_all s.view (tries ls)) (took_all s wants)
+
+  pub none_once : TriesOnce (none_looked s wants 0 s.view refl (λ n there. there))
+  unfolding none_looked after_all
+  none_once = record { locks = inl refl; raises_ = inl refl }
+
+  pub busy_once : (k : ℕ) → k < length (to_take s wants) → TriesOnce (busy_locks_are_tried s wants k (lock_at (to_take s wants) k).line (lock_at (to_take s wants) k).write)
+  unfolding busy_locks_are_tried none_looked after_all
+  busy_once k low = record { locks = inr (low, refl); raises_ = inl refl }
+
+  module _ (at : View → Type 0) where
+    pub missed_once : (missed : FindsNone at (got_all s wants) s.view.fixed.shape (to_take s wants)) → TriesOnce (missed_locks_are_tried at s wants (tries (to_take s wants)) (inl refl) missed)
+    unfolding missed_locks_are_tried after_all
+    missed_once missed = record { locks = inl got_first; raises_ = inl refl }
+
+    module _ (found : FindsAll at (got_all s wants) s.view.fixed.shape (to_take s wants)) where
+      pub taken_once : TakesByTries s wants (after_all (after_all (got_all s wants) found.steps) (raises (to_write s wants) (s.locks ++ to_take s wants)))
+      unfolding got_locks_are_taken
+      taken_once = record { takes = got_locks_are_taken at s wants (tries (to_take s wants)) (inl refl) found; once = refl }
+
+      pub raise_once : (k : ℕ) → k < length (s.locks ++ to_take s wants)
+          → TriesOnce (refused_raises_are_tried at s wants (tries (to_take s wants)) k (lock_at (s.locks ++ to_take s wants) k).line (inl refl) found)
+      unfolding refused_raises_are_tried
+      raise_once k low =
+          let y : View = after_all (got_all s wants) found.steps in
+          let x : View = after_all y (raises (to_write s wants) (take k (s.locks ++ to_take s wants)) ++ Raise (lock_at (s.locks ++ to_take s wants) k).line false ∷ []) in record {
+            locks = inl got_first;
+            raises_ = inr (subst (λ (ls : List HeldLock). (k < length (s.locks ++ ls)) × (x ≡ after_all y (raises (to_write s wants) (take k (s.locks ++ ls)) ++ Raise (lock_at (s.locks ++ ls) k).line false ∷ []))) (took_all s wants) (low, refl));
+          }

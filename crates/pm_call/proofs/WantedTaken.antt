@@ -33,9 +33,9 @@ use Rattle.pm_call.specs.Did.{IsAt, unseen}
 use Rattle.pm_call.specs.Held.{is_in_locks}
 use Rattle.pm_call.specs.LockRefusals.{TriedLocks, locking_tests}
 use Rattle.pm_call.specs.Locking.{locks_with, to_take, to_write}
-use Rattle.pm_call.specs.WantedTaken.{WantedTaken, WantedTakenAs, WantsRefused}
+use Rattle.pm_call.specs.WantedTaken.{TriesOnce, WantedTaken, WantedTakenAs, WantsRefused}
 use Rattle.pm_call.specs.WantedTried.{AreFew, IsPlaced, WantedTried, WantedTriedAs, WorksWith, got_all}
-use Rattle.pm_call.proofs.LocksGot.{busy_locks_are_tried, got_locks_are_taken, last_is, missed_locks_are_tried, none_looked, refused_raises_are_tried, some_raised}
+use Rattle.pm_call.proofs.LocksGot.{busy_locks_are_tried, busy_once, last_is, missed_locks_are_tried, missed_once, none_looked, none_once, raise_once, refused_raises_are_tried, some_raised, taken_once}
 use Rattle.pm_call.proofs.RefusedWants.{all_at, busy_first, full_first, is_missing, is_tried, is_wanted, missing_first, none_writes, not_in, tests_at, unlisted, unplaced_first, written_wanted}
 use Rattle.pm_call.proofs.TakenLocks.{can_lock, locks_may_be_wanted}
 use Rattle.pm_call.proofs.TriedLocks.{fixed_on, some}
@@ -89,7 +89,8 @@ module _ (s : Standing) (wants : List Want) (at : At s) where
       record {
         view = s.view;
         all = s.locks;
-        tried = nothing;
+        tried = nothing.0;
+        once = nothing.1;
         seen = unseen;
         first = first;
         unstopped = un;
@@ -103,8 +104,8 @@ module _ (s : Standing) (wants : List Want) (at : At s) where
         nil [] = refl
         nil (l ∷ locks) = ap (λ more. l ∷ more) (nil locks)
 
-        nothing : TriedLocks s wants s.locks s.view
-        nothing = subst (λ ls. TriedLocks s wants ls s.view) (nil s.locks) (none_looked s wants 0 s.view refl (λ n there. there))
+        nothing : (tried : TriedLocks s wants s.locks s.view) × TriesOnce tried
+        nothing = subst (λ ls. (tried : TriedLocks s wants ls s.view) × TriesOnce tried) (nil s.locks) (none_looked s wants 0 s.view refl (λ n there. there), none_once s wants)
 
     -- a try is refused
     refused_try : (k : ℕ) → k < length (to_take s wants) → AreFew s wants → IsPlaced s wants
@@ -119,6 +120,7 @@ module _ (s : Standing) (wants : List Want) (at : At s) where
             view = x;
             all = s.locks ++ got;
             tried = tried;
+            once = busy_once s wants k low;
             seen = saw_busy;
             first = first_at saw_busy (s.locks ++ got) x refusal.Busy tried (busy_first s wants saw_busy refl few placed
                 (is_tried s wants (64 * l.line + 64) false (λ w _. unlisted s wants (can_lock s at).lists placed once_all k low (high k low) w) (is_wanted s wants (can_lock s at).lists placed once_all k low (high k low))));
@@ -144,6 +146,7 @@ module _ (s : Standing) (wants : List Want) (at : At s) where
             view = x;
             all = s.locks ++ to_take s wants;
             tried = tried;
+            once = missed_once s wants mem missed;
             seen = saw_missing (64 * line + 64);
             first = first_at (saw_missing (64 * line + 64)) (s.locks ++ to_take s wants) x refusal.NoObject tried (missing_first s wants (saw_missing (64 * line + 64)) refl few placed
                 (is_missing s wants (64 * line + 64) (unlisted s wants (can_lock s at).lists placed once_all k missed.low (high k missed.low) false) (is_wanted s wants (can_lock s at).lists placed once_all k missed.low (high k missed.low))));
@@ -184,6 +187,7 @@ module _ (s : Standing) (wants : List Want) (at : At s) where
             view = x;
             all = now;
             tried = tried;
+            once = raise_once s wants mem found k low;
             seen = saw_busy;
             first = first_at saw_busy now x refusal.Busy tried (busy_first s wants saw_busy refl few placed
                 (is_tried s wants (64 * l.line + 64) true (to_read l.line (not_in s.locks l.line true (none_writes s.locks (to_take s wants) k once_all low (reader l.write t.0))))
@@ -276,7 +280,7 @@ module _ {M : Type 0} (at : M → View → Type 0) (old : Lane M) (wants : List 
       all_taken few placed r =
           let x : View = after_all looked (raises (to_write s wants) all) in
           let left : RaisedBy has_fields = subst RaisedBy fields_are r in
-          (few, placed, (x, got_locks_are_taken (at mid.memory) s wants (tries (to_take s wants)) (inl refl) found, works_left (to_write s wants) all (locks_with s wants) x (are_raised (to_write s wants) looked all) left))
+          (few, placed, (x, taken_once s wants (at mid.memory) found, works_left (to_write s wants) all (locks_with s wants) x (are_raised (to_write s wants) looked all) left))
 
       one_refused : AreFew s wants → IsPlaced s wants → RaisedAllAs at (wants_to_write mid.shape mid.pool wants) looked mid new false → WantsRefused at new s wants refusal.Busy
       one_refused few placed r =

@@ -14,16 +14,16 @@ use Rattle.pm_world.specs.declared.lane.Lane.{Lane}
 use Rattle.pm_call.specs.At.{At}
 use Rattle.pm_call.specs.Did.{Cut, IsUnrefused}
 use Rattle.pm_call.specs.GivenUp.{GivesUpFor, WasGivenUp, with_locks}
-use Rattle.pm_call.specs.Locking.{MayLock, TakesLocks, locked_with}
+use Rattle.pm_call.specs.Locking.{MayLock, locked_with}
 use Rattle.pm_call.specs.Plans.{gives_up}
-use Rattle.pm_call.specs.WantedTaken.{RefusesWants}
+use Rattle.pm_call.specs.WantedTaken.{RefusesWants, TakesByTries}
 
--- DONE: the locks are taken, the operation is told, and the lane is at work at this level. REFUSED:
--- the transaction is given up with the locks that the lane holds by then, or the lane stopped on the
--- way
+-- DONE: the locks are taken, each at one try, the operation is told, and the lane is at work at this
+-- level. REFUSED: each lock was tried once at most, and the transaction is given up with the locks
+-- that the lane holds by then, or the lane stopped on the way
 abbrev pub LockedAs : {M : Type 0} → (M → View → Type 0) → Lane M → Standing → Operation
     → List Want → ℕ → Result (Unit {0}) Refusal → Type 0
-LockedAs at lane s op wants level (Ok done) = (x : View) × TakesLocks s wants x
+LockedAs at lane s op wants level (Ok done) = (x : View) × TakesByTries s wants x
     × MayLock s op wants level × IsUnrefused (moved s x) op
     × Works at lane (locked_with s op wants level x) × At (locked_with s op wants level x)
 LockedAs at lane s op wants level (Err refusal.Stopped) = (r : Refusal)

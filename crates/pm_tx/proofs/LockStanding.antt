@@ -39,7 +39,7 @@ module _ {M : Type 0} (at : M → View → Type 0) (old new : Lane M) (h : LaneH
       → (result : Result (Unit {0}) Refusal) → LockedAs at new s op wants level result
       → StandsWith at new (turned new op no_value result h)
   locked_turns s op wants level some most none same (Ok done) l =
-      let took = taken_told s wants l.0 l.1 in
+      let took = taken_told s wants l.0 l.1.takes in
       working_stands at new (told_more op None h) (locked_with s op wants level l.0) l.4 l.5
       (tells_history op None l.0 (told_open s.view l.0 took none)
       ∙ ap (told_more op None) (told_history s.view l.0 h took same))
