@@ -1,7 +1,7 @@
 -- THE CALLS THAT A LANE'S LINES ARE, over a pool: docs/COMMANDS.md, "Scripts".
-use Rattle.std.specs.Prelude.{◌≡◌, ℕ, zero, suc, ◌-◌, ◌+◌, ◌≤◌, ◌==◌, Bool, true, false, if◌then◌else◌, List, [], ◌∷◌, length, map, slice_index, Option, Some, None}
+use Rattle.std.specs.Prelude.{◌≡◌, ℕ, zero, suc, ◌-◌, ◌+◌, ◌≤◌, ◌==◌, Bool, true, false, not, if◌then◌else◌, List, [], ◌∷◌, length, map, slice_index, option_map, Option, Some, None}
 use Rattle.std.specs.Borrow.{Bor}
-use Rattle.std.specs.List.{list_any}
+use Rattle.std.specs.List.{find, list_any}
 use Rattle.std.specs.List.Sorted.{IsStrictlyIncreasing}
 use Rattle.std.specs.Option.{option_map_or}
 use Rattle.pm_objects.specs.declared.calls.At.{At as ListPlace}
@@ -187,3 +187,9 @@ runs_on_lanes operation = false
 
 abbrev pub RunsOnLanes : ScriptLine → Type 0
 RunsOnLanes line = runs_on_lanes line.operation ≡ true
+
+-- the first line that lanes do not run
+abbrev pub beyond_lanes : List ScriptLine → Option ℕ
+beyond_lanes lines =
+    option_map (λ (line : ScriptLine). line.line)
+    (find (λ (line : ScriptLine). not (runs_on_lanes line.operation)) lines)

@@ -16,6 +16,11 @@ pub behind_passed : (front back : List (Bool × Why)) → first_failed front ≡
 behind_passed [] back fine = refl
 behind_passed (test ∷ front) back fine = passed test.0 test.1 (first_failed front) (behind_passed front back) fine
 
+-- where no test fails, none of the front does
+pub front_passed : (front back : List (Bool × Why)) → first_failed (front ++ back) ≡ None → first_failed front ≡ None
+front_passed [] back fine = refl
+front_passed (test ∷ front) back fine = passed test.0 test.1 (first_failed (front ++ back)) (front_passed front back) fine
+
 -- what fails in the front fails first
 pub front_failed : (front back : List (Bool × Why)) (why : Why) → first_failed front ≡ Some why → first_failed (front ++ back) ≡ Some why
 front_failed [] back why is = cc

@@ -1,12 +1,13 @@
 -- A line that was read: its reason if it is bad, and what it leaves.
-use Rattle.std.proofs.Common.{◌≡◌, ◌==◌, ℕ, ◌++◌, Bool, true, false, not, cond, List, [], ◌∷◌, Option, None, Some, Ok, Err, option_map, option_to_list, slice_index, refl, sym, ap, ◌∙◌}
+use Rattle.std.proofs.Common.{◌≡◌, ◌==◌, ℕ, ◌+◌, ◌++◌, Bool, true, false, not, cond, List, [], ◌∷◌, Option, None, Some, Ok, Err, option_map, option_to_list, slice_index, refl, sym, ap, ◌∙◌}
+use Rattle.std.specs.List.{cons_option, filter_map}
 use Rattle.std.specs.Option.{option_and_then, option_map_or}
 use Rattle.std.proofs.lemmas.Bool.{eqb-true}
 use Rattle.std.proofs.lemmas.List.{append-nil}
 use Rattle.pm_script.specs.Reading.{AreReadAs, AreReadBehind, HasLane, IsOutOfPlace, Reads, Takes, fault_at, next_line, place_why}
 use Rattle.pm_script.specs.Contexts.{Context}
 use Rattle.pm_script.specs.Grammar.{form, form_tests, keyword_of, place_asked, place_said, statement_of}
-use Rattle.pm_script.specs.Scripts.{IfBad, first_failed, line_said, place_tests, said, why_of, why_of_words, context_behind, fault_of}
+use Rattle.pm_script.specs.Scripts.{IfBad, first_failed, line_said, lines_from, place_tests, said, why_of, why_of_words, context_behind, fault_of}
 use Rattle.pm_script.specs.Words.{words, is_text, is_skipped}
 use Rattle.pm_script.specs.declared.fault.BadLine.{BadLine}
 use Rattle.pm_script.specs.declared.fault.LineFault.{LineFault}
@@ -17,7 +18,7 @@ use Rattle.pm_script.specs.declared.reader.Reader.{Reader}
 use Rattle.pm_script.specs.declared.statement.Keyword.{Keyword}
 use Rattle.pm_script.specs.declared.statement.Statement.{Statement}
 use Rattle.pm_script.proofs.Statements.{place_is, has_lane}
-use Rattle.pm_script.proofs.FailedTests.{back_passed, behind_passed, front_failed}
+use Rattle.pm_script.proofs.FailedTests.{back_passed, behind_passed, front_failed, front_passed}
 
 -- ---- the words of a line
 
@@ -73,6 +74,16 @@ words_in_place : (context : Context) (line : List (List ℕ)) (statement : State
 words_in_place context [] statement fine is = cc
 words_in_place context (word ∷ operands) statement fine is = place_there context (keyword_of word) operands statement fine is
 
+lane_there : (context : Context) (found : Option Keyword) (operands : List (List ℕ)) (statement : Statement)
+    → option_map_or (λ keyword. first_failed (form_tests context (form keyword) operands ++ place_tests context (place_asked keyword))) found (Some Word) ≡ None
+    → option_and_then (λ keyword. statement_of context keyword operands) found ≡ Some statement → HasLane statement
+lane_there context (Some keyword) operands statement fine is = has_lane context keyword operands statement is (front_passed (form_tests context (form keyword) operands) (place_tests context (place_asked keyword)) fine)
+lane_there context None operands statement fine is = cc
+
+good_words_lane : (context : Context) (line : List (List ℕ)) (statement : Statement) → why_of_words context line ≡ None → said context line ≡ Some statement → HasLane statement
+good_words_lane context [] statement fine is = cc
+good_words_lane context (word ∷ operands) statement fine is = lane_there context (keyword_of word) operands statement fine is
+
 -- ---- a line
 
 not_skipped : (good skipped : Bool) (why : Option Why) → cond (not good) (Some Text) (cond skipped None why) ≡ None → (skipped ≡ true → ⊥) → why ≡ None
@@ -80,11 +91,18 @@ not_skipped true false why fine other = fine
 not_skipped true true why fine other = absurd (other refl)
 not_skipped false skipped why fine other = cc
 
+-- the words of a line that is not bad are not, where they say something
+good_words : (context : Context) (text : List ℕ) (statement : Statement) → why_of context text ≡ None → said context (words text) ≡ Some statement → why_of_words context (words text) ≡ None
+good_words context text statement fine is =
+    not_skipped (is_text text) (is_skipped (words text)) (why_of_words context (words text)) fine (λ skipped. let nothing = skipped_says context (words text) skipped in cc)
+
 -- what a line says that is not bad is in place
 pub in_place : (context : Context) (text : List ℕ) (statement : Statement) → why_of context text ≡ None → said context (words text) ≡ Some statement → place_why context (place_said statement) ≡ None
-in_place context text statement fine is =
-    words_in_place context (words text) statement
-    (not_skipped (is_text text) (is_skipped (words text)) (why_of_words context (words text)) fine (λ skipped. let nothing = skipped_says context (words text) skipped in cc)) is
+in_place context text statement fine is = words_in_place context (words text) statement (good_words context text statement fine is) is
+
+-- a lane that a line names that is not bad is one of the 32
+pub good_lane : (context : Context) (text : List ℕ) (statement : Statement) → why_of context text ≡ None → said context (words text) ≡ Some statement → HasLane statement
+good_lane context text statement fine is = good_words_lane context (words text) statement (good_words context text statement fine is) is
 
 why_there : (context : Context) (text : List ℕ) → is_text text ≡ true → why_of context text ≡ cond (is_skipped (words text)) None (why_of_words context (words text))
 why_there context text good = ap (λ (b : Bool). cond (not b) (Some Text) (cond (is_skipped (words text)) None (why_of_words context (words text)))) good
@@ -97,6 +115,26 @@ why_skipped context text good skipped = why_there context text good ∙ ap (λ (
 
 abbrev fault : ℕ → Why → BadLine
 fault n why = record { line = n; why = why }
+
+-- ---- lines none of which is bad
+
+nothing : {A : Type 0} (found : Option A) (others : List A) → cons_option found others ≡ [] → (found ≡ None) × (others ≡ [])
+nothing (Some x) others is = cc
+nothing None others is = (refl, is)
+
+no_why : {A : Type 0} (f : Why → A) (why : Option Why) → option_map f why ≡ None → why ≡ None
+no_why f (Some x) is = cc
+no_why f None is = refl
+
+-- the first is not, and none of the others
+pub first_good : (context : Context) (n : ℕ) (text : List ℕ) (lines : List (List ℕ)) → filter_map fault_of (lines_from context n (text ∷ lines)) ≡ []
+    → (why_of context text ≡ None) × (filter_map fault_of (lines_from (context_behind context n (said context (words text))) (n + 1) lines) ≡ [])
+first_good context n text lines good =
+    let next = context_behind context n (said context (words text)) in
+    let fine = nothing (option_map (fault n) (why_of context text)) (filter_map fault_of (lines_from next (n + 1) lines)) good in
+    (no_why (fault n) (why_of context text) fine.0, fine.1)
+
+-- ---- a line after those that were read
 
 module _ (old : Reader) (n : ℕ) (text : List ℕ) where
   pub bad_text : is_text text ≡ false → fault_of (next_line old n text) ≡ Some (fault n Text)

@@ -7,12 +7,11 @@ use Rattle.pm_script.specs.Grammar.{place_said}
 use Rattle.pm_script.specs.Operations.{closes, opens, place_of, stands_inside, stands_outside}
 use Rattle.pm_script.specs.Reading.{place_why}
 use Rattle.pm_script.specs.Contexts.{Context, start}
-use Rattle.pm_script.specs.Scripts.{AreCalls, AreInside, IsChange, IsClose, IsScript, begun_behind, closed, context_behind, context_from, fault_of, line_of, line_said, lines_from, of_lane, opened, operations, said, transaction_of, why_of}
+use Rattle.pm_script.specs.Scripts.{AreCalls, AreInside, IsChange, IsClose, IsScript, begun_behind, closed, context_behind, context_from, fault_of, line_of, line_said, lines_from, of_lane, opened, operations, said, transaction_of}
 use Rattle.pm_script.specs.Scripts.AreCalls.{none, transaction, outside}
 use Rattle.pm_script.specs.Scripts.AreInside.{change, level, no_more}
 use Rattle.pm_script.specs.Words.{words}
 use Rattle.pm_script.specs.declared.context.OpenTransaction.{OpenTransaction}
-use Rattle.pm_script.specs.declared.fault.Why.{Why}
 use Rattle.pm_script.specs.declared.fault.Why.TheVariants.{Inside, Outside}
 use Rattle.pm_script.specs.declared.script.Script.{Script}
 use Rattle.pm_script.specs.declared.script.ScriptLine.{ScriptLine}
@@ -21,7 +20,7 @@ use Rattle.pm_script.specs.declared.script.ScriptOp.TheVariants.{Begin, Commit, 
 use Rattle.pm_script.specs.declared.script.ScriptWant.{ScriptWant}
 use Rattle.pm_script.specs.declared.statement.Statement.{Statement}
 use Rattle.pm_script.specs.declared.statement.Statement.TheVariants as says
-use Rattle.pm_script.proofs.Judging.{in_place}
+use Rattle.pm_script.proofs.Judging.{first_good, in_place}
 use Rattle.pm_script.proofs.OpenTransactions.{other_behind, own_behind}
 
 -- ---- operations
@@ -130,22 +129,14 @@ module _ (lane : ℕ) (context : Context) (n : ℕ) (lines : List ScriptLine) wh
   line_first (Some (says.Lane k)) fine rest = rest
   line_first (Some (says.Operation x)) fine rest = operation_first x context.lane refl (fine (says.Operation x) refl) rest
 
-nothing : {A : Type 0} (found : Option A) (others : List A) → cons_option found others ≡ [] → (found ≡ None) × (others ≡ [])
-nothing (Some x) others is = cc
-nothing None others is = (refl, is)
-
-no_why : {A : Type 0} (f : Why → A) (why : Option Why) → option_map f why ≡ None → why ≡ None
-no_why f (Some x) is = cc
-no_why f None is = refl
-
 rest_from : (lane : ℕ) (context : Context) (n : ℕ) (lines : List (List ℕ)) → filter_map fault_of (lines_from context n lines) ≡ [] → (context_from context n lines).begun ≡ []
     → Rest (transaction_of lane context.begun) (operations (of_lane lane (filter_map line_of (lines_from context n lines))))
 rest_from lane context n [] good whole = subst (λ begun. Rest (transaction_of lane begun) []) (sym whole) none
 rest_from lane context n (text ∷ lines) good whole =
     let statement = said context (words text) in
     let next = context_behind context n statement in
-    let fine = nothing (option_map (λ why. record { line = n; why = why }) (why_of context text)) (filter_map fault_of (lines_from next (n + 1) lines)) good in
-    line_first lane context n (filter_map line_of (lines_from next (n + 1) lines)) statement (λ s is. in_place context text s (no_why _ (why_of context text) fine.0) is) (rest_from lane next (n + 1) lines fine.1 whole)
+    let fine = first_good context n text lines good in
+    line_first lane context n (filter_map line_of (lines_from next (n + 1) lines)) statement (λ s is. in_place context text s fine.0 is) (rest_from lane next (n + 1) lines fine.1 whole)
 
 pub lane_calls : (lines : List (List ℕ)) (script : Script) → IsScript lines script → (lane : ℕ) → AreCalls (operations (of_lane lane script.lines))
 lane_calls lines script is lane = subst (λ ls. AreCalls (operations (of_lane lane ls))) (sym is.lines_said) (rest_from lane start 1 lines is.good is.closed)

@@ -1,16 +1,18 @@
--- The lanes of a script's lines are those that its `lane` lines name.
-use Rattle.std.proofs.Common.{◌≡◌, ℕ, ◌+◌, ◌<◌, ◌≤◌, max, All, List, [], ◌∷◌, Option, Some, None, option_map, sym, subst, arith}
+-- The lanes of a script's lines are those that its `lane` lines name, and these are few.
+use Rattle.std.proofs.Common.{◌≡◌, ℕ, ◌+◌, ◌<◌, ◌≤◌, max, All, List, [], ◌∷◌, Option, Some, None, option_map, refl, sym, subst, arith}
 use Rattle.std.specs.List.{cons_option, filter_map}
 use Rattle.std.specs.Option.{IfSome, option_and_then}
 use Rattle.std.proofs.lemmas.List.Elements.{All-nil, All-cons}
 use Rattle.pm_script.specs.Contexts.{Context, start}
-use Rattle.pm_script.specs.Scripts.{IsScript, context_behind, context_from, left, line_of, line_said, lines_from, said}
+use Rattle.pm_script.specs.Reading.{HasLane}
+use Rattle.pm_script.specs.Scripts.{IsScript, context_behind, context_from, fault_of, left, line_of, line_said, lines_from, said}
 use Rattle.pm_script.specs.Words.{words}
 use Rattle.pm_script.specs.declared.script.Script.{Script}
 use Rattle.pm_script.specs.declared.script.ScriptLine.{ScriptLine}
 use Rattle.pm_script.specs.declared.script.ScriptOp.{ScriptOp}
 use Rattle.pm_script.specs.declared.statement.Statement.{Statement}
 use Rattle.pm_script.specs.declared.statement.Statement.TheVariants as says
+use Rattle.pm_script.proofs.Judging.{first_good, good_lane}
 
 -- the present lane is one of those that were named
 abbrev IsNamed : Context → Type 0
@@ -72,3 +74,25 @@ some_lane lines script is =
     let grown = grow_from start 1 lines in
     let named = is.lanes_named in
     omega (arith, grown, named)
+
+-- ---- 32 lanes at most
+
+few_behind : (context : Context) (n : ℕ) (statement : Option Statement) → ((s : Statement) → statement ≡ Some s → HasLane s) → context.lanes ≤ 32 → (context_behind context n statement).lanes ≤ 32
+few_behind context n None has few = few
+few_behind context n (Some (says.Lane lane)) has few =
+    let low : lane < 32 = has (says.Lane lane) refl in
+    let e : max context.lanes (lane + 1) ≤ 32 = omega (arith, few, low) in e
+few_behind context n (Some (says.Operation operation)) has few = few
+
+few_from : (context : Context) (n : ℕ) (lines : List (List ℕ)) → filter_map fault_of (lines_from context n lines) ≡ [] → context.lanes ≤ 32 → (context_from context n lines).lanes ≤ 32
+few_from context n [] good few = few
+few_from context n (text ∷ lines) good few =
+    let statement = said context (words text) in
+    let fine = first_good context n text lines good in
+    few_from (context_behind context n statement) (n + 1) lines fine.1 (few_behind context n statement (λ s is. good_lane context text s fine.0 is) few)
+
+pub few_lanes : (lines : List (List ℕ)) (script : Script) → IsScript lines script → script.lanes ≤ 32
+few_lanes lines script is =
+    let few = few_from start 1 lines is.good (omega arith) in
+    let named = is.lanes_named in
+    omega (arith, few, named)

@@ -1,5 +1,5 @@
 ghost use Rattle.std.specs.List.Sorted.{IsStrictlyIncreasing};
-ghost use Rattle.std.specs.Prelude.{map, All, ◌≡◌, ◌<◌, ℕ, List};
+ghost use Rattle.std.specs.Prelude.{map, All, ◌≡◌, ◌<◌, ◌≤◌, ℕ, List};
 ghost use Rattle.pm_script.specs.Scripts.{AreCalls, IsScript, IsBadLine, NamesBindingLines, NamesEarlierLines, of_lane, operations};
 ghost use Rattle.pm_script.specs.Stops.{AreStops};
 ghost use Rattle.pm_script.specs.declared.fault.BadLine.{BadLine};
@@ -28,6 +28,12 @@ pub fn a_lanes_lines_are_calls()
 pub fn one_lane_has_all_lines()
     ensures below { (lines : List (List ℕ)) (script : Script) → IsScript lines script → All (λ (line : ScriptLine). line.lane < script.lanes) script.lines }
     ensures one { (lines : List (List ℕ)) (script : Script) → IsScript lines script → script.lanes ≡ 1 → All (λ (line : ScriptLine). line.lane ≡ 0) script.lines }
+{}
+
+/// A law: a script counts 32 lanes at most. No code runs.
+pub fn a_script_names_few_lanes()
+    ensures { (lines : List (List ℕ)) (script : Script) → IsScript lines script
+        → script.lanes ≤ 32 }
 {}
 
 /// A law: each letter of a line stands for what an earlier line of its lane gave, which binds a letter. No code runs.

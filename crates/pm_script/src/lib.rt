@@ -23,8 +23,8 @@ mod words;
 
 pub use fault::{BadLine, ScriptFault, Why};
 pub use laws::{
-    a_lanes_lines_are_calls, letters_are_bound_before, one_lane_has_all_lines,
-    one_reading_per_text, the_lines_of_a_script_rise,
+    a_lanes_lines_are_calls, a_script_names_few_lanes, letters_are_bound_before,
+    one_lane_has_all_lines, one_reading_per_text, the_lines_of_a_script_rise,
 };
 pub use numbers::{MAX_DIGITS, number};
 pub use parsing::parse;

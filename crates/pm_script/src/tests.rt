@@ -882,6 +882,7 @@ fn laws(_: HostRuntime) {
     the_lines_of_a_script_rise();
     a_lanes_lines_are_calls();
     one_lane_has_all_lines();
+    a_script_names_few_lanes();
     letters_are_bound_before();
 }
 
