@@ -92,4 +92,4 @@ module _ {G : Type 0} (b : Beginning) (keep : ℕ) (before after : List (LaneWor
     pub all_have_numbers : HaveAllNumbers (all_entries flags after)
     all_have_numbers =
         let w = first_item after (let s = ran.closed.world.some_lanes in let n = ran.works in omega (arith, s, n)) in
-        have_numbers laws b keep script before after image flags ran works w (λ j l. did_calls j w l)
+        have_numbers laws b keep script before after image flags ran works w (λ j l. did_calls j w l) image flags ran.survives ran.judged

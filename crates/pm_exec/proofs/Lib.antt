@@ -1,4 +1,5 @@
 pub mod CallLines
+pub mod Choices
 pub mod Entries
 pub mod LaneCalls
 pub mod LaneRuns

@@ -1,5 +1,6 @@
 -- WHAT THE LANES OF A RUN REPORT is a history: it is the plain model's, each lane's part is the first
--- of its calls in the script, and the image that is left means it.
+-- of its calls in the script, and the image that is left means it; so does each other that may
+-- survive, with the fates that it gives to the calls that were not answered.
 use Rattle.std.proofs.Common.{◌≡◌, ℕ, ◌+◌, ◌<◌, ◌≤◌, ◌==◌, if◌then◌else◌, Bool, true, false, All, Contains, List, [], ◌∷◌, ◌++◌, length, map, get_or, reverse, take, option_to_list, Option, Some, None, refl, sym, ap, ◌∙◌, subst, arith}
 use Rattle.std.specs.List.{AllZip}
 use Rattle.std.proofs.lemmas.List.{append-nil, get_or-map, get_or_default, length-map}
@@ -8,10 +9,11 @@ use Rattle.pm_crash.specs.Calls.{state_of}
 use Rattle.pm_crash.specs.Replayed.{kept_pending}
 use Rattle.pm_image.specs.Blocks.{blocks}
 use Rattle.pm_image.specs.Logs.{recovered_at}
-use Rattle.pm_lanes.specs.Closed.{AllAreBack, ClosedPoolsMeanTheirHistories, ClosedPoolsReplay, NoRecordTorn, OpenCallsAreJudged, OtherCallsAreKept, keeps_call}
+use Rattle.pm_lanes.specs.Closed.{AllAreBack, ClosedPoolsMeanTheirHistories, ClosedPoolsReplay, MaySurvive, NoRecordTorn, OpenCallsAreJudged, OtherCallsAreKept, keeps_call}
 use Rattle.pm_lanes.specs.Opens.{IsOpened}
 use Rattle.pm_objects.specs.declared.history.Entry.{Entry}
 use Rattle.pm_model.specs.History.{IsHistory, is_answered}
+use Rattle.pm_run.specs.Fates.{AreJudged}
 use Rattle.pm_run.specs.Runs.{HaveRun}
 use Rattle.pm_script.specs.declared.script.ScriptLine.{ScriptLine}
 use Rattle.pm_shared.specs.declared.rule.Beginning.{Beginning}
@@ -26,12 +28,13 @@ use Rattle.pm_calls.specs.Calls.{calls_from, calls_of_lane, level_behind, line_o
 use Rattle.pm_exec.specs.Entries.{HasNumber, HaveAllNumbers}
 use Rattle.pm_script.specs.Scripts.{of_lane}
 use Rattle.pm_exec.specs.Reports.{AreInOrder, AreWorksFor, HaveLines, IsLaneHistory, IsLined, IsWorkFor, all_entries, ends_of, entries_of, entries_of_lane}
-use Rattle.pm_exec.specs.Runs.{RanOnLanes, Replayed, StandsFor}
+use Rattle.pm_exec.specs.Runs.{RanOnLanes, Replayed, StandsFor, SurvivesAs}
 use Rattle.pm_exec.specs.declared.outcome.Outcome.{Outcome}
 use Rattle.pm_script.specs.declared.script.Script.{Script}
 use Rattle.pm_exec.specs.Works.{DidCalls, all_answers}
 use Rattle.pm_exec.specs.declared.answer.Answer.{Answer}
 use Rattle.pm_exec.specs.declared.work.LaneWork.{LaneWork}
+use Rattle.pm_exec.proofs.Choices.{IsAnsweredWork, are_judged, but_fates, judged_flags, refated, still_in_order}
 use Rattle.pm_exec.proofs.Reported.{InOrder, LaneSays, NumberOf, OfSome, are_entries, are_history, are_of_lane, least_number, number_below}
 use Rattle.pm_exec.proofs.Reports.{LaneLeft, all_answered, calls_are, entries_with, lane_says, not_more, root_answered, with_roots}
 use Rattle.pm_exec.proofs.Entries.{all_in, in_all}
@@ -75,106 +78,14 @@ each_lined (a ∷ xs) (l ∷ ls) is all =
     let long : length a.lines.items ≡ length l = sym (length-map a.lines.items line_of) ∙ ap (λ (x : List ScriptLine). length x) first in
     All-cons IsLined a xs (omega (arith, some, long)) (each_lined xs ls more (All-tail IsSomeLine l ls all))
 
-module _ {G : Type 0} (laws : PoolLaws) (b : Beginning) (keep_number : ℕ) (script : List ScriptLine) (before after : List (LaneWork G)) (image : List ℕ) (flags : List Bool)
-    {left : LaneWork G → LaneWork G → View → Type 0} (ran : HaveRun left b keep_number before after image flags) (works : AreWorksFor b.pool script b.lanes before)
+module _ {G : Type 0} (laws : PoolLaws) (b : Beginning) (keep_number : ℕ) (script : List ScriptLine) (before after : List (LaneWork G)) (written : List ℕ) (flags_written : List Bool)
+    {left : LaneWork G → LaneWork G → View → Type 0} (ran : HaveRun left b keep_number before after written flags_written) (works : AreWorksFor b.pool script b.lanes before)
     (w : LaneWork G) (dids : (k : ℕ) (low : k < b.lanes) → DidCalls (get_or before k w) (get_or after k w) (ran.each k w low).view) where
   abbrev g : Past
   g = ran.closed.last.past
 
-  abbrev keep : ℕ → Bool
-  keep n = keeps_call b ran.closed.last image n
-
-  abbrev flag_of : ℕ → Bool
-  flag_of k = get_or flags k true
-
   abbrev work_of : ℕ → LaneWork G
   work_of k = get_or after k w
-
-  -- ---- A LANE
-
-  -- the lane left its answers, with the pool's id and its number
-  left_by : (k : ℕ) → (low : k < b.lanes) → LaneLeft b.pool k (flag_of k) g keep (ran.each k w low).view (work_of k).answers.items (work_of k).unanswered
-  left_by k low =
-      let lane = ran.each k w low in
-      let v = lane.view in
-      let did : DidCalls (get_or before k w) (work_of k) v = dids k low in
-      let for_ : IsWorkFor b.pool script k (get_or before k w) = works k w low in
-      let own = ran.closed.lanes k v lane.there in
-      let same : ran.closed.last.views k ≡ v = ap ran.closed.last.views (sym lane.lane_is) ∙ own.1 in
-      let flagged : flag_of k ≡ is_judged_kept b.shape ran.words (get_or ran.undrained k []) image k =
-      get_or_default flags k true false (let one = ran.judged.count in let two = ran.count in omega (arith, low, one, two))
-      ∙ ran.judged.each k (let two = ran.count in omega (arith, low, two)) in
-      let is_answer : (a : Answer) (d : Ended) → IsAnswer b.pool k a d → IsAnswer (get_or before k w).pool v.fixed.lane a d =
-      λ a d is. subst (λ p. IsAnswer p v.fixed.lane a d) (sym for_.pool_is) (subst (λ l. IsAnswer b.pool l a d) (sym lane.lane_is) is) in
-      record {
-        entries = ap (λ (u : View). u.entries) (sym same) ∙ (ran.closed.world.each_lane k low).entries;
-        shown = subst (λ l. AllZip (IsAnswer b.pool l) (all_answers (work_of k)) (reverse (calls_ended v))) lane.lane_is
-            (subst (λ p. AllZip (IsAnswer p v.fixed.lane) (all_answers (work_of k)) (reverse (calls_ended v))) for_.pool_is did.shown);
-        answered = did.answered;
-        open_ = did.open_;
-        either = λ a d here is. did.either a d here (is_answer a d is);
-        others = λ number call ends inside of not_it.
-            laws.others b ran.back ran.words image k v number call ran.closed lane.there ends inside (of ∙ sym lane.lane_is) not_it;
-        judged = λ call ends inside of.
-            laws.judges b ran.back ran.words image ran.undrained k v call ran.closed ran.back_with ran.survives lane.there ends inside (of ∙ sym lane.lane_is)
-            ∙ ap (λ l. is_judged_kept b.shape ran.words (get_or ran.undrained l []) image l) lane.lane_is
-            ∙ sym flagged;
-      }
-
-  abbrev entries_at : ℕ → List Entry
-  entries_at k = entries_with b.pool k (flag_of k) (work_of k).answers.items (work_of k).unanswered
-
-  says : (k : ℕ) → k < b.lanes → LaneSays g keep k (entries_at k)
-  says k low = lane_says b.pool k (flag_of k) g keep (ran.each k w low).view (work_of k).answers.items (work_of k).unanswered (left_by k low)
-
-  -- what is reported of a work is of its lane and pool
-  same_entries : (k : ℕ) → k < b.lanes → entries_of (flag_of k) (work_of k) ≡ entries_at k
-  same_entries k low =
-      let did : DidCalls (get_or before k w) (work_of k) (ran.each k w low).view = dids k low in
-      let for_ : IsWorkFor b.pool script k (get_or before k w) = works k w low in
-      let number : (work_of k).number ≡ k = did.same.0 ∙ for_.number in
-      let pool : (work_of k).pool ≡ b.pool = did.same.1 ∙ for_.pool_is in
-      λ i. entries_with (pool i) (number i) (flag_of k) (work_of k).answers.items (work_of k).unanswered
-
-  -- ---- THE NUMBERS
-
-  in_works : (e : Entry) → Has (all_entries flags after) e → OfSome b.lanes entries_at e
-  in_works e there =
-      let o = in_all flags after 0 e there in
-      let low : o.place < b.lanes = let l = o.low in let count = ran.works in omega (arith, l, count) in
-      record {
-        lane = o.place;
-        low = low;
-        there = subst (λ (es : List Entry). Has es e) (same_entries o.place low)
-            (subst (λ n. Has (entries_of (get_or flags n true) (work_of o.place)) e) (from_zero o.place) (o.there w));
-      }
-    where
-      from_zero : (n : ℕ) → 0 + n ≡ n
-      from_zero n = omega arith
-
-  works_have : (k : ℕ) → k < b.lanes → (e : Entry) → Has (entries_at k) e → Has (all_entries flags after) e
-  works_have k low e there =
-      all_in flags after 0 k w e (let count = ran.works in omega (arith, low, count))
-      (subst (λ n. Has (entries_of (get_or flags n true) (work_of k)) e) (omega arith) (subst (λ (es : List Entry). Has es e) (sym (same_entries k low)) there))
-
-  in_history : (n : ℕ) → n < g.length → (g.drew n).fixed.lane < b.lanes
-  in_history n low = ran.closed.world.of_lanes n low
-
-  number_again : (n : ℕ) → NumberOf b.lanes entries_at n → HasNumber (all_entries flags after) n
-  number_again n is =
-      let p = place_of (all_entries flags after) is.entry (works_have is.lane is.low is.entry is.there) in
-      record { entry = is.entry; there = (p.at, p.low, p.is is.entry); is = is.number }
-
-  pub have_numbers : HaveAllNumbers (all_entries flags after)
-  have_numbers = record {
-    least = has_all (λ (e : Entry). 1 ≤ e.number) (all_entries flags after) (λ e there.
-        let o = in_works e there in least_number g keep b.lanes in_history entries_at says o.lane o.low e o.there);
-    each = λ n number has some most.
-        let c = has.there in
-        let o = in_works has.entry (has_at (all_entries flags after) c.0 has.entry has.entry c.1 c.2) in
-        let is : has.entry.number ≡ number = has.is in
-        number_again n (number_below g keep b.lanes in_history entries_at says o.lane o.low has.entry o.there n some (omega (arith, most, is)));
-  }
 
   -- ---- THE LINES OF ANSWERS
 
@@ -186,106 +97,226 @@ module _ {G : Type 0} (laws : PoolLaws) (b : Beginning) (keep_number : ℕ) (scr
       each_lined all (calls_of_lane k script)
       (did.calls ∙ ap (λ (ls : List (List ScriptLine)). take (length all) ls) for_.lines) (calls_are_lined 0 (of_lane k script))
 
-  -- ---- THE HISTORY
+  -- ---- AN IMAGE THAT MAY SURVIVE, with the flags that judge it
 
-  module _ (entries : List Entry) (order : AreInOrder after flags entries) where
-    in_order : InOrder b.lanes entries_at entries
-    in_order =
-        let count : length after ≡ b.lanes = ran.works in
+  module _ (image : List ℕ) (flags : List Bool) (survives : MaySurvive b ran.closed.last image) (judged : AreJudged b.shape ran.words ran.undrained image flags) where
+    abbrev keep : ℕ → Bool
+    keep n = keeps_call b ran.closed.last image n
+
+    abbrev flag_of : ℕ → Bool
+    flag_of k = get_or flags k true
+
+    -- ---- A LANE
+
+    -- the lane left its answers, with the pool's id and its number
+    left_by : (k : ℕ) → (low : k < b.lanes) → LaneLeft b.pool k (flag_of k) g keep (ran.each k w low).view (work_of k).answers.items (work_of k).unanswered
+    left_by k low =
+        let lane = ran.each k w low in
+        let v = lane.view in
+        let did : DidCalls (get_or before k w) (work_of k) v = dids k low in
+        let for_ : IsWorkFor b.pool script k (get_or before k w) = works k w low in
+        let own = ran.closed.lanes k v lane.there in
+        let same : ran.closed.last.views k ≡ v = ap ran.closed.last.views (sym lane.lane_is) ∙ own.1 in
+        let flagged : flag_of k ≡ is_judged_kept b.shape ran.words (get_or ran.undrained k []) image k =
+        get_or_default flags k true false (let one = judged.count in let two = ran.count in omega (arith, low, one, two))
+        ∙ judged.each k (let two = ran.count in omega (arith, low, two)) in
+        let is_answer : (a : Answer) (d : Ended) → IsAnswer b.pool k a d → IsAnswer (get_or before k w).pool v.fixed.lane a d =
+        λ a d is. subst (λ p. IsAnswer p v.fixed.lane a d) (sym for_.pool_is) (subst (λ l. IsAnswer b.pool l a d) (sym lane.lane_is) is) in
         record {
-          each = λ i d low.
-              let o = (order.each i d low).0 in
-              let high : o.lane < b.lanes = let l = o.low in omega (arith, count, l) in
-              let c : Contains (entries_of (flag_of o.lane) (work_of o.lane)) (get_or entries i d) = o.is w in
-              record {
-                lane = o.lane;
-                low = high;
-                there = subst (λ (es : List Entry). Has es (get_or entries i d)) (same_entries o.lane high)
-                    (has_at (entries_of (flag_of o.lane) (work_of o.lane)) c.0 (get_or entries i d) (get_or entries i d) c.1 c.2);
-              };
-          numbers = λ i d low. (order.each i d low).1;
-          all = λ k low e there. all_has (λ (x : Entry). (1 ≤ x.number) × (x.number ≤ length entries)) (entries_of (flag_of k) (work_of k)) e
-              (order.all k w (omega (arith, count, low))) (subst (λ (es : List Entry). Has es e) (sym (same_entries k low)) there);
+          entries = ap (λ (u : View). u.entries) (sym same) ∙ (ran.closed.world.each_lane k low).entries;
+          shown = subst (λ l. AllZip (IsAnswer b.pool l) (all_answers (work_of k)) (reverse (calls_ended v))) lane.lane_is
+              (subst (λ p. AllZip (IsAnswer p v.fixed.lane) (all_answers (work_of k)) (reverse (calls_ended v))) for_.pool_is did.shown);
+          answered = did.answered;
+          open_ = did.open_;
+          either = λ a d here is. did.either a d here (is_answer a d is);
+          others = λ number call ends inside of not_it.
+              laws.others b ran.back ran.words image k v number call ran.closed lane.there ends inside (of ∙ sym lane.lane_is) not_it;
+          judged = λ call ends inside of.
+              laws.judges b ran.back ran.words image ran.undrained k v call ran.closed ran.back_with survives lane.there ends inside (of ∙ sym lane.lane_is)
+              ∙ ap (λ l. is_judged_kept b.shape ran.words (get_or ran.undrained l []) image l) lane.lane_is
+              ∙ sym flagged;
         }
 
-    pub is_history : IsHistory entries
-    is_history = are_history g keep b.lanes in_history entries_at says entries in_order
+    abbrev entries_at : ℕ → List Entry
+    entries_at k = entries_with b.pool k (flag_of k) (work_of k).answers.items (work_of k).unanswered
 
-    -- ---- A LANE'S PART
+    says : (k : ℕ) → k < b.lanes → LaneSays g keep k (entries_at k)
+    says k low = lane_says b.pool k (flag_of k) g keep (ran.each k w low).view (work_of k).answers.items (work_of k).unanswered (left_by k low)
 
-    end_at : (k : ℕ) → k < b.lanes → get_or (ends_of after) k end.Ended ≡ (work_of k).end
-    end_at k low = get_or-map (λ (x : LaneWork G). x.end) after k w end.Ended (let count = ran.works in omega (arith, count, low))
-
-    none_open : (k : ℕ) (low : k < b.lanes) (u : Option Answer) → (work_of k).unanswered ≡ u → ((calls : ℕ) → (work_of k).end ≡ end.Stopped calls → ⊥) → (work_of k).unanswered ≡ None
-    none_open k low None is not_stopped = is
-    none_open k low (Some a) is not_stopped =
-        let did : DidCalls (get_or before k w) (work_of k) (ran.each k w low).view = dids k low in
-        let stop = did.stopped (λ none. cc) in
-        absurd (not_stopped stop.0 stop.1)
-
-    pub lane_history : (k : ℕ) → k < b.lanes → IsLaneHistory b.pool script entries k (get_or (ends_of after) k end.Ended)
-    lane_history k low =
+    -- what is reported of a work is of its lane and pool
+    same_entries : (k : ℕ) → k < b.lanes → entries_of (flag_of k) (work_of k) ≡ entries_at k
+    same_entries k low =
         let did : DidCalls (get_or before k w) (work_of k) (ran.each k w low).view = dids k low in
         let for_ : IsWorkFor b.pool script k (get_or before k w) = works k w low in
-        let all = all_answers (work_of k) in
-        let of_lane : entries_of_lane k entries ≡ entries_at k = are_of_lane g keep b.lanes in_history entries_at says entries in_order k low in
-        let lines : map lines_of all ≡ take (length all) (calls_of_lane k script) =
-        did.calls ∙ ap (λ (ls : List (List ScriptLine)). take (length all) ls) for_.lines in
-        let ended : get_or (ends_of after) k end.Ended ≡ (work_of k).end = end_at k low in
+        let number : (work_of k).number ≡ k = did.same.0 ∙ for_.number in
+        let pool : (work_of k).pool ≡ b.pool = did.same.1 ∙ for_.pool_is in
+        λ i. entries_with (pool i) (number i) (flag_of k) (work_of k).answers.items (work_of k).unanswered
+
+    -- ---- THE NUMBERS
+
+    in_works : (e : Entry) → Has (all_entries flags after) e → OfSome b.lanes entries_at e
+    in_works e there =
+        let o = in_all flags after 0 e there in
+        let low : o.place < b.lanes = let l = o.low in let count = ran.works in omega (arith, l, count) in
         record {
-          roots = map root_answered all;
-          calls = ap (λ (es : List Entry). map (λ (e : Entry). e.call) es) of_lane
-              ∙ calls_are b.pool k (flag_of k) (work_of k).answers.items (work_of k).unanswered
-              ∙ with_roots b.pool k (flag_of k) all (calls_of_lane k script) lines;
-          most = not_more b.pool k (flag_of k) all (calls_of_lane k script) lines;
-          whole = λ is.
-              let so : (work_of k).end ≡ end.Ended = sym ended ∙ is in
-              let none : (work_of k).unanswered ≡ None = none_open k low (work_of k).unanswered refl (λ calls stopped. cc) in
-              length-map all root_answered
-              ∙ ap (λ (u : Option Answer). length ((work_of k).answers.items ++ option_to_list u)) none
-              ∙ ap (λ (xs : List Answer). length xs) (append-nil (work_of k).answers.items)
-              ∙ did.whole so
-              ∙ ap (λ (ls : List (List ScriptLine)). length ls) for_.lines;
-          answered = λ not_stopped.
-              let none : (work_of k).unanswered ≡ None = none_open k low (work_of k).unanswered refl (λ calls stopped. not_stopped calls (ended ∙ stopped)) in
-              subst (λ (es : List Entry). All (λ (e : Entry). is_answered e.fate ≡ true) es)
-              (sym (of_lane ∙ ap (λ (u : Option Answer). entries_with b.pool k (flag_of k) (work_of k).answers.items u) none))
-              (all_answered b.pool k (flag_of k) (work_of k).answers.items did.answered);
+          lane = o.place;
+          low = low;
+          there = subst (λ (es : List Entry). Has es e) (same_entries o.place low)
+              (subst (λ n. Has (entries_of (get_or flags n true) (work_of o.place)) e) (from_zero o.place) (o.there w));
         }
+      where
+        from_zero : (n : ℕ) → 0 + n ≡ n
+        from_zero n = omega arith
 
-    -- ---- WHAT IT MEANS
+    works_have : (k : ℕ) → k < b.lanes → (e : Entry) → Has (entries_at k) e → Has (all_entries flags after) e
+    works_have k low e there =
+        all_in flags after 0 k w e (let count = ran.works in omega (arith, low, count))
+        (subst (λ n. Has (entries_of (get_or flags n true) (work_of k)) e) (omega arith) (subst (λ (es : List Entry). Has es e) (sym (same_entries k low)) there))
 
-    module _ (origin layout : List ℕ) (opened : IsOpened origin layout b.words.items b.shape b.pool) where
-      pub replayed : Replayed opened.pool entries
-      replayed =
-          let r = laws.replays origin layout ran.words image b ran.back opened ran.closed ran.all ran.facts in
+    in_history : (n : ℕ) → n < g.length → (g.drew n).fixed.lane < b.lanes
+    in_history n low = ran.closed.world.of_lanes n low
+
+    number_again : (n : ℕ) → NumberOf b.lanes entries_at n → HasNumber (all_entries flags after) n
+    number_again n is =
+        let p = place_of (all_entries flags after) is.entry (works_have is.lane is.low is.entry is.there) in
+        record { entry = is.entry; there = (p.at, p.low, p.is is.entry); is = is.number }
+
+    pub have_numbers : HaveAllNumbers (all_entries flags after)
+    have_numbers = record {
+      least = has_all (λ (e : Entry). 1 ≤ e.number) (all_entries flags after) (λ e there.
+          let o = in_works e there in least_number g keep b.lanes in_history entries_at says o.lane o.low e o.there);
+      each = λ n number has some most.
+          let c = has.there in
+          let o = in_works has.entry (has_at (all_entries flags after) c.0 has.entry has.entry c.1 c.2) in
+          let is : has.entry.number ≡ number = has.is in
+          number_again n (number_below g keep b.lanes in_history entries_at says o.lane o.low has.entry o.there n some (omega (arith, most, is)));
+    }
+
+    -- ---- THE HISTORY
+
+    module _ (entries : List Entry) (order : AreInOrder after flags entries) where
+      in_order : InOrder b.lanes entries_at entries
+      in_order =
+          let count : length after ≡ b.lanes = ran.works in
           record {
-            last = r.0;
-            replays = record {
-              runs = r.1.runs;
-              are_entries = are_entries g keep b.lanes in_history entries_at says entries in_order r.1.runs r.1.are;
-              end = state_of r.0 (kept_pending keep g.drew g.length);
-              replays = r.1.replays;
-              ends = refl;
-            };
+            each = λ i d low.
+                let o = (order.each i d low).0 in
+                let high : o.lane < b.lanes = let l = o.low in omega (arith, count, l) in
+                let c : Contains (entries_of (flag_of o.lane) (work_of o.lane)) (get_or entries i d) = o.is w in
+                record {
+                  lane = o.lane;
+                  low = high;
+                  there = subst (λ (es : List Entry). Has es (get_or entries i d)) (same_entries o.lane high)
+                      (has_at (entries_of (flag_of o.lane) (work_of o.lane)) c.0 (get_or entries i d) (get_or entries i d) c.1 c.2);
+                };
+            numbers = λ i d low. (order.each i d low).1;
+            all = λ k low e there. all_has (λ (x : Entry). (1 ≤ x.number) × (x.number ≤ length entries)) (entries_of (flag_of k) (work_of k)) e
+                (order.all k w (omega (arith, count, low))) (subst (λ (es : List Entry). Has es e) (sym (same_entries k low)) there);
           }
 
-      pub stands : NoRecordTorn b ran.closed.last image → StandsFor opened.pool entries image
-      stands none =
-          let m = laws.means origin layout ran.words image b ran.back opened ran.closed ran.all ran.facts ran.survives none in
+      pub is_history : IsHistory entries
+      is_history = are_history g keep b.lanes in_history entries_at says entries in_order
+
+      -- ---- A LANE'S PART
+
+      end_at : (k : ℕ) → k < b.lanes → get_or (ends_of after) k end.Ended ≡ (work_of k).end
+      end_at k low = get_or-map (λ (x : LaneWork G). x.end) after k w end.Ended (let count = ran.works in omega (arith, count, low))
+
+      none_open : (k : ℕ) (low : k < b.lanes) (u : Option Answer) → (work_of k).unanswered ≡ u → ((calls : ℕ) → (work_of k).end ≡ end.Stopped calls → ⊥) → (work_of k).unanswered ≡ None
+      none_open k low None is not_stopped = is
+      none_open k low (Some a) is not_stopped =
+          let did : DidCalls (get_or before k w) (work_of k) (ran.each k w low).view = dids k low in
+          let stop = did.stopped (λ none. cc) in
+          absurd (not_stopped stop.0 stop.1)
+
+      pub lane_history : (k : ℕ) → k < b.lanes → IsLaneHistory b.pool script entries k (get_or (ends_of after) k end.Ended)
+      lane_history k low =
+          let did : DidCalls (get_or before k w) (work_of k) (ran.each k w low).view = dids k low in
+          let for_ : IsWorkFor b.pool script k (get_or before k w) = works k w low in
+          let all = all_answers (work_of k) in
+          let of_lane : entries_of_lane k entries ≡ entries_at k = are_of_lane g keep b.lanes in_history entries_at says entries in_order k low in
+          let lines : map lines_of all ≡ take (length all) (calls_of_lane k script) =
+          did.calls ∙ ap (λ (ls : List (List ScriptLine)). take (length all) ls) for_.lines in
+          let ended : get_or (ends_of after) k end.Ended ≡ (work_of k).end = end_at k low in
           record {
-            last = m.last;
-            replays = record {
-              runs = m.replay.runs;
-              are_entries = are_entries g keep b.lanes in_history entries_at says entries in_order m.replay.runs m.replay.are;
-              end = state_of m.last (kept_pending keep g.drew g.length);
-              replays = m.replay.replays;
-              ends = refl;
-            };
-            means = m.means;
-            blocks_are = (λ i. blocks (recovered_at image (sym opened.of_lanes i)) (sym opened.of_lanes i) (sym opened.of_zones i)) ∙ m.blocks;
-            apart = m.apart;
+            roots = map root_answered all;
+            calls = ap (λ (es : List Entry). map (λ (e : Entry). e.call) es) of_lane
+                ∙ calls_are b.pool k (flag_of k) (work_of k).answers.items (work_of k).unanswered
+                ∙ with_roots b.pool k (flag_of k) all (calls_of_lane k script) lines;
+            most = not_more b.pool k (flag_of k) all (calls_of_lane k script) lines;
+            whole = λ is.
+                let so : (work_of k).end ≡ end.Ended = sym ended ∙ is in
+                let none : (work_of k).unanswered ≡ None = none_open k low (work_of k).unanswered refl (λ calls stopped. cc) in
+                length-map all root_answered
+                ∙ ap (λ (u : Option Answer). length ((work_of k).answers.items ++ option_to_list u)) none
+                ∙ ap (λ (xs : List Answer). length xs) (append-nil (work_of k).answers.items)
+                ∙ did.whole so
+                ∙ ap (λ (ls : List (List ScriptLine)). length ls) for_.lines;
+            answered = λ not_stopped.
+                let none : (work_of k).unanswered ≡ None = none_open k low (work_of k).unanswered refl (λ calls stopped. not_stopped calls (ended ∙ stopped)) in
+                subst (λ (es : List Entry). All (λ (e : Entry). is_answered e.fate ≡ true) es)
+                (sym (of_lane ∙ ap (λ (u : Option Answer). entries_with b.pool k (flag_of k) (work_of k).answers.items u) none))
+                (all_answered b.pool k (flag_of k) (work_of k).answers.items did.answered);
           }
+
+      -- ---- WHAT IT MEANS
+
+      module _ (origin layout : List ℕ) (opened : IsOpened origin layout b.words.items b.shape b.pool) where
+        pub replayed : Replayed opened.pool entries
+        replayed =
+            let r = laws.replays origin layout ran.words image b ran.back opened ran.closed ran.all ran.facts in
+            record {
+              last = r.0;
+              replays = record {
+                runs = r.1.runs;
+                are_entries = are_entries g keep b.lanes in_history entries_at says entries in_order r.1.runs r.1.are;
+                end = state_of r.0 (kept_pending keep g.drew g.length);
+                replays = r.1.replays;
+                ends = refl;
+              };
+            }
+
+        pub stands : NoRecordTorn b ran.closed.last image → StandsFor opened.pool entries image
+        stands none =
+            let m = laws.means origin layout ran.words image b ran.back opened ran.closed ran.all ran.facts survives none in
+            record {
+              last = m.last;
+              replays = record {
+                runs = m.replay.runs;
+                are_entries = are_entries g keep b.lanes in_history entries_at says entries in_order m.replay.runs m.replay.are;
+                end = state_of m.last (kept_pending keep g.drew g.length);
+                replays = m.replay.replays;
+                ends = refl;
+              };
+              means = m.means;
+              blocks_are = (λ i. blocks (recovered_at image (sym opened.of_lanes i)) (sym opened.of_lanes i) (sym opened.of_zones i)) ∙ m.blocks;
+              apart = m.apart;
+            }
+
+  -- ---- EACH OTHER IMAGE THAT MAY SURVIVE
+
+  are_answered : (k : ℕ) (x : LaneWork G) → k < length after → IsAnsweredWork k (get_or after k x)
+  are_answered k x inside =
+      let low : k < b.lanes = let count = ran.works in omega (arith, count, inside) in
+      let did : DidCalls (get_or before k w) (work_of k) (ran.each k w low).view = dids k low in
+      let for_ : IsWorkFor b.pool script k (get_or before k w) = works k w low in
+      let is : IsAnsweredWork k (work_of k) = record { number = did.same.0 ∙ for_.number; answered = did.answered } in
+      subst (λ (y : LaneWork G). IsAnsweredWork k y) (get_or_default after k w x inside) is
+
+  pub survives_as : (entries : List Entry) → AreInOrder after flags_written entries → (origin layout : List ℕ) (opened : IsOpened origin layout b.words.items b.shape b.pool)
+      (other : List ℕ) → MaySurvive b ran.closed.last other → SurvivesAs b ran.closed.last opened.pool entries other
+  survives_as entries order origin layout opened other survives =
+      let flags = judged_flags b.shape ran.words ran.undrained other in
+      let judged = are_judged b.shape ran.words ran.undrained other in
+      let fates = map (refated flags) entries in
+      let ordered = still_in_order after flags_written flags are_answered entries order in
+      record {
+        fates = fates;
+        same = but_fates flags entries;
+        is_history = is_history other flags survives judged fates ordered;
+        replayed = replayed other flags survives judged fates ordered origin layout opened;
+        stands = λ none. stands other flags survives judged fates ordered origin layout opened none;
+      }
 
 -- ---- THE RUN, from the opening to the report
 
@@ -318,10 +349,12 @@ ran_on_lanes {G} laws origin layout script stops keep out b before after flags l
       back_with = ran.back_with;
       kept = ran.kept;
       size = ran.size ∙ sym ran.closed.world.size ∙ opened.recovered.as_long;
-      is_history = is_history laws b keep script.lines before after out.image.items flags ran works w did entries order;
+      is_history = is_history laws b keep script.lines before after out.image.items flags ran works w did out.image.items flags ran.survives ran.judged entries order;
       ends = ap (λ (l : List LaneEnd). length l) ends ∙ length-map after (λ (x : LaneWork G). x.end) ∙ ran.works ∙ lanes;
       each = λ k low. subst (λ (l : List LaneEnd). IsLaneHistory b.pool script.lines entries k (get_or l k end.Ended)) (sym ends)
-          (lane_history laws b keep script.lines before after out.image.items flags ran works w did entries order k (subst (λ n. k < n) (sym lanes) low));
-      replayed = replayed laws b keep script.lines before after out.image.items flags ran works w did entries order origin layout opened;
-      stands = λ none. stands laws b keep script.lines before after out.image.items flags ran works w did entries order origin layout opened none;
+          (lane_history laws b keep script.lines before after out.image.items flags ran works w did out.image.items flags ran.survives ran.judged entries order k (subst (λ n. k < n) (sym lanes) low));
+      replayed = replayed laws b keep script.lines before after out.image.items flags ran works w did out.image.items flags ran.survives ran.judged entries order origin layout opened;
+      stands = λ none. stands laws b keep script.lines before after out.image.items flags ran works w did out.image.items flags ran.survives ran.judged entries order origin layout opened none;
+      survives = ran.survives;
+      each_choice = survives_as laws b keep script.lines before after out.image.items flags ran works w did entries order origin layout opened;
     }

@@ -1,14 +1,15 @@
 -- WHAT A SCRIPT LEAVES that lanes ran on the pool of an image, each in a thread of its own, where power
 -- fails at the end: docs/MODEL.md, "Crash".
-use Rattle.std.specs.Prelude.{◌≡◌, ℕ, ◌<◌, List, length, map, slice_index_or, Option}
+use Rattle.std.specs.Prelude.{◌≡◌, ℕ, ◌<◌, true, false, List, length, map, slice_index_or, Option}
+use Rattle.std.specs.List.{AllZip}
 use Rattle.pm_crash.specs.Images.{block_for}
 use Rattle.pm_image.specs.Blocks.{blocks}
 use Rattle.pm_image.specs.Logs.{recovered_at}
 use Rattle.pm_image.specs.Means.{IsMeaning}
-use Rattle.pm_lanes.specs.Closed.{AllAreBack, BackWith, NoRecordTorn}
+use Rattle.pm_lanes.specs.Closed.{AllAreBack, BackWith, MaySurvive, NoRecordTorn}
 use Rattle.pm_lanes.specs.Opens.{IsOpened}
 use Rattle.pm_memory.specs.Keep.{IsKeptImage}
-use Rattle.pm_model.specs.History.{IsHistory, ReplaysEntries, without_lost}
+use Rattle.pm_model.specs.History.{IsHistory, ReplaysEntries, is_answered, without_lost}
 use Rattle.pm_objects.specs.Pool.{IsPool}
 use Rattle.pm_objects.specs.declared.history.Entry.{Entry}
 use Rattle.pm_objects.specs.declared.pool.PoolView.{PoolView}
@@ -18,6 +19,7 @@ use Rattle.pm_shared.specs.declared.rule.Beginning.{Beginning}
 use Rattle.pm_text.specs.declared.report.LaneEnd.TheVariants as end
 use Rattle.pm_view.specs.View.{View}
 use Rattle.pm_view.specs.declared.change.Change.{Change}
+use Rattle.pm_world.specs.Runs.{Moment}
 use Rattle.pm_exec.specs.Reports.{IsLaneHistory}
 use Rattle.pm_exec.specs.declared.outcome.Outcome.{Outcome}
 
@@ -35,6 +37,23 @@ pub record StandsFor (pool : PoolView) (entries : List Entry) (image : List ℕ)
   pub means : IsMeaning image last
   pub blocks_are : blocks (recovered_at image pool.lanes) pool.lanes pool.zones ≡ map block_for last.objects
   pub apart : IsPool last
+
+-- the second is the first with the fate that another image gives it: that of a call that was
+-- answered stays, and that of another is kept or lost in both
+pub record IsButFate (e f : Entry) : Type 0 where
+  pub same : f ≡ record e { fate = f.fate }
+  pub answered : is_answered e.fate ≡ true → f ≡ e
+  pub unanswered : is_answered e.fate ≡ false → is_answered f.fate ≡ false
+
+-- WHATEVER SURVIVES of what was undrained: the entries, with the fates that the image gives to the
+-- calls that were not answered, are a history, and the image stands for it unless a record is torn
+pub record SurvivesAs (b : Beginning) (last : Moment) (pool : PoolView) (entries : List Entry)
+    (image : List ℕ) : Type 0 where
+  pub fates : List Entry
+  pub same : AllZip IsButFate entries fates
+  pub is_history : IsHistory fates
+  pub replayed : Replayed pool fates
+  pub stands : NoRecordTorn b last image → StandsFor pool fates image
 
 -- A SCRIPT RAN ON LANES: the pool was opened, lane k ran the script's lines of lane k up to its stop
 -- number, if it has one, all lanes came back, and what is left is what the keep number leaves of the
@@ -62,3 +81,7 @@ pub record RanOnLanes (image layout : List ℕ) (script : Script) (stops : List 
   pub replayed : Replayed opened.pool out.entries.items
   pub stands : NoRecordTorn begin_ closed.last out.image.items
       → StandsFor opened.pool out.entries.items out.image.items
+  -- the image is one that may survive the power failure, and the same holds of each of those
+  pub survives : MaySurvive begin_ closed.last out.image.items
+  pub each_choice : (other : List ℕ) → MaySurvive begin_ closed.last other
+      → SurvivesAs begin_ closed.last opened.pool out.entries.items other

@@ -83,9 +83,10 @@ fn run_works<'s, R: Threads + Wait + Sync, G: Gate + Sync>(
 }
 
 /// Runs a script on the pool of an image, lane k's lines on lane k, each lane in a thread of its
-/// own. The image is recovered first; each lane makes counted calls up to its stop number, if it has
-/// one; and of what is then undrained so much survives as `keep` says. The room for all replies is
-/// taken before any lane runs.
+/// own. The image is recovered first; each lane makes counted calls up to its stop number, if it
+/// has one; and of what is then undrained so much survives as `keep` says. The same holds of every
+/// other choice of what survives, with the fates that it gives to the calls that were not answered.
+/// The room for all replies is taken before any lane runs.
 ///
 /// # Errors
 ///
