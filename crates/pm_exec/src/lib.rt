@@ -25,3 +25,6 @@ mod work;
 
 pub use executing::exec;
 pub use outcome::Outcome;
+
+#[cfg(test)]
+mod tests;
