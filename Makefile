@@ -94,16 +94,14 @@ refuse:
 	  if test $$status -eq 4; then cat build/refuse.log; exit 1; fi; \
 	done; done
 
-# Random scripts on random pools for an hour, outside the gate: a plain model judges what is printed and written, and is itself
-# tried first. Until scripts of more than one lane run, the words are those of a program of one lane.
-SOAK := --plain
-
+# Random scripts of 2 to 8 lanes on random pools for an hour, outside the gate: a plain model judges what is printed and written,
+# and is itself tried first.
 soak: build
 	tools/soak.py --selftest
 	tools/rehearsal.py
 	tools/rehearsal.py --faults
 	tools/rehearsal.py --program build/pmempool
-	tools/soak.py $(SOAK) --seconds 3600
+	tools/soak.py --seconds 3600
 
 # The table of claims in docs/VERIFICATION.md, made from the sources; and every link, clause and
 # quotation of the pages is checked. It changes no other page; `tools/pages.py --check` changes none.

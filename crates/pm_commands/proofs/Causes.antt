@@ -13,23 +13,29 @@ use Rattle.pm_image.proofs.Meanings.{no_meaning_and_fault, one_meaning}
 use Rattle.pm_options.specs.Words.{Check, Create, Exec, IsCheck, IsCreate, IsDump, IsExec, IsInfo, IsRecover, Recover}
 use Rattle.pm_pool.specs.Created.{Wanted}
 use Rattle.pm_pool.specs.declared.creating.CreateFault.TheVariants.{BadId, BadLayout, BadSize}
-use Rattle.solo_script.proofs.Readings.{not_both as no_script_and_bad_line}
-use Rattle.solo_script.specs.Scripts.{IsScript, left}
-use Rattle.solo_script.specs.Words.{lines}
-use Rattle.solo_script.specs.declared.script.Script.{Script}
+use Rattle.pm_calls.specs.Calls.{beyond_lanes}
+use Rattle.pm_script.proofs.NamedLanes.{some_lane}
+use Rattle.pm_script.proofs.Readings.{not_both as no_script_and_bad_line}
+use Rattle.pm_script.specs.Scripts.{IsBadLine, IsScript}
+use Rattle.pm_script.specs.Words.{lines}
+use Rattle.pm_script.specs.declared.fault.BadLine.{BadLine}
+use Rattle.pm_script.specs.declared.fault.Why.TheVariants.{Word}
+use Rattle.pm_script.specs.declared.script.Script.{Script}
 use Rattle.pm_shelf.specs.Outside.{Held, Rose, IsMissing, IsThere, IsWhole}
 use Rattle.pm_commands.specs.Answers.{DidFail, IsCauseOf}
 use Rattle.pm_commands.specs.Checked.{HasFaultLeft, IsRepair}
 use Rattle.pm_commands.specs.Created.{HasGoodValues, IsValueCause}
-use Rattle.pm_commands.specs.Executed.{AreOfMoreLanes, AreOfOtherLayout, CanRun, IsRunFault, IsRunOf, script_limit}
+use Rattle.pm_commands.specs.Executed.{AreOfFewerLanes, AreOfOtherLayout, CanRun, IsRunFault, IsRunOf, MayRunOn, script_limit}
 use Rattle.pm_commands.specs.Failures.{IsCauseBefore, IsCheckCause, IsCreateCause, IsExecCause, IsReadCause, IsRecoverCause, IsShowCause, IsWriteCause, failure_of}
 use Rattle.pm_commands.specs.Lines.{failure_status}
 use Rattle.pm_commands.specs.PoolFiles.{limit, BytesMean, BytesFail, Mends}
 use Rattle.pm_commands.specs.Recovered.{CanRecover, IsRecoveryOf}
+use Rattle.pm_commands.specs.Ways.{IsRefusedLine}
 use Rattle.pm_commands.specs.declared.failure.Failure.{Failure}
 use Rattle.pm_commands.specs.declared.failure.Failure.TheVariants.{Usage, BadShape, BadValue, Faulty, Fault, OtherLayout, FewerLanes, NotRead, TooLong, BadScript, NotWritten, NoMemory}
 use Rattle.pm_commands.specs.declared.status.Status.TheVariants as status
 use Rattle.pm_commands.proofs.Checking.{mended_fault}
+use Rattle.pm_commands.proofs.LanesRun.{none_beyond, one_script}
 use Rattle.pm_commands.proofs.OneCommand.{only_check, only_create, only_dump, only_exec, only_info, only_recover}
 
 -- a failure is handed on as it is
@@ -261,21 +267,35 @@ module _ (faults faults_after : ℕ) (calm : ¬ Rose faults faults_after) where
       let same : one.other.pool ≡ pool = one_meaning (words_of source) one.other.pool pool one.other.means means.1 in
       one.other.other (sym one.other.named ∙ ap (λ (p : PoolView). p.name) same ∙ named)
 
-  more_lanes : (source text : List ℕ) (e : Exec) (script : Script) (asked kept : ℕ) → IsScript (lines text) script → script.lanes ≤ 1 → AreOfMoreLanes source text e asked kept → ⊥
-  more_lanes source text e script asked kept is few one =
-      let lanes : asked ≡ script.lanes = one.asked_for ∙ one.is_script.lanes_named ∙ sym is.lanes_named in
-      let one_kept : kept ≡ 1 = one.fewer.kept_so in
-      let more : kept < asked = one.fewer.more in
-      omega arith
+  fewer_lanes : (source text : List ℕ) (e : Exec) (pool : PoolView) (asked kept : ℕ) → BytesMean source pool → MayRunOn (lines text) pool.lanes → AreOfFewerLanes source text e asked kept → ⊥
+  fewer_lanes source text e pool asked kept means (inl one) fewer = fewer.is_script.not_one one.0 one.1
+  fewer_lanes source text e pool asked kept means (inr run) fewer =
+      let other = fewer.fewer in
+      let same : other.pool ≡ pool = one_meaning (words_of source) other.pool pool other.means means.1 in
+      let script : fewer.script ≡ run.0 = one_script (lines text) fewer.script run.0 fewer.is_script.is_script run.1.is_script in
+      let has : pool.lanes ≡ kept = ap (λ (p : PoolView). p.lanes) (sym same) ∙ other.of_lanes in
+      let wanted : asked ≡ run.0.lanes = fewer.asked_for ∙ ap (λ (s : Script). s.lanes) script in
+      let few : run.0.lanes ≤ pool.lanes = run.2 in
+      let some : 1 ≤ run.0.lanes = some_lane (lines text) run.0 run.1.is_script in
+      ⊎_elim (λ (none : asked ≡ 0). omega arith) (λ (more : kept < asked). omega arith) other.other
 
-  run_fails : (source text : List ℕ) (e : Exec) (pool : PoolView) (script : Script) → BytesMean source pool → pool.name ≡ e.layout → IsScript (lines text) script → script.lanes ≤ 1 → (failure : Failure)
+  -- no line of a script that runs is refused
+  not_refused : (text : List ℕ) (lanes : ℕ) (bad : BadLine) → MayRunOn (lines text) lanes → IsRefusedLine (lines text) bad → ⊥
+  not_refused text lanes bad (inl one) refused = refused.not_one one.0 one.1
+  not_refused text lanes bad (inr run) refused = ⊎_elim
+      (λ (is : IsBadLine (lines text) bad). no_script_and_bad_line (lines text) run.0 bad run.1.is_script is)
+      (λ (beyond : (script : Script) × IsScript (lines text) script × (beyond_lanes script.lines ≡ Some bad.line) × (bad.why ≡ Word)).
+      none_beyond run.0.lines bad.line run.1.runs (subst (λ (s : Script). beyond_lanes s.lines ≡ Some bad.line) (one_script (lines text) beyond.0 run.0 beyond.1 run.1.is_script) beyond.2))
+      refused.is
+
+  run_fails : (source text : List ℕ) (e : Exec) (pool : PoolView) → BytesMean source pool → pool.name ≡ e.layout → MayRunOn (lines text) pool.lanes → (failure : Failure)
       → IsRunFault source text e failure → failure_status failure ≡ status.NoMemory
-  run_fails source text e pool script means named is few (BadScript bad) cause = absurd (no_script_and_bad_line (lines text) script bad is cause)
-  run_fails source text e pool script means named is few (Faulty found) cause = absurd (not_both source pool found means cause.1)
-  run_fails source text e pool script means named is few (OtherLayout asked kept) cause = absurd (other_layout source e pool kept means named cause.2)
-  run_fails source text e pool script means named is few (FewerLanes asked kept) cause = absurd (more_lanes source text e script asked kept is few cause)
-  run_fails source text e pool script means named is few NoMemory cause = refl
-  run_fails source text e pool script means named is few failure cause = absurd cause
+  run_fails source text e pool means named runs (BadScript bad) cause = absurd (not_refused text pool.lanes bad runs cause)
+  run_fails source text e pool means named runs (Faulty found) cause = absurd (not_both source pool found means cause.1)
+  run_fails source text e pool means named runs (OtherLayout asked kept) cause = absurd (other_layout source e pool kept means named cause.2)
+  run_fails source text e pool means named runs (FewerLanes asked kept) cause = absurd (fewer_lanes source text e pool asked kept means runs cause)
+  run_fails source text e pool means named runs NoMemory cause = refl
+  run_fails source text e pool means named runs failure cause = absurd cause
 
   before_fails : (e : Exec) (held : Held) → CanRun held e → (failure : Failure) → IsCauseBefore e (Some held) faults faults_after failure → failure_status failure ≡ status.NoMemory
   before_fails e held can failure (inl read) = read_fails held e.pool can.source limit can.pool_there (within_limit can.source can.pool can.means) failure read
@@ -283,7 +303,7 @@ module _ (faults faults_after : ℕ) (calm : ¬ Rose faults faults_after) where
   before_fails e held can failure (inr (inr run)) =
       let source : run.0 ≡ can.source = same_bytes held e.pool run.0 can.source run.2.0 can.pool_there in
       let text : run.1 ≡ can.script_text = same_bytes held e.script run.1 can.script_text run.3.0 can.script_there in
-      run_fails can.source can.script_text e can.pool can.script can.means can.named can.is_script can.few failure
+      run_fails can.source can.script_text e can.pool can.means can.named can.runs failure
       (subst (λ (t : List ℕ). IsRunFault can.source t e failure) text (subst (λ (s : List ℕ). IsRunFault s run.1 e failure) source run.4))
 
   pub exec_fails : (e : Exec) (held : Held) (after : Option Held) → CanRun held e → (failure : Failure) → IsExecCause e (Some held) after faults faults_after failure → failure_status failure ≡ status.NoMemory

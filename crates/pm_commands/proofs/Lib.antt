@@ -1,6 +1,8 @@
 pub mod FileBytes
 pub mod OneCommand
 pub mod OneLane
+pub mod LanesRun
+pub mod LaneStops
 pub mod Running
 pub mod Recovering
 pub mod NewNames

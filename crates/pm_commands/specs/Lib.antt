@@ -3,6 +3,8 @@ pub mod Lines
 pub mod Statuses
 pub mod Created
 pub mod Checked
+pub mod Ways
+pub mod LaneStops
 pub mod Executed
 pub mod Recovered
 pub mod Failures

@@ -11,9 +11,8 @@ use Rattle.pm_reopen.specs.declared.end.RecoverEnd.{RecoverEnd}
 use Rattle.pm_reopen.specs.declared.end.RecoverEnd.TheVariants as end
 use Rattle.pm_commands.specs.declared.failure.Failure.{Failure}
 use Rattle.pm_commands.specs.declared.failure.Failure.TheVariants.{Usage, BadShape, BadValue, Faulty, Fault, OtherLayout, FewerLanes, NotRead, TooLong, BadScript, NotWritten, NoMemory}
-use Rattle.solo_script.specs.declared.fault.BadLine.{BadLine}
-use Rattle.solo_script.specs.declared.fault.Why.{Why}
-use Rattle.solo_script.specs.declared.fault.Why.TheVariants as why
+use Rattle.pm_script.specs.Texts.{bad_line_text}
+use Rattle.pm_script.specs.declared.fault.BadLine.{BadLine}
 use Rattle.pm_commands.specs.declared.status.Status.{Status}
 use Rattle.pm_commands.specs.declared.status.Status.TheVariants as status
 
@@ -49,23 +48,9 @@ other_layout_line asked kept = codes "refused Layout asked " ++ asked ++ codes "
 abbrev pub fewer_lanes_line : ℕ → ℕ → List ℕ
 fewer_lanes_line asked kept = codes "refused Lanes asked " ++ (decimal asked ++ (codes " kept " ++ (decimal kept ++ codes "\n")))
 
--- why a line is bad
-abbrev pub why_text : Why → List ℕ
-why_text why.Text = codes "Text"
-why_text why.Word = codes "Word"
-why_text why.Count = codes "Count"
-why_text why.Number = codes "Number"
-why_text why.Hex = codes "Hex"
-why_text why.Letter = codes "Letter"
-why_text why.LaneNumber = codes "LaneNumber"
-why_text why.NoLane = codes "NoLane"
-why_text why.Inside = codes "Inside"
-why_text why.Outside = codes "Outside"
-why_text why.Open = codes "Open"
-
 -- the script's first bad line
 abbrev pub bad_script_line : BadLine → List ℕ
-bad_script_line bad = codes "bad script line " ++ (decimal bad.line ++ (codes " " ++ (why_text bad.why ++ codes "\n")))
+bad_script_line bad = bad_line_text bad ++ codes "\n"
 
 abbrev pub read_fault_line : List ℕ → List ℕ
 read_fault_line name = codes "read fault " ++ name ++ codes "\n"

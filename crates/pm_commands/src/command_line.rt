@@ -20,15 +20,25 @@ use crate::recover_command::run_recover;
 use crate::show_commands::{run_dump, run_info};
 use crate::status::Status;
 use pm_options::{Command, OptionsFault, command_of};
-use pm_shelf::{Shelf, Sink, SinkFault};
+use pm_shelf::{Gate, Shelf, Sink, SinkFault};
 use pm_text::put_lines;
 use std::alloc::{AllocError, Global};
+use std::sync::Wait;
+use std::thread::Threads;
 
 /// The line that is printed where there is no memory for another.
 const NO_MEMORY_LINE: &[u8] = b"no memory\n";
 
-/// Does what the words of the command line say, the first of which is the program's name: docs/COMMANDS.md.
-pub fn top<S: Shelf, K: Sink>(alloc: Global, words: &[String], shelf: &mut S, out: &mut K) -> Status
+/// Does what the words of the command line say, the first of which is the program's name: docs/COMMANDS.md. A lane of a script passes the
+/// gate before each of its lines.
+pub fn top<R: Threads + Wait + Sync, S: Shelf, K: Sink, G: Gate + Sync>(
+    rt: &R,
+    alloc: Global,
+    words: &[String],
+    shelf: &mut S,
+    out: &mut K,
+    gate: &G,
+) -> Status
     // Each status comes only where the words came to it, and the sink has got exactly the text of what they came to. Of two causes the one
     // that is earlier in the command's order is told.
     ensures done { result ≡ Status.Done → Printed (K.told out.old) (K.told out.new)
@@ -81,7 +91,7 @@ pub fn top<S: Shelf, K: Sink>(alloc: Global, words: &[String], shelf: &mut S, ou
         → ¬ Rose (S.faults shelf.old) (S.faults shelf.new) → ¬ Rose (K.faults out.old) (K.faults out.new)
         → (result ≡ Status.Done) ⊎ (result ≡ Status.NoMemory) }
 
-    // A pool of the layout and a script of one lane under their names, a new name and no fault: done, or want of memory.
+    // A pool of the layout and a script that runs on it under their names, a new name and no fault: done, or want of memory.
     ensures exec_complete { (e : Exec) (held : Held) → IsExec (texts words.now) e → S.content shelf.old ≡ Some held → CanRun held e
         → ¬ Rose (S.faults shelf.old) (S.faults shelf.new) → ¬ Rose (K.faults out.old) (K.faults out.new)
         → (result ≡ Status.Done) ⊎ (result ≡ Status.NoMemory) }
@@ -115,43 +125,54 @@ pub fn top<S: Shelf, K: Sink>(alloc: Global, words: &[String], shelf: &mut S, ou
         → ¬ Rose (S.faults shelf.old) (S.faults shelf.new) → ¬ Rose (K.faults out.old) (K.faults out.new)
         → (result ≡ Status.Refused) ⊎ (result ≡ Status.NoMemory) }
 {
-    answer(alloc, words, shelf, out)
+    answer(rt, alloc, words, shelf, out, gate)
 }
 
 /// Does what the words say, and prints what that came to.
-fn answer<S: Shelf, K: Sink>(alloc: Global, words: &[String], shelf: &mut S, out: &mut K) -> Status
+fn answer<R: Threads + Wait + Sync, S: Shelf, K: Sink, G: Gate + Sync>(
+    rt: &R,
+    alloc: Global,
+    words: &[String],
+    shelf: &mut S,
+    out: &mut K,
+    gate: &G,
+) -> Status
     ensures answered { IsAnswered (texts words.now) (S.content shelf.old) (S.content shelf.new) (S.faults shelf.old) (S.faults shelf.new)
         (K.faults out.old) (K.faults out.new) (K.told out.old) (K.told out.new) result }
     ensures changed { DidChange (texts words.now) (S.content shelf.old) (S.content shelf.new) }
 {
-    match run(alloc, words, shelf) {
+    match run(rt, alloc, words, shelf, gate) {
         Ok(text) => say(out, &text, Status::Done),
         Err(failure) => say_failure(alloc, &failure, out),
     }
 }
 
 /// Does what the words say; the answer is the text to print.
-fn run<'a, S: Shelf>(
+fn run<'a, R: Threads + Wait + Sync, S: Shelf, G: Gate + Sync>(
+    rt: &R,
     alloc: Global,
     words: &'a [String],
     shelf: &mut S,
+    gate: &G,
 ) -> Result<Vec<u8>, Failure<'a>>
     ensures did { IfOk result (λ text. Did (texts words.now) (S.content shelf.old) (S.content shelf.new) text.items) }
     ensures failed { IfErr result (DidFail (texts words.now) (S.content shelf.old) (S.content shelf.new) (S.faults shelf.old) (S.faults shelf.new)) }
     ensures changed { DidChange (texts words.now) (S.content shelf.old) (S.content shelf.new) }
 {
     match command_of(alloc, words) {
-        Ok(command) => run_command(alloc, command, shelf),
+        Ok(command) => run_command(rt, alloc, command, shelf, gate),
         Err(OptionsFault::Usage(text)) => Err(Failure::Usage(text)),
         Err(OptionsFault::Memory) => Err(Failure::NoMemory),
     }
 }
 
 /// Does what is asked for; the answer is the text to print.
-fn run_command<'a, S: Shelf>(
+fn run_command<'a, R: Threads + Wait + Sync, S: Shelf, G: Gate + Sync>(
+    rt: &R,
     alloc: Global,
     command: Command<'a>,
     shelf: &mut S,
+    gate: &G,
 ) -> Result<Vec<u8>, Failure<'a>>
     ensures did { IfOk result (λ text. Does command.entry (S.content shelf.old) (S.content shelf.new) text.items) }
     ensures failed { IfErr result (IsCauseOf command.entry (S.content shelf.old) (S.content shelf.new) (S.faults shelf.old) (S.faults shelf.new)) }
@@ -162,7 +183,7 @@ fn run_command<'a, S: Shelf>(
             Ok(line) => Ok(line.into_bytes()),
             Err(failure) => Err(failure),
         },
-        Command::Exec(exec) => run_exec(alloc, &exec, shelf),
+        Command::Exec(exec) => run_exec(rt, alloc, &exec, shelf, gate),
         Command::Recover(recover) => run_recover(alloc, &recover, shelf),
         Command::Check(check) => run_check(alloc, &check, shelf),
         Command::Info(pool) => run_info(alloc, pool, shelf),

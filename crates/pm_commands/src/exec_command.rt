@@ -1,37 +1,45 @@
-ghost use Rattle.std.specs.Prelude.{◌≡◌, ◌^◌, ◌<◌, ◌≤◌, [], ◌∷◌, length, IfErr, IfOk};
+ghost use Rattle.std.specs.Prelude.{◌≡◌, ◌^◌, ◌<◌, ◌≤◌, length, IfErr, IfOk};
 ghost use Rattle.pm_words.specs.Words.{bytes_of};
 ghost use Rattle.pm_options.specs.Asked.{exec_asked};
 ghost use Rattle.pm_text.specs.Report.{report_text};
-ghost use Rattle.pm_commands.specs.Executed.{IsExecuted, IsRunFault, IsRunOf, IsRunOver, MayAddRun, open_failure};
+ghost use Rattle.pm_commands.specs.declared.failure.Failure.TheVariants.{NoMemory};
+ghost use Rattle.pm_commands.specs.Executed.{IsExecuted, IsRunFault, IsRunOf, IsRunOver, MayAddRun, lanes_failure, open_failure};
 ghost use Rattle.pm_commands.specs.Failures.{IsCauseBefore, IsExecCause};
 
 use crate::failure::Failure;
 use crate::image_bytes::{bytes_of_words, image_of};
+use crate::lane_stops::lane_stops;
 use crate::pool_files::{put, read};
+use crate::ways::{Way, way_of};
 use pm_image::ImageFault;
+use pm_lanes::OpenFault;
 use pm_layout::{MAX_POOL_BYTES, WORD_BYTES};
+use pm_objects::{Entry, Sequence};
 use pm_options::ExecWords;
 use pm_script::stop_of;
-use pm_shelf::Shelf;
-use pm_text::report_text;
-use solo_exec::{OpenFault, Outcome, exec};
-use solo_script::{ScriptFault, parse};
+use pm_shelf::{Gate, Shelf};
+use pm_text::{LaneEnd, report_text};
+use solo_exec::OpenFault as OneLaneFault;
 use std::alloc::{AllocError, Global};
+use std::sync::Wait;
+use std::thread::Threads;
 
 /// Bytes of a script at most.
 const MAX_SCRIPT_BYTES: u64 = 1_048_576;
 
 /// Runs the script on the pool, and puts the pool that is left on the shelf under its new name. The answer is the report.
-pub fn run_exec<'a, S: Shelf>(
+pub fn run_exec<'a, R: Threads + Wait + Sync, S: Shelf, G: Gate + Sync>(
+    rt: &R,
     alloc: Global,
     words: &ExecWords<'a>,
     shelf: &mut S,
+    gate: &G,
 ) -> Result<Vec<u8>, Failure<'a>>
     ensures ran { IfOk result (λ text. IsExecuted (exec_asked words.now) (S.content shelf.old) (S.content shelf.new) text.items) }
     ensures cause { IfErr result (IsExecCause (exec_asked words.now) (S.content shelf.old) (S.content shelf.new) (S.faults shelf.old) (S.faults shelf.new)) }
     ensures part { MayAddRun (exec_asked words.now) (S.content shelf.old) (S.content shelf.new) }
 {
-    let left = run_files(alloc, words, shelf)?;
+    let left = run_files(rt, alloc, words, shelf, gate)?;
     put(words.out, &left.bytes, shelf)?;
     Ok(left.report)
 }
@@ -44,10 +52,12 @@ struct Left {
 }
 
 /// Reads both files and runs the one on the other.
-fn run_files<'a, S: Shelf>(
+fn run_files<'a, R: Threads + Wait + Sync, S: Shelf, G: Gate + Sync>(
+    rt: &R,
     alloc: Global,
     words: &ExecWords<'a>,
     shelf: &mut S,
+    gate: &G,
 ) -> Result<Left, Failure<'a>>
     ensures kept { S.content shelf.new ≡ S.content shelf.old }
     ensures ran { IfOk result (λ left. IsRunOf (S.content shelf.old) (exec_asked words.now) left.bytes.items left.report.items) }
@@ -56,24 +66,22 @@ fn run_files<'a, S: Shelf>(
 {
     let source = read(alloc, words.pool, MAX_POOL_BYTES, shelf)?;
     let text = read(alloc, words.script, MAX_SCRIPT_BYTES, shelf)?;
-    run_script(alloc, words, &source, &text)
+    run_script(rt, alloc, words, &source, &text, gate)
 }
 
 /// Runs the script of a text on the pool of some bytes.
-fn run_script<'a>(
+fn run_script<'a, R: Threads + Wait + Sync, G: Gate + Sync>(
+    rt: &R,
     alloc: Global,
     words: &ExecWords<'a>,
     source: &[u8],
     text: &[u8],
+    gate: &G,
 ) -> Result<Left, Failure<'a>>
     ensures ran { IfOk result (λ left. IsRunOver source.now text.now (exec_asked words.now) left.bytes.items left.report.items) }
     ensures cause { IfErr result (IsRunFault source.now text.now (exec_asked words.now)) }
 {
-    let script = match parse(alloc, text) {
-        Ok(script) => script,
-        Err(ScriptFault::Bad(bad)) => return Err(Failure::BadScript(bad)),
-        Err(ScriptFault::Memory(_)) => return Err(Failure::NoMemory),
-    };
+    let way = way_of(alloc, text)?;
     if source.len() % WORD_BYTES as usize != 0 {
         return Err(Failure::Faulty(ImageFault::Size(source.len() as u64)));
     }
@@ -81,35 +89,70 @@ fn run_script<'a>(
         Ok(image) => image,
         Err(AllocError) => return Err(Failure::NoMemory),
     };
-    let stop = stop_of(0, &words.stops);
-    match exec(alloc, image, &script, words.layout, stop, words.keep) {
-        Ok(outcome) => match written_out(alloc, &outcome) {
-            Ok(left) => Ok(left),
-            Err(AllocError) => Err(Failure::NoMemory),
-        },
-        Err(fault) => Err(open_failure(words.layout, fault)),
+    match way {
+        Way::OneLane(script) => {
+            let stop = stop_of(0, &words.stops);
+            match solo_exec::exec(alloc, image, &script, words.layout, stop, words.keep) {
+                Ok(outcome) => left_of(alloc, &outcome.words, &outcome.history, &[outcome.end]),
+                Err(fault) => Err(open_failure(words.layout, fault)),
+            }
+        }
+        Way::Lanes(script) => {
+            let stops = lane_stops(&words.stops);
+            let layout = words.layout;
+            let ran = pm_exec::exec(rt, alloc, image, &script, layout, stops, words.keep, gate);
+            match ran {
+                Ok(outcome) => left_of(alloc, &outcome.image, &outcome.entries, &outcome.lanes),
+                Err(fault) => Err(lanes_failure(fault)),
+            }
+        }
     }
 }
 
-/// The failure that a pool is that was not opened.
-fn open_failure(asked: &str, fault: OpenFault) -> Failure<'_>
+/// The failure that a pool is that was not opened for a single lane.
+fn open_failure(asked: &str, fault: OneLaneFault) -> Failure<'_>
     ensures { result ≡ open_failure asked.entry fault }
 {
     match fault {
-        OpenFault::Image(found) => Failure::Faulty(found),
-        OpenFault::Layout(kept) => Failure::OtherLayout { asked, kept },
-        OpenFault::Lanes { asked, kept } => Failure::FewerLanes { asked, kept },
-        OpenFault::Memory(_) => Failure::NoMemory,
+        OneLaneFault::Image(found) => Failure::Faulty(found),
+        OneLaneFault::Layout(kept) => Failure::OtherLayout { asked, kept },
+        OneLaneFault::Lanes { asked, kept } => Failure::FewerLanes { asked, kept },
+        OneLaneFault::Memory(_) => Failure::NoMemory,
     }
 }
 
-/// The bytes of the image that a run left, and its report.
-fn written_out(alloc: Global, outcome: &Outcome) -> Result<Left, AllocError>
-    requires { length outcome.now.words.items < 2 ^ 60 }
-    ensures bytes { IfOk result (λ left. left.bytes.items ≡ bytes_of outcome.now.words.items) }
-    ensures report { IfOk result (λ left. left.report.items ≡ report_text outcome.now.history.items (outcome.now.end ∷ [])) }
+/// The failure that a pool is that was not opened for lanes.
+fn lanes_failure(fault: OpenFault<'_>) -> Failure<'_>
+    ensures { result ≡ lanes_failure fault.entry }
 {
-    let bytes = bytes_of_words(alloc, &outcome.words)?;
-    let report = report_text(alloc, &outcome.history, &[outcome.end])?;
-    Ok(Left { bytes, report })
+    match fault {
+        OpenFault::Image(found) => Failure::Faulty(found),
+        OpenFault::Layout { asked, kept } => Failure::OtherLayout {
+            asked,
+            kept: Sequence::from_vec(kept.into_bytes()),
+        },
+        OpenFault::Lanes { asked, kept } => Failure::FewerLanes { asked, kept },
+        OpenFault::Memory => Failure::NoMemory,
+    }
+}
+
+/// The bytes of the words that a run left, and its report.
+fn left_of<'a>(
+    alloc: Global,
+    words: &[u64],
+    history: &[Entry],
+    ends: &[LaneEnd],
+) -> Result<Left, Failure<'a>>
+    requires { length words.now < 2 ^ 60 }
+    ensures bytes { IfOk result (λ left. left.bytes.items ≡ bytes_of words.now) }
+    ensures report { IfOk result (λ left. left.report.items ≡ report_text history.now ends.now) }
+    ensures cause { IfErr result (λ failure. failure ≡ NoMemory) }
+{
+    let Ok(bytes) = bytes_of_words(alloc, words) else {
+        return Err(Failure::NoMemory);
+    };
+    match report_text(alloc, history, ends) {
+        Ok(report) => Ok(Left { bytes, report }),
+        Err(_) => Err(Failure::NoMemory),
+    }
 }

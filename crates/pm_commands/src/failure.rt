@@ -2,14 +2,14 @@ ghost use Rattle.std.specs.Prelude.{◌≡◌, ◌++◌, IfOk, codes, string_byt
 ghost use Rattle.pm_image.specs.Texts.{fault_text};
 ghost use Rattle.pm_layout.specs.Texts.{bad_shape_text};
 ghost use Rattle.pm_pool.specs.Texts.{create_fault_text};
-ghost use Rattle.pm_commands.specs.Lines.{bad_script_line, fault_line, failure_line, failure_status, fewer_lanes_line, other_layout_line, refused_line, usage_line, why_text};
+ghost use Rattle.pm_commands.specs.Lines.{bad_script_line, fault_line, failure_line, failure_status, fewer_lanes_line, other_layout_line, refused_line, usage_line};
 
 use crate::status::Status;
 use pm_image::{ImageFault, text_of_fault};
 use pm_layout::BadShape;
 use pm_objects::Sequence;
 use pm_pool::CreateFault;
-use solo_script::{BadLine, Why};
+use pm_script::BadLine;
 use std::alloc::{AllocError, Global};
 
 /// Why a command ended with another status than 0.
@@ -27,13 +27,13 @@ pub enum Failure<'a> {
     Fault(ImageFault),
     /// Another layout name was asked for than the pool has, which is kept.
     OtherLayout { asked: &'a str, kept: Sequence<u8> },
-    /// The script is of so many lanes, and fewer run: as many as are kept.
+    /// The script is of so many lanes, and the pool has fewer, as many as are kept.
     FewerLanes { asked: u64, kept: u64 },
     /// This name could not be read.
     NotRead(&'a str),
     /// This name has more bytes than what it is read for.
     TooLong(&'a str),
-    /// This is the first bad line of the script.
+    /// This is the first bad line of the script, or the first that does not run.
     BadScript(BadLine),
     /// This name could not be written.
     NotWritten(&'a str),
@@ -124,31 +124,11 @@ fn fewer_lanes_line(alloc: Global, asked: u64, kept: u64) -> Result<Vec<u8>, All
     Ok(text.into_bytes())
 }
 
-/// Why a line of a script is bad, as it is printed.
-fn why_text(why: Why) -> &'static str
-    ensures { result.now ≡ why_text why }
-{
-    match why {
-        Why::Text => "Text",
-        Why::Word => "Word",
-        Why::Count => "Count",
-        Why::Number => "Number",
-        Why::Hex => "Hex",
-        Why::Letter => "Letter",
-        Why::LaneNumber => "LaneNumber",
-        Why::NoLane => "NoLane",
-        Why::Inside => "Inside",
-        Why::Outside => "Outside",
-        Why::Open => "Open",
-    }
-}
-
 /// The line of a script's first bad line.
 fn bad_script_line(alloc: Global, bad: BadLine) -> Result<Vec<u8>, AllocError>
     ensures { IfOk result (λ text. text.items ≡ bad_script_line bad) }
 {
-    let line = bad.line;
-    let text = format!(in alloc; "bad script line {line} {}\n", why_text(bad.why))?;
+    let text = format!(in alloc; "{bad}\n")?;
     Ok(text.into_bytes())
 }
 

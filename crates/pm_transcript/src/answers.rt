@@ -2,10 +2,13 @@
 use crate::session::Session;
 use std::alloc::Global;
 use std::io::{self, BufRead, BufReader, BufWriter, Read, Write};
+use std::sync::Wait;
+use std::thread::Threads;
 
 /// Reads a transcript to its end, and prints it with the answers that came in place of those that
 /// it has.
-pub fn print_answers<R: Read + Drop, W: Write + Drop>(
+pub fn print_answers<T: Threads + Wait + Sync, R: Read + Drop, W: Write + Drop>(
+    rt: &T,
     alloc: Global,
     input: R,
     output: W,
@@ -13,7 +16,7 @@ pub fn print_answers<R: Read + Drop, W: Write + Drop>(
     let mut session = Session::new(alloc);
     let mut out = BufWriter::new(alloc, output)?;
     for line in BufReader::new(alloc, input)?.lines(alloc) {
-        let text = session.take(&line?)?;
+        let text = session.take(rt, &line?)?;
         out.write_all(&text)?;
     }
     let rest = session.end()?;

@@ -7,8 +7,10 @@ use crate::fault::Fault;
 use crate::files::Files;
 use crate::lines::{push_first, push_line, push_repeated};
 use pm_commands::top;
-use pm_shelf::FailingSink;
+use pm_shelf::{FailingSink, IdleGate};
 use std::alloc::{AllocError, Global};
+use std::sync::Wait;
+use std::thread::Threads;
 
 /// The name of the program, which a command's line leaves out.
 const PROGRAM: &str = "pmempool";
@@ -53,7 +55,11 @@ impl Session {
 
     /// Does what the line says. The text has the line and the answer that came, or nothing where
     /// the line was an expected answer.
-    pub fn take(&mut self, line: &str) -> Result<Vec<u8>, AllocError> {
+    pub fn take<T: Threads + Wait + Sync>(
+        &mut self,
+        rt: &T,
+        line: &str,
+    ) -> Result<Vec<u8>, AllocError> {
         if self.script.is_some() {
             return self.take_script_line(line);
         }
@@ -65,7 +71,7 @@ impl Session {
             return Ok(Vec::new(self.alloc));
         }
         let mut text = self.copied(line)?;
-        match self.answer(line, &mut text) {
+        match self.answer(rt, line, &mut text) {
             Ok(is_answered) => self.is_answered = is_answered,
             Err(fault) => {
                 self.is_answered = true;
@@ -122,9 +128,14 @@ impl Session {
 
     /// Runs the command or the directive of the line, and appends its answer. Whether there is an
     /// answer is told.
-    fn answer(&mut self, line: &str, text: &mut Vec<u8>) -> Result<bool, Fault> {
+    fn answer<T: Threads + Wait + Sync>(
+        &mut self,
+        rt: &T,
+        line: &str,
+        text: &mut Vec<u8>,
+    ) -> Result<bool, Fault> {
         match line.strip_prefix("$ ") {
-            Some(command) => self.run(command, text),
+            Some(command) => self.run(rt, command, text),
             None if is_directive(line) => {
                 let directive = directive_of(self.alloc, line)?;
                 self.direct(directive, text)
@@ -135,7 +146,12 @@ impl Session {
 
     /// Runs a command, and appends what it prints, or the first lines of it, and its status, which
     /// is left out where it is 0.
-    fn run(&mut self, command: &str, text: &mut Vec<u8>) -> Result<bool, Fault> {
+    fn run<T: Threads + Wait + Sync>(
+        &mut self,
+        rt: &T,
+        command: &str,
+        text: &mut Vec<u8>,
+    ) -> Result<bool, Fault> {
         let words = self.words_of(command)?;
         let names = self.names_in(&words)?;
         let mut shelf = self.files.shelf(&names, self.shelf_fails.take())?;
@@ -144,7 +160,7 @@ impl Session {
             plan.push(call).map_err(|_| Fault::Memory)?;
         }
         let mut out = FailingSink::new(self.alloc, plan);
-        let status = top(self.alloc, &words, &mut shelf, &mut out);
+        let status = top(rt, self.alloc, &words, &mut shelf, &mut out, &IdleGate);
         self.files.take_new(&names, &shelf)?;
         match self.first.take() {
             Some(count) => push_first(out.bytes(), count, text)?,

@@ -8,5 +8,5 @@ use pm_transcript::print_answers;
 use std::io;
 
 fn main(rt: HostRuntime) -> io::Result<()> {
-    print_answers(rt.alloc(), rt.reader(), io::writer(&rt))
+    print_answers(&rt, rt.alloc(), rt.reader(), io::writer(&rt))
 }

@@ -5,7 +5,7 @@
 #![tactic(auto)]
 
 use pm_commands::{Failure, say_failure, top};
-use pm_shelf::{FileShelf, OutputSink};
+use pm_shelf::{FileShelf, IdleGate, OutputSink};
 use std::alloc::{AllocError, Global};
 use std::env;
 use std::io::{self, ErrorKind};
@@ -15,7 +15,7 @@ fn main(rt: HostRuntime) -> ExitCode {
     let mut shelf = FileShelf::new(&rt);
     let mut out = OutputSink::new(&rt);
     let status = match words_of(&rt) {
-        Ok(words) => top(rt.alloc(), &words, &mut shelf, &mut out),
+        Ok(words) => top(&rt, rt.alloc(), &words, &mut shelf, &mut out, &IdleGate),
         Err(failure) => say_failure(rt.alloc(), &failure, &mut out),
     };
     ExitCode::from(status.code())
