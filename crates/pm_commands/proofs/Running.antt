@@ -112,7 +112,8 @@ pub lanes_left : {L E : Type 0} (bytes text : L → List ℕ) (result : Result L
 lanes_left bytes text (Ok l) source script_text e image script stops out words entries ends in_words is is_script are_stops ran words_are entries_are ends_are is_image is_report = inr (record {
   in_words = in_words;
   script = script;
-  is_script = is_script;
+  is_script = is_script.is_script;
+  runs = is_script.runs;
   stops = stops;
   are_stops = are_stops;
   outcome = out;

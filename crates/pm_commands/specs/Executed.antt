@@ -1,6 +1,7 @@
 -- What a run of a script over pool files comes to: the theorem that the program is built for.
-use Rattle.std.specs.Prelude.{◌≡◌, ◌⊎◌, ℕ, ◌%◌, ◌≤◌, List, [], ◌∷◌, length, Option, None, Some, string_bytes, ⊤}
+use Rattle.std.specs.Prelude.{◌≡◌, ◌⊎◌, ℕ, ◌%◌, ◌≤◌, All, List, [], ◌∷◌, length, Option, None, Some, string_bytes, ⊤}
 use Rattle.pm_words.specs.Words.{bytes_of, words_of}
+use Rattle.pm_calls.specs.Calls.{RunsOnLanes}
 use Rattle.pm_exec.specs.Runs.{RanOnLanes}
 use Rattle.pm_exec.specs.declared.outcome.Outcome.{Outcome}
 use Rattle.pm_image.specs.Means.{IsMeaning}
@@ -11,6 +12,7 @@ use Rattle.pm_objects.specs.declared.history.Entry.{Entry}
 use Rattle.pm_objects.specs.declared.pool.PoolView.{PoolView}
 use Rattle.pm_recover.specs.Recovery.{IsRecovered}
 use Rattle.pm_options.specs.Words.{Exec}
+use Rattle.pm_script.specs.Scripts.{IsScript}
 use Rattle.pm_script.specs.Stops.{stop_of}
 use Rattle.pm_script.specs.Words.{lines}
 use Rattle.pm_script.specs.declared.script.Script.{Script}
@@ -68,7 +70,8 @@ pub record IsRunOfOneLane (source script_text : List ℕ) (e : Exec) (written te
 pub record IsRunOfLanes (source script_text : List ℕ) (e : Exec) (written text : List ℕ) : Type 0 where
   pub in_words : length source % 8 ≡ 0
   pub script : Script
-  pub is_script : IsOnLanes (lines script_text) script
+  pub is_script : IsScript (lines script_text) script
+  pub runs : All RunsOnLanes script.lines
   pub stops : List (Option ℕ)
   pub are_stops : AreStopsFor e.stops stops
   pub outcome : Outcome

@@ -1,12 +1,12 @@
 -- WHAT A SCRIPT LEAVES that lanes ran on the pool of an image, each in a thread of its own, where power
 -- fails at the end: docs/MODEL.md, "Crash".
-use Rattle.std.specs.Prelude.{◌≡◌, ℕ, ◌<◌, true, false, List, length, map, slice_index_or, Option}
+use Rattle.std.specs.Prelude.{◌≡◌, ℕ, ◌%◌, ◌^◌, ◌<◌, true, false, List, length, map, slice_index_or, Option}
 use Rattle.std.specs.List.{AllZip}
 use Rattle.pm_crash.specs.Images.{block_for}
 use Rattle.pm_image.specs.Blocks.{blocks}
 use Rattle.pm_image.specs.Logs.{recovered_at}
 use Rattle.pm_image.specs.Means.{IsMeaning}
-use Rattle.pm_lanes.specs.Closed.{AllAreBack, BackWith, MaySurvive, NoRecordTorn}
+use Rattle.pm_lanes.specs.Closed.{AllAreBack, BackWith, IsBack, MaySurvive, NoRecordTorn}
 use Rattle.pm_lanes.specs.Opens.{IsOpened}
 use Rattle.pm_memory.specs.Keep.{IsKeptImage}
 use Rattle.pm_model.specs.History.{IsHistory, ReplaysEntries, is_answered, without_lost}
@@ -55,6 +55,10 @@ pub record SurvivesAs (b : Beginning) (last : Moment) (pool : PoolView) (entries
   pub replayed : Replayed pool fates
   pub stands : NoRecordTorn b last image → StandsFor pool fates image
 
+-- the lane came back with this count of its counted calls, modulo 2^64
+abbrev pub HasCounted : List View → ℕ → ℕ → Type 0
+HasCounted back lane calls = (last : IsBack back lane) × (calls ≡ last.view.calls % 2 ^ 64)
+
 -- A SCRIPT RAN ON LANES: the pool was opened, lane k ran the script's lines of lane k up to its stop
 -- number, if it has one, all lanes came back, and what is left is what the keep number leaves of the
 -- words and of what each lane had undrained
@@ -76,6 +80,9 @@ pub record RanOnLanes (image layout : List ℕ) (script : Script) (stops : List 
   pub ends : length out.lanes.items ≡ script.lanes
   pub each : (lane : ℕ) → lane < script.lanes
       → IsLaneHistory begin_.pool script.lines out.entries.items lane (slice_index_or out.lanes.items lane end.Ended)
+  -- a lane that stopped had made so many counted calls as it came back
+  pub counted : (lane calls : ℕ) → lane < script.lanes → slice_index_or out.lanes.items lane end.Ended ≡ end.Stopped calls
+      → HasCounted back lane calls
   -- what it means, with no premise; and, unless a record is torn that a lane was writing, what the
   -- image means
   pub replayed : Replayed opened.pool out.entries.items
