@@ -38,6 +38,8 @@ PAGE, LINE, AREA, ZONE = 4096, 64, 8192, 266240
 BLOCKS = {2: 31, 3: 21, 4: 15, 5: 12, 7: 9, 9: 7, 15: 4, 31: 2}
 MOST_RECORDS, MOST_ENTRIES, MOST_PENDING, MOST_LOCKS, MOST_LEVELS = 64, 64, 63, 64, 64
 MOST_CHANGES = 512
+# The bytes of one line of a script.
+MOST_BYTES = 4096
 # A run that has not ended by then counts as a difference.
 LONGEST_RUN = 120
 
@@ -322,7 +324,7 @@ class Writer:
     def span(self, off):
         """A range of an object, rarely past its end."""
         rng, size = self.rng, len(self.objects[off].data)
-        most = rng.choice([8, 8, 16, 64, 300, 4096])
+        most = rng.choice([8, 8, 16, 64, 300, MOST_BYTES])
         if rng.random() < 0.03:
             return size - rng.randrange(min(size, 8)), rng.choice([9, 64])
         at = rng.choice([0, 8 * rng.randrange(1 + size // 8), rng.randrange(size)])
@@ -398,7 +400,7 @@ class Writer:
             self.lines.append(f"inc {self.name(off)} {at + rng.randrange(length - 7)} {by}")
             return
         fore = rng.randrange(max(1, length))
-        data = rng.randbytes(max(1, rng.randrange(length - fore + 1)))
+        data = rng.randbytes(max(1, rng.randrange(min(length - fore, MOST_BYTES) + 1)))
         self.lines.append(f"write {self.name(off)} {at + fore} {data.hex()}")
 
     def action(self, held=None):
