@@ -13,8 +13,9 @@ printed.
 With `--faults` the stand-in is wrong in one way after another, as locks that are given back before
 the commit; some case must show each to the judge.
 
-With a program, scripts of one lane run on both: what the program prints and writes must be what
-the stand-in does, word for word, so each memory call up to the stop, and what survives it.
+With a program, scripts of one lane run on both, half of them in the words that lanes run: what the
+program prints and writes must be what the stand-in does, word for word, so each memory call up to
+the stop, and what survives it.
 """
 import argparse
 import random
@@ -520,7 +521,8 @@ def compare(words):
         program = soak.Program(str(Path(words.program).resolve()), room)
         for number in range(words.cases):
             rng = random.Random(f"{words.seed}/{number}")
-            case = soak.make_case(rng, program, 2, True, earlier)
+            # Half of them have the words that a single lane does not run, levels among them.
+            case = soak.make_case(rng, program, 1, rng.random() < 0.5, earlier)
             if Judge(case, None).refusal():
                 continue
             answer, other = program.exec(case, False), play(case, rng)

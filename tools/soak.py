@@ -1144,16 +1144,17 @@ def make_stops(rng, image, script, lanes):
 
 def make_case(rng, program, most_lanes, plain, earlier):
     """A random case: its pool is new, or the last one that was written."""
-    count = 1 if plain else rng.randrange(2, most_lanes + 1)
+    single = plain or most_lanes == 1
+    count = 1 if single else rng.randrange(2, most_lanes + 1)
     if earlier is not None and rng.random() < 0.5:
         pool = earlier
-        count = 1 if plain else min(count, Image(pool).shape.lanes)
+        count = 1 if single else min(count, Image(pool).shape.lanes)
     else:
         lanes = max(1, min(32, count + rng.choice([0, 0, 1, 3])))
         made = program and rng.random() < 0.3
         pool = program.create(rng, lanes) if made else make_pool(rng, lanes)
     image = Image(pool)
-    lanes = range(count + (not plain and rng.random() < 0.01))
+    lanes = range(count + (not single and rng.random() < 0.01))
     layout = "other" if rng.random() < 0.005 else LAYOUT
     keep = rng.choice([0, 1, rng.randrange(TOP), rng.randrange(TOP)])
     if not image.recovered().objects():
