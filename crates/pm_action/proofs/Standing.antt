@@ -1,6 +1,7 @@
 -- A LANE STANDS WITH ITS HISTORY TURNED after each call on what is pending, from what the call says
 -- that it did.
-use Rattle.std.proofs.Common.{◌≡◌, ℕ, zero, suc, Bool, true, false, ⊎_elim, List, [], take, Option, Some, None, Result, Ok, Err, refl, sym, ap, ◌∙◌, subst}
+use Rattle.std.proofs.Common.{◌≡◌, ℕ, zero, suc, Bool, true, false, ⊎_elim, inl, List, [], take, Option, Some, None, Result, Ok, Err, refl, sym, ap, ◌∙◌, subst}
+use Rattle.std.proofs.lemmas.Bool.{both_ways}
 use Rattle.pm_objects.specs.declared.calls.Operation.{Operation}
 use Rattle.pm_objects.specs.declared.calls.Operation.TheVariants.{Cancel, Publish}
 use Rattle.pm_objects.specs.declared.history.Value.{Value}
@@ -211,6 +212,7 @@ module _ {M : Type 0} (at : M → View → Type 0) (old new : Lane M) (h : LaneH
         view = after_all t.view (take c.stops.made plan);
         seen = c.stops.seen;
         facts = facts_on_the_way t.view plan c.stops.made c.facts;
+        due = λ is. inl c.stops.stopped;
       }) (all_fixed t.view (take c.stops.made plan)) same
       ((publishes_tell (words_pending t) c.found c.number).on_the_way t.view
       c.stops.made none
@@ -309,6 +311,8 @@ module _ {M : Type 0} (at : M → View → Type 0) (old new : Lane M) (h : LaneH
             view = here.0.standing.view;
             seen = (f.1 here.0.standing here.0.rests).memory;
             facts = may_open_facts here.0.standing here.0.between;
+            due = λ e. absurd (both_ways new.stopped
+                (ap (λ (g : Fields). g.stopped) (f.1 here.0.standing here.0.rests).fields) e);
           },
           ap (λ (x : LaneHistory). x.done) here.1,
           ap (λ (x : LaneHistory). x.lane) here.1,

@@ -1,7 +1,7 @@
 -- THE ENTRIES OF A LANE THAT STOPPED HAVE THEIR FACTS. A step puts an entry before those that are
 -- there, or leaves them; so where those after some steps have their facts, those of each view on the
 -- way have them.
-use Rattle.std.proofs.Common.{ℕ, zero, suc, Bool, true, false, List, [], ◌∷◌, ◌++◌, take, sym, ◌∙◌, subst, ⊎_elim}
+use Rattle.std.proofs.Common.{ℕ, zero, suc, Bool, true, false, List, [], ◌∷◌, ◌++◌, take, refl, sym, ◌∙◌, subst, arith, inl, inr, ⊎_elim, Contains}
 use Rattle.pm_objects.specs.declared.calls.Want.{Want}
 use Rattle.pm_view.specs.declared.occ.Occ.{Occ}
 use Rattle.pm_view.specs.Log.{Phase, Idle, Open, Drawn, Sealing, Applying, Clearing, Retiring, Voiding}
@@ -88,6 +88,7 @@ module _ {M : Type 0} (at : M → View → Type 0) (lane : Lane M) (s : Standing
     view = after_all s.view (take cut.stops.made (plan s.view));
     seen = cut.stops.seen;
     facts = facts_on_the_way s.view (plan s.view) cut.stops.made cut.facts;
+    due = λ is. inl cut.stops.stopped;
   }
 
   abbrev pub commit_is_stopped : (stopped : Bool) → CommitCut at lane s stopped → IsLaneStopped at lane
@@ -96,6 +97,7 @@ module _ {M : Type 0} (at : M → View → Type 0) (lane : Lane M) (s : Standing
     seen = cut.stops.seen;
     facts = facts_on_the_way s.view (commits s.entries cut.found cut.number s.view) cut.stops.made
         cut.facts;
+    due = λ is. inl cut.stops.stopped;
   }
 
 -- ---- AS IT WAITED for a lock: it drew no number
@@ -115,6 +117,21 @@ stops_have v n line write f =
     subst HaveFacts (sym (all_then v (refusals n line write) then
     ∙ twice_more u (takes line write false) (StopSeen true))) (tried_has u line write on)
 
+here : (s : Step) (rest : List Step) → Contains (s ∷ rest) s
+here s rest = (0, omega arith, refl)
+
+-- it saw the stop word set
+pub stop_was_seen : (v : View) (n line : ℕ) (write : Bool)
+    → Contains (after_all v (stops n line write)).seen (StopSeen true)
+unfolding stops
+stop_was_seen v n line write =
+    let u : View = after_all v (refusals n line write) in
+    let then : List Step = takes line write false ∷ StopSeen true ∷ [] in
+    subst (λ (x : View). Contains x.seen (StopSeen true))
+        (sym (all_then v (refusals n line write) then
+        ∙ twice_more u (takes line write false) (StopSeen true)))
+        (here (StopSeen true) (after u (takes line write false)).seen)
+
 abbrev pub wait_is_stopped : {M : Type 0} (at : M → View → Type 0) (lane : Lane M) (s : Standing)
     (wants : List Want) → HaveFacts s.view → WaitWasStopped at lane s wants
     → IsLaneStopped at lane
@@ -128,6 +145,9 @@ wait_is_stopped at lane s wants f w =
       seen = w.memory;
       facts = subst HaveFacts (sym (all_then s.view w.steps (stops w.refused line write)))
           (stops_have x w.refused line write got);
+      due = λ is. inr (subst (λ (y : View). Contains y.seen (StopSeen true))
+          (sym (all_then s.view w.steps (stops w.refused line write)))
+          (stop_was_seen x w.refused line write));
     }
 
 -- ---- BETWEEN TWO CALLS: its last call has its number, and no later one

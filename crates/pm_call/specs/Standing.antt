@@ -1,10 +1,12 @@
 -- A LANE STANDS, as its fields say, with a history: what each call asks of its lane, and leaves.
-use Rattle.std.specs.Prelude.{◌≡◌, ℕ, suc, true, false, [], Option, None, Result}
+use Rattle.std.specs.Prelude.{◌≡◌, ◌⊎◌, ℕ, suc, true, false, Contains, [], Option, None, Result}
 use Rattle.pm_objects.specs.declared.calls.Operation.{Operation}
 use Rattle.pm_objects.specs.declared.history.TxErr.{TxErr}
 use Rattle.pm_objects.specs.declared.history.TxErr.TheVariants as error
 use Rattle.pm_objects.specs.declared.history.Value.{Value}
 use Rattle.pm_objects.specs.declared.refusal.Refusal.{Refusal}
+use Rattle.pm_view.specs.Counts.{IsAtStop}
+use Rattle.pm_view.specs.Steps.Step.{StopSeen}
 use Rattle.pm_view.specs.View.{View}
 use Rattle.pm_world.specs.declared.lane.Lane.{Lane}
 use Rattle.pm_crash.specs.Facts.{HaveFacts}
@@ -14,12 +16,19 @@ use Rattle.pm_call.specs.Did.{IsAt, work_refusal}
 use Rattle.pm_call.specs.Histories.{LaneHistory, calls_ended, history_of, last_ended, turned, unless}
 use Rattle.pm_call.specs.Stages.{IsLanePast, end_refusal}
 
+-- A STOP IS DUE: the lane made as many counted calls as its stop number says, or it found the stop
+-- word set as it waited for a lock
+abbrev pub IsStopDue : View → Type 0
+IsStopDue v = IsAtStop v ⊎ Contains v.seen (StopSeen true)
+
 -- A LANE STOPPED, and makes no call any more: its memory is seen as a view whose entries have their
--- facts, so that the history up to here is the plain model's
+-- facts, so that the history up to here is the plain model's; and where it says that it stopped, a
+-- stop was due
 pub record IsLaneStopped {M : Type 0} (at : M → View → Type 0) (lane : Lane M) : Type 0 where
   pub view : View
   pub seen : at lane.memory view
   pub facts : HaveFacts view
+  pub due : lane.stopped ≡ true → IsStopDue view
 
 -- past the work of a level the call is over, but where an inner level was committed
 abbrev pub IsOverFor : ℕ → TxErr → LaneHistory → Type 0

@@ -193,6 +193,11 @@ module _ {M : Type 0} (at : M → View → Type 0) (old new : Lane M) (result : 
   stopped_err s =
       let d : FinishedSo true at old new result = subst (λ (b : Bool). FinishedSo b at old new result) s did in d.0
 
+  same_lane : old.stopped ≡ true → new ≡ old
+  unfolding Finished
+  same_lane s =
+      let d : FinishedSo true at old new result = subst (λ (b : Bool). FinishedSo b at old new result) s did in d.1
+
   pub closed : FinishedLanesHaveFacts at → (h : LaneHistory) → StandsWith at old h
       → (old.stopped ≡ false → position_of old ≡ resting) → (before e : LaneEnd) → (old.stopped ≡ false → e ≡ before)
       → (old.stopped ≡ true → (v : View) → at new.memory v → e ≡ end.Stopped (v.calls % 2 ^ 64))
@@ -205,4 +210,5 @@ module _ {M : Type 0} (at : M → View → Type 0) (old new : Lane M) (result : 
         ends = x.3;
         going = going;
         stopped = λ is. stopped is x.0.view x.0.seen;
+        due = λ is. x.0.due (ap (λ (lane : Lane M). lane.stopped) (same_lane is) ∙ is);
       }

@@ -12,7 +12,7 @@ use Rattle.pm_world.specs.declared.lane.Lane.{Lane}
 use Rattle.pm_crash.specs.Fates.{EndsOpen}
 use Rattle.pm_call.specs.Histories.{Ended, LaneHistory, calls_ended, nothing_told}
 use Rattle.pm_call.specs.Positions.{position_of, resting}
-use Rattle.pm_call.specs.Standing.{IsLaneStopped, StandsWith}
+use Rattle.pm_call.specs.Standing.{IsLaneStopped, IsStopDue, StandsWith}
 use Rattle.pm_calls.specs.LaneRooms.{lines_to_run}
 use Rattle.pm_calls.specs.declared.room.CallRoom.{CallRoom}
 use Rattle.pm_exec.specs.Answers.{IsAnswer, lines_of}
@@ -58,6 +58,10 @@ module _ {G M : Type 0} (at : M → View → Type 0) (before after : LaneWork G)
   counted_when true s k is = same_count k (ends.stops.view.calls % 2 ^ 64) (sym is ∙ ends.stopped s)
   counted_when false g k is = absurd (came.unstopped g k (sym (ends.going g) ∙ is))
 
+  due_when : (b : Bool) → ran.stopped ≡ b → (k : ℕ) → after.end ≡ end.Stopped k → IsStopDue ends.stops.view
+  due_when true s k is = ends.due s
+  due_when false g k is = absurd (came.unstopped g k (sym (ends.going g) ∙ is))
+
   pub work_did : DidCalls before after ends.stops.view
   work_did = record {
     same = same;
@@ -71,6 +75,7 @@ module _ {G M : Type 0} (at : M → View → Type 0) (before after : LaneWork G)
     whole = λ is. whole_when ran.stopped refl is ∙ ap (λ (l : List (List ScriptLine)). length l) left_are;
     stopped = stopped_when ran.stopped refl;
     counted = counted_when ran.stopped refl;
+    due = due_when ran.stopped refl;
   }
 
 module _ {G M : Type 0} (at : M → View → Type 0) (before self : LaneWork G) (lane closed : Lane M) (n : ℕ) (result : LaneEnd)

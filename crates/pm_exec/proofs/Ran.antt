@@ -353,11 +353,11 @@ ran_on_lanes {G} laws origin layout script stops keep out b before after flags l
       ends = ap (λ (l : List LaneEnd). length l) ends ∙ length-map after (λ (x : LaneWork G). x.end) ∙ ran.works ∙ lanes;
       each = λ k low. subst (λ (l : List LaneEnd). IsLaneHistory b.pool script.lines entries k (get_or l k end.Ended)) (sym ends)
           (lane_history laws b keep script.lines before after out.image.items flags ran works w did out.image.items flags ran.survives ran.judged entries order k (subst (λ n. k < n) (sym lanes) low));
-      counted = λ k calls low is.
+      stopped = λ k calls low is.
           let high : k < b.lanes = subst (λ n. k < n) (sym lanes) low in
           let lane = ran.each k w high in
           let ended : (get_or after k w).end ≡ end.Stopped calls = sym (get_or-map (λ (x : LaneWork G). x.end) after k w end.Ended (let count = ran.works in omega (arith, high, count))) ∙ ap (λ (l : List LaneEnd). get_or l k end.Ended) (sym ends) ∙ is in
-          (record { place = k; view = lane.view; there = lane.there; lane_is = lane.lane_is }, (did k high).counted calls ended);
+          (record { place = k; view = lane.view; there = lane.there; lane_is = lane.lane_is }, (did k high).counted calls ended, (did k high).due calls ended);
       replayed = replayed laws b keep script.lines before after out.image.items flags ran works w did out.image.items flags ran.survives ran.judged entries order origin layout opened;
       stands = λ none. stands laws b keep script.lines before after out.image.items flags ran works w did out.image.items flags ran.survives ran.judged entries order origin layout opened none;
       survives = ran.survives;

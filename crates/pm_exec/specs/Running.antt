@@ -18,7 +18,7 @@ use Rattle.pm_world.specs.declared.lane.Lane.{Lane}
 use Rattle.pm_crash.specs.Fates.{EndsOpen}
 use Rattle.pm_call.specs.Histories.{Ended, LaneHistory, calls_ended}
 use Rattle.pm_call.specs.Positions.{position_of, resting}
-use Rattle.pm_call.specs.Standing.{IsLaneStopped, StandsWith}
+use Rattle.pm_call.specs.Standing.{IsLaneStopped, IsStopDue, StandsWith}
 use Rattle.pm_exec.specs.Answers.{IsAnswer, LineCame, MayBeKeptOrLost, lines_of}
 use Rattle.pm_calls.specs.Calls.{IsWholeFrom, line_operation}
 use Rattle.pm_exec.specs.Lines.{at_level}
@@ -143,7 +143,7 @@ pub record CallsCame {M : Type 0} (at : M → View → Type 0) (lane : Lane M) (
 -- ---- THE END OF A LANE'S CALLS
 
 -- the lane that stood with this history makes no call any more; how it ended is as before, or it stopped,
--- with so many counted calls
+-- as was due, with so many counted calls
 pub record Closed {M : Type 0} (at : M → View → Type 0) (old new : Lane M) (h : LaneHistory) (before e : LaneEnd) : Type 0 where
   pub stops : IsLaneStopped at new
   pub done : calls_ended stops.view ≡ h.done
@@ -151,3 +151,4 @@ pub record Closed {M : Type 0} (at : M → View → Type 0) (old new : Lane M) (
   pub ends : EndsOpen old.drawn stops.view
   pub going : old.stopped ≡ false → e ≡ before
   pub stopped : old.stopped ≡ true → e ≡ end.Stopped (stops.view.calls % 2 ^ 64)
+  pub due : old.stopped ≡ true → IsStopDue stops.view

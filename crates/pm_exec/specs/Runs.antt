@@ -20,6 +20,7 @@ use Rattle.pm_text.specs.declared.report.LaneEnd.TheVariants as end
 use Rattle.pm_view.specs.View.{View}
 use Rattle.pm_view.specs.declared.change.Change.{Change}
 use Rattle.pm_world.specs.Runs.{Moment}
+use Rattle.pm_call.specs.Standing.{IsStopDue}
 use Rattle.pm_exec.specs.Reports.{IsLaneHistory}
 use Rattle.pm_exec.specs.declared.outcome.Outcome.{Outcome}
 
@@ -55,9 +56,11 @@ pub record SurvivesAs (b : Beginning) (last : Moment) (pool : PoolView) (entries
   pub replayed : Replayed pool fates
   pub stands : NoRecordTorn b last image → StandsFor pool fates image
 
--- the lane came back with this count of its counted calls, modulo 2^64
-abbrev pub HasCounted : List View → ℕ → ℕ → Type 0
-HasCounted back lane calls = (last : IsBack back lane) × (calls ≡ last.view.calls % 2 ^ 64)
+-- the lane came back with this count of its counted calls, modulo 2^64, and a stop was due: its stop
+-- number was reached, or it found the stop word set as it waited for a lock
+abbrev pub HasStopped : List View → ℕ → ℕ → Type 0
+HasStopped back lane calls =
+    (last : IsBack back lane) × (calls ≡ last.view.calls % 2 ^ 64) × IsStopDue last.view
 
 -- A SCRIPT RAN ON LANES: the pool was opened, lane k ran the script's lines of lane k up to its stop
 -- number, if it has one, all lanes came back, and what is left is what the keep number leaves of the
@@ -80,9 +83,9 @@ pub record RanOnLanes (image layout : List ℕ) (script : Script) (stops : List 
   pub ends : length out.lanes.items ≡ script.lanes
   pub each : (lane : ℕ) → lane < script.lanes
       → IsLaneHistory begin_.pool script.lines out.entries.items lane (slice_index_or out.lanes.items lane end.Ended)
-  -- a lane that stopped had made so many counted calls as it came back
-  pub counted : (lane calls : ℕ) → lane < script.lanes → slice_index_or out.lanes.items lane end.Ended ≡ end.Stopped calls
-      → HasCounted back lane calls
+  -- a lane that stopped had made so many counted calls as it came back, and its stop was due
+  pub stopped : (lane calls : ℕ) → lane < script.lanes → slice_index_or out.lanes.items lane end.Ended ≡ end.Stopped calls
+      → HasStopped back lane calls
   -- what it means, with no premise; and, unless a record is torn that a lane was writing, what the
   -- image means
   pub replayed : Replayed opened.pool out.entries.items

@@ -7,6 +7,7 @@ use Rattle.pm_script.specs.declared.script.ScriptLine.{ScriptLine}
 use Rattle.pm_text.specs.declared.report.LaneEnd.TheVariants as end
 use Rattle.pm_view.specs.View.{View}
 use Rattle.pm_call.specs.Histories.{Ended, calls_ended}
+use Rattle.pm_call.specs.Standing.{IsStopDue}
 use Rattle.pm_crash.specs.Fates.{EndsOpen}
 use Rattle.pm_exec.specs.Made.{AreToBeMade}
 use Rattle.pm_exec.specs.Answers.{IsAnswer, MayBeKeptOrLost, lines_of}
@@ -35,6 +36,7 @@ pub record DidCalls {G : Type 0} (before after : LaneWork G) (v : View) : Type 0
   pub whole : after.end ≡ end.Ended → length after.answers.items ≡ length (lines_left before)
   pub stopped : after.unanswered ≢ None → (calls : ℕ) × (after.end ≡ end.Stopped calls)
   pub counted : (calls : ℕ) → after.end ≡ end.Stopped calls → calls ≡ v.calls % 2 ^ 64
+  pub due : (calls : ℕ) → after.end ≡ end.Stopped calls → IsStopDue v
 
 -- a work can run whose calls may be made
 abbrev pub CanRunWork : {G : Type 0} → LaneWork G → Type 0

@@ -46,7 +46,7 @@ use Rattle.pm_call.proofs.OpenedLanes.{rests_so}
 use Rattle.pm_call.proofs.SilentPlans.{IsAsTold, silent_steps}
 use Rattle.pm_call.proofs.Standing.{idle_stands, same_stands, spent_stands, stands_turned, stopped_stands}
 use Rattle.pm_call.proofs.Staying.{has_pending}
-use Rattle.pm_call.proofs.StoppedLanes.{stops_have}
+use Rattle.pm_call.proofs.StoppedLanes.{stop_was_seen, stops_have}
 use Rattle.pm_call.proofs.StoppedNumbers.{ends_untold}
 use Rattle.pm_call.proofs.ToldLooks.{told_open, saw_history, stops_silent, told_history}
 use Rattle.pm_root.specs.Root.{FieldsStay, FoundAs, FoundBy, KnowsRoot, RootFound, id_of, FoundOpenAs, looked}
@@ -424,7 +424,12 @@ module _ {M : Type 0} (at : M → View → Type 0) (old new : Lane M) (h : LaneH
       silent_steps s.view (stops f.refused 0 false) (stops_silent f.refused 0 false) in
       let history = told_history s.view w h told same in
       stopped_stands at new h (ap (λ (x : Fields). x.stopped) f.fields)
-      (record { view = w; seen = f.memory; facts = stops_have s.view f.refused 0 false is.facts })
+      (record {
+        view = w;
+        seen = f.memory;
+        facts = stops_have s.view f.refused 0 false is.facts;
+        due = λ e. inr (stop_was_seen s.view f.refused 0 false);
+      })
       (ap (λ (x : LaneHistory). x.done) history) (ap (λ (x : LaneHistory). x.lane) history)
       (ends_untold new.drawn w (ap (λ (x : Fields). x.drawn) f.fields)
       (told_open s.view w told is.number.none))
