@@ -128,9 +128,9 @@ stop_was_seen v n line write =
     let u : View = after_all v (refusals n line write) in
     let then : List Step = takes line write false ∷ StopSeen true ∷ [] in
     subst (λ (x : View). Contains x.seen (StopSeen true))
-        (sym (all_then v (refusals n line write) then
-        ∙ twice_more u (takes line write false) (StopSeen true)))
-        (here (StopSeen true) (after u (takes line write false)).seen)
+    (sym (all_then v (refusals n line write) then
+    ∙ twice_more u (takes line write false) (StopSeen true)))
+    (here (StopSeen true) (after u (takes line write false)).seen)
 
 abbrev pub wait_is_stopped : {M : Type 0} (at : M → View → Type 0) (lane : Lane M) (s : Standing)
     (wants : List Want) → HaveFacts s.view → WaitWasStopped at lane s wants
