@@ -1,7 +1,7 @@
 -- WHAT A POOL IS LEFT AS by lanes that ran, came back, and whose table closed, where power fails
 -- then: docs/MODEL.md, "Crash".
 use Rattle.std.specs.Prelude.{◌≡◌, ◌≢◌, ℕ, suc, ◌<◌, ◌≤◌, All, Bool, true, Contains, List, []}
-use Rattle.std.specs.Prelude.{length, slice_index_or, Option, Some}
+use Rattle.std.specs.Prelude.{length, slice_index, slice_index_or, None, Option, Some}
 use mathlib.Core.Option.{some}
 use lib.ListN.{get_elem?}
 use Rattle.pm_crash.specs.Facts.{HaveFacts}
@@ -15,12 +15,14 @@ use Rattle.pm_shared.specs.Closings.{Closes}
 use Rattle.pm_shared.specs.declared.rule.Beginning.{Beginning}
 use Rattle.pm_shared.specs.Openings.{opening_of}
 use Rattle.pm_view.specs.Changes.{IsFormed}
+use Rattle.pm_view.specs.Counts.{IsAtStop}
+use Rattle.pm_view.specs.Steps.Step.{StopSeen}
 use Rattle.pm_view.specs.declared.change.Change.{Change}
 use Rattle.pm_view.specs.Log.{is_early}
 use Rattle.pm_view.specs.View.{Numbered, View, entry_drawn}
 use Rattle.pm_world.specs.Crash.{NoneTorn, Survives, is_kept}
 use Rattle.pm_world.specs.Runs.{Moment}
-use Rattle.pm_world.specs.World.{Past}
+use Rattle.pm_world.specs.World.{Past, is_header}
 use Rattle.pm_lanes.specs.Opens.{IsOpened}
 
 -- ---- LANES CAME BACK
@@ -45,6 +47,24 @@ pub record BackWith (back : List View) (undrained : List (List Change)) : Type 0
   pub each : (n : ℕ) (v : View) → get_elem? back n ≡ some v
       → AreUndrained (slice_index_or undrained v.fixed.lane []) v.changes
   pub formed : All (All IsFormed) undrained
+
+-- ---- STOPS
+
+-- the lane of this view made as many counted calls as the stop number that the beginning gave it
+abbrev pub CameToStop : Beginning → View → Type 0
+CameToStop b v = slice_index_or b.stops v.fixed.lane None ≡ Some v.calls
+
+-- A LANE AT ITS STOP came to the stop number that it was given
+abbrev pub StopsAreReached : Type 0
+StopsAreReached = (b : Beginning) (back : List View) (words : List ℕ) (n : ℕ) (v : View)
+    → Closes b back words → get_elem? back n ≡ some v → IsAtStop v → CameToStop b v
+
+-- A LANE THAT FOUND THE STOP WORD SET shows one that came to its stop
+abbrev pub SeenStopsAreReached : Type 0
+SeenStopsAreReached = (b : Beginning) (back : List View) (words : List ℕ) (n : ℕ) (v : View)
+    → Closes b back words → AllAreBack b.lanes back → get_elem? back n ≡ some v
+    → Contains v.seen (StopSeen true)
+    → (k : ℕ) × (k < b.lanes) × (other : IsBack back k) × CameToStop b other.view
 
 -- ---- POWER FAILS as the table is closed
 
@@ -82,6 +102,14 @@ KeptImagesSurvive = (b : Beginning) (back : List View) (words image : List ℕ)
     (undrained : List (List Change)) (keep : ℕ) → (closed : Closes b back words)
     → BackWith back undrained → length undrained ≤ b.lanes
     → IsKeptImage keep words undrained image → MaySurvive b closed.last image
+
+-- THE HEADER'S PAGE of every image that may survive is that of the image that was opened, but for
+-- the root word
+abbrev pub HeadersAreKept : Type 0
+HeadersAreKept = (before layout words image : List ℕ) (b : Beginning) (back : List View)
+    → IsOpened before layout b.words.items b.shape b.pool → (closed : Closes b back words)
+    → MaySurvive b closed.last image
+    → (w : ℕ) → is_header b.shape w ≡ true → slice_index image w ≡ slice_index before w
 
 -- CLOSED POOLS MEAN THEIR HISTORIES: where an image was opened, all lanes came back, and each of
 -- their calls has its fact, every image that may survive means its history, unless a record is

@@ -1,7 +1,8 @@
 ghost use Rattle.pm_lanes.specs.Closed.{AnsweredCallsAreKept, ClosedPoolsMeanTheirHistories};
 ghost use Rattle.pm_lanes.specs.Closed.{ClosedPoolsHaveFacts, ClosedPoolsReplay};
-ghost use Rattle.pm_lanes.specs.Closed.{KeptImagesSurvive};
+ghost use Rattle.pm_lanes.specs.Closed.{HeadersAreKept, KeptImagesSurvive};
 ghost use Rattle.pm_lanes.specs.Closed.{EntriesAreCalls, OpenCallsAreJudged, OtherCallsAreKept};
+ghost use Rattle.pm_lanes.specs.Closed.{SeenStopsAreReached, StopsAreReached};
 
 /// A law: of a pool that was opened, whose lanes all came back, each with facts for its calls, and
 /// whose table closed, every image that a power failure may leave means its history: the pool to
@@ -26,4 +27,18 @@ pub fn open_calls_are_judged()
     ensures entries { EntriesAreCalls }
     ensures others { OtherCallsAreKept }
     ensures open_call { OpenCallsAreJudged }
+{}
+
+/// A law: of the lanes that came back to a table that closed, one that is at its stop made as many
+/// counted calls as the stop number that it was given; and where one found the stop word set, one
+/// of them did. No code runs.
+pub fn stops_are_reached()
+    ensures own { StopsAreReached }
+    ensures seen { SeenStopsAreReached }
+{}
+
+/// A law: every image that a power failure may leave of a pool that was opened, and whose table
+/// closed, has the header's page of the image that was opened, but for the root word. No code runs.
+pub fn headers_are_kept()
+    ensures { HeadersAreKept }
 {}
