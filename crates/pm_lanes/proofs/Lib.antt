@@ -3,5 +3,6 @@ mod Names
 mod Recovered
 mod Causes
 mod Stops
+mod Numbers
 mod Headers
 mod SoloOpened

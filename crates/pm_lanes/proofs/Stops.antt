@@ -58,7 +58,7 @@ occupied_seen : (won : Bool) (v : View) (at : Occ) (bits : ℕ)
 occupied_seen true v at bits = refl
 occupied_seen false v at bits = refl
 
-fixed_stays : (v : View) (s : Step) → (after v s).fixed ≡ v.fixed
+pub fixed_stays : (v : View) (s : Step) → (after v s).fixed ≡ v.fixed
 fixed_stays v (Occupy at bits won) = occupied_fixed won v at bits
 fixed_stays v (NumberSeen n) = begun_fixed v.log.phase v
 fixed_stays v s = refl
@@ -88,7 +88,7 @@ among : (s : Step) (seen : List Step) (t : Step) → Contains (s ∷ seen) t
 among s seen t (zero, low, is) = inl is
 among s seen t (suc i, low, is) = inr (i, omega (arith, low), is)
 
-saw_so : (v : View) (s t : Step) → Contains (after v s).seen t → (s ≡ t) ⊎ Contains v.seen t
+pub saw_so : (v : View) (s t : Step) → Contains (after v s).seen t → (s ≡ t) ⊎ Contains v.seen t
 saw_so v (TakeWrite line won) t is = among (TakeWrite line won) v.seen t is
 saw_so v (TakeRead line won) t is = among (TakeRead line won) v.seen t is
 saw_so v (Raise line won) t is = among (Raise line won) v.seen t is

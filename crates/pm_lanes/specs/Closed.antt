@@ -8,6 +8,7 @@ use Rattle.pm_crash.specs.Facts.{HaveFacts}
 use Rattle.pm_crash.specs.Fates.{EndsOpen, is_judged_kept}
 use Rattle.pm_crash.specs.Images.{MeansReplay}
 use Rattle.pm_crash.specs.Replayed.{HasFacts, Replay, kept_calls, kept_pending}
+use Rattle.pm_image.specs.Logs.{generation_word}
 use Rattle.pm_memory.specs.Changes.{AreUndrained}
 use Rattle.pm_memory.specs.Keep.{IsKeptImage}
 use Rattle.pm_objects.specs.declared.pool.PoolView.{PoolView}
@@ -16,7 +17,7 @@ use Rattle.pm_shared.specs.declared.rule.Beginning.{Beginning}
 use Rattle.pm_shared.specs.Openings.{opening_of}
 use Rattle.pm_view.specs.Changes.{IsFormed}
 use Rattle.pm_view.specs.Counts.{IsAtStop}
-use Rattle.pm_view.specs.Steps.Step.{StopSeen}
+use Rattle.pm_view.specs.Steps.Step.{NumberSeen, StopSeen}
 use Rattle.pm_view.specs.declared.change.Change.{Change}
 use Rattle.pm_view.specs.Log.{is_early}
 use Rattle.pm_view.specs.View.{Numbered, View, entry_drawn}
@@ -66,6 +67,14 @@ SeenStopsAreReached = (b : Beginning) (back : List View) (words : List ℕ) (n :
     → Contains v.seen (StopSeen true)
     → (k : ℕ) × (k < b.lanes) × (other : IsBack back k) × CameToStop b other.view
 
+-- ---- NUMBERS
+
+-- THE NUMBERS THAT A LANE SAW DRAWN are those of calls of the history
+abbrev pub SeenNumbersAreDrawn : Type 0
+SeenNumbersAreDrawn = (b : Beginning) (back : List View) (words : List ℕ) (n : ℕ) (v : View)
+    (count : ℕ) → (closed : Closes b back words) → get_elem? back n ≡ some v
+    → Contains v.seen (NumberSeen count) → count ≤ closed.last.past.length
+
 -- ---- POWER FAILS as the table is closed
 
 -- what may survive of its words
@@ -110,6 +119,12 @@ HeadersAreKept = (before layout words image : List ℕ) (b : Beginning) (back : 
     → IsOpened before layout b.words.items b.shape b.pool → (closed : Closes b back words)
     → MaySurvive b closed.last image
     → (w : ℕ) → is_header b.shape w ≡ true → slice_index image w ≡ slice_index before w
+
+-- THE GENERATION of a lane whose call has no number is so in every image that may survive
+abbrev pub GenerationsAreKept : Type 0
+GenerationsAreKept = (b : Beginning) (back : List View) (words image : List ℕ) (n : ℕ) (v : View)
+    → (closed : Closes b back words) → MaySurvive b closed.last image → get_elem? back n ≡ some v
+    → is_early v.log.phase ≡ true → generation_word image v.fixed.lane ≡ v.log.generation
 
 -- CLOSED POOLS MEAN THEIR HISTORIES: where an image was opened, all lanes came back, and each of
 -- their calls has its fact, every image that may survive means its history, unless a record is

@@ -2,6 +2,7 @@ ghost use Rattle.pm_lanes.specs.Closed.{AnsweredCallsAreKept, ClosedPoolsMeanThe
 ghost use Rattle.pm_lanes.specs.Closed.{ClosedPoolsHaveFacts, ClosedPoolsReplay};
 ghost use Rattle.pm_lanes.specs.Closed.{HeadersAreKept, KeptImagesSurvive};
 ghost use Rattle.pm_lanes.specs.Closed.{EntriesAreCalls, OpenCallsAreJudged, OtherCallsAreKept};
+ghost use Rattle.pm_lanes.specs.Closed.{GenerationsAreKept, SeenNumbersAreDrawn};
 ghost use Rattle.pm_lanes.specs.Closed.{SeenStopsAreReached, StopsAreReached};
 
 /// A law: of a pool that was opened, whose lanes all came back, each with facts for its calls, and
@@ -41,4 +42,13 @@ pub fn stops_are_reached()
 /// closed, has the header's page of the image that was opened, but for the root word. No code runs.
 pub fn headers_are_kept()
     ensures { HeadersAreKept }
+{}
+
+/// A law: of a lane that came back to a table that closed, the commit numbers that it saw drawn are
+/// those of calls of the history; and where its call has no number, its generation is so in every
+/// image that a power failure may leave. So a lane for which no number was left shows it. No code
+/// runs.
+pub fn numbers_are_shown()
+    ensures drawn { SeenNumbersAreDrawn }
+    ensures generation { GenerationsAreKept }
 {}
