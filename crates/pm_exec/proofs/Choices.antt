@@ -5,6 +5,7 @@ use Rattle.std.specs.List.{AllZip, range_with_len}
 use Rattle.std.proofs.lemmas.List.{get_or-map, length-map}
 use Rattle.std.proofs.lemmas.List.Elements.{All-tail}
 use Rattle.std.proofs.lemmas.List.FromFn.{get_or-map-range_with_len, length-map-range_with_len}
+use Rattle.pm_calls.specs.declared.names.Names.{Names}
 use Rattle.pm_crash.specs.Fates.{is_judged_kept}
 use Rattle.pm_layout.specs.declared.shape.Shape.{Shape}
 use Rattle.pm_model.specs.History.{is_answered}
@@ -71,27 +72,30 @@ pub record IsAnsweredWork {G : Type 0} (lane : ℕ) (work : LaneWork G) : Type 0
   pub number : work.number ≡ lane
   pub answered : All (λ (a : Answer). is_answered a.fate ≡ true) work.answers.items
 
-open_refated : (flags : List Bool) (pool lane : ℕ) (kept : Bool) (a : Answer) → entry_of pool lane a (open_fate (get_or flags lane true)) ≡ refated flags (entry_of pool lane a (open_fate kept))
-open_refated flags pool lane true a = refl
-open_refated flags pool lane false a = refl
+open_refated : (flags : List Bool) (names : Names) (lane : ℕ) (kept : Bool) (a : Answer)
+    → entry_of names lane a (open_fate (get_or flags lane true))
+    ≡ refated flags (entry_of names lane a (open_fate kept))
+open_refated flags names lane true a = refl
+open_refated flags names lane false a = refl
 
-lane_refated : (flags : List Bool) (pool lane : ℕ) (kept : Bool) (xs : List Answer) (u : Option Answer) → All (λ (a : Answer). is_answered a.fate ≡ true) xs
-    → entries_with pool lane (get_or flags lane true) xs u ≡ map (refated flags) (entries_with pool lane kept xs u)
-lane_refated flags pool lane kept [] None answered = refl
-lane_refated flags pool lane kept [] (Some a) answered = ap (λ (e : Entry). e ∷ []) (open_refated flags pool lane kept a)
-lane_refated flags pool lane kept (x ∷ xs) u answered =
-    let e = entry_of pool lane x x.fate in
+lane_refated : (flags : List Bool) (names : Names) (lane : ℕ) (kept : Bool) (xs : List Answer)
+    (u : Option Answer) → All (λ (a : Answer). is_answered a.fate ≡ true) xs
+    → entries_with names lane (get_or flags lane true) xs u ≡ map (refated flags) (entries_with names lane kept xs u)
+lane_refated flags names lane kept [] None answered = refl
+lane_refated flags names lane kept [] (Some a) answered = ap (λ (e : Entry). e ∷ []) (open_refated flags names lane kept a)
+lane_refated flags names lane kept (x ∷ xs) u answered =
+    let e = entry_of names lane x x.fate in
     let b = but_fate flags e in
     let first : refated flags e ≡ e = b.answered (answered 0 x (omega arith)) in
-    let rest = lane_refated flags pool lane kept xs u (All-tail (λ (a : Answer). is_answered a.fate ≡ true) x xs answered) in
-    ap (λ (f : Entry). f ∷ entries_with pool lane (get_or flags lane true) xs u) (sym first)
+    let rest = lane_refated flags names lane kept xs u (All-tail (λ (a : Answer). is_answered a.fate ≡ true) x xs answered) in
+    ap (λ (f : Entry). f ∷ entries_with names lane (get_or flags lane true) xs u) (sym first)
     ∙ ap (λ (es : List Entry). refated flags e ∷ es) rest
 
 work_refated : {G : Type 0} (flags : List Bool) (lane : ℕ) (kept : Bool) (work : LaneWork G) → IsAnsweredWork lane work
     → entries_of (get_or flags lane true) work ≡ map (refated flags) (entries_of kept work)
 work_refated flags lane kept work done =
     ap (λ (n : ℕ). entries_of (get_or flags n true) work) (sym done.number)
-    ∙ lane_refated flags work.pool work.number kept work.answers.items work.unanswered done.answered
+    ∙ lane_refated flags work.names work.number kept work.answers.items work.unanswered done.answered
 
 -- ---- THE ENTRIES OF ALL WORKS stay in order
 

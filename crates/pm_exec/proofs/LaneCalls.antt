@@ -19,6 +19,7 @@ use Rattle.pm_world.specs.declared.lane.Lane.{Lane}
 use Rattle.pm_call.specs.Histories.{Ended, LaneHistory, nothing_told}
 use Rattle.pm_call.specs.Positions.{Position, position_of, resting}
 use Rattle.pm_call.specs.Standing.{StandsWith}
+use Rattle.pm_calls.specs.declared.names.Names.{Names}
 use Rattle.pm_action.specs.Outside.{Finished, FinishedSo}
 use Rattle.pm_action.specs.Standing.{FinishedLanesHaveFacts}
 use Rattle.pm_exec.specs.Answers.{IsAnswer, MayBeKeptOrLost, lines_of, rans_of}
@@ -27,12 +28,12 @@ use Rattle.pm_exec.specs.declared.answer.Answer.{Answer}
 use Rattle.pm_exec.specs.declared.call_end.CallEnd.TheVariants as ends
 
 -- these calls were answered, and the lane, which made none before, is between two calls
-pub record CallsMade {M : Type 0} (at : M → View → Type 0) (lane : Lane M) (pool number : ℕ)
-    (calls : List (List ScriptLine)) (answers : List Answer) : Type 0 where
+pub record CallsMade {M : Type 0} (at : M → View → Type 0) (lane : Lane M) (names : Names)
+    (number : ℕ) (calls : List (List ScriptLine)) (answers : List Answer) : Type 0 where
   pub done : List Ended
   pub rests : RestsWith at lane (record { lane = number; done = reverse done; call = [] })
   pub lines : map lines_of answers ≡ calls
-  pub shown : AllZip (IsAnswer pool number) answers done
+  pub shown : AllZip (IsAnswer names number) answers done
   pub answered : All (λ (a : Answer). is_answered a.fate ≡ true) answers
 
 -- two lists that agree, with one more each
@@ -55,8 +56,9 @@ kept_too : (single : Bool) (rans : List Ran) → IsFate single rans fate.Lost �
 kept_too true rans lost = lost
 kept_too false rans lost = tt
 
-either_of : (pool n : ℕ) (a : Answer) (d : Ended) → a.fate ≡ fate.Lost → IsAnswer pool n a d → MayBeKeptOrLost d
-either_of pool n a d is shows =
+either_of : (names : Names) (n : ℕ) (a : Answer) (d : Ended) → a.fate ≡ fate.Lost
+    → IsAnswer names n a d → MayBeKeptOrLost d
+either_of names n a d is shows =
     let lost : IsFate (is_single (rans_of d.call)) (rans_of d.call) fate.Lost =
     subst (λ (f : Fate). IsFate (is_single (rans_of d.call)) (rans_of d.call) f) is shows.fate in
     (kept_too (is_single (rans_of d.call)) (rans_of d.call) lost, lost)
@@ -70,14 +72,14 @@ some_is a b is = ap (λ (o : Option Answer). MatchOr o) is where
 abbrev between : ℕ → List Ended → LaneHistory
 between n done = record { lane = n; done = done; call = [] }
 
-module _ {M : Type 0} (at : M → View → Type 0) (pool : ℕ) where
+module _ {M : Type 0} (at : M → View → Type 0) (names : Names) where
   pub none_made : (lane : Lane M) (n : ℕ) (answers : List Answer) → answers ≡ []
-      → RestsWith at lane (nothing_told n) → CallsMade at lane pool n [] answers
+      → RestsWith at lane (nothing_told n) → CallsMade at lane names n [] answers
   none_made lane n answers empty rests = record {
     done = [];
     rests = rests;
     lines = ap (λ (said : List Answer). map lines_of said) empty;
-    shown = subst (λ (said : List Answer). AllZip (IsAnswer pool n) said []) (sym empty) tt;
+    shown = subst (λ (said : List Answer). AllZip (IsAnswer names n) said []) (sym empty) tt;
     answered = subst (λ (said : List Answer). All (λ (a : Answer). is_answered a.fate ≡ true) said) (sym empty)
         (All-nil (λ (a : Answer). is_answered a.fate ≡ true));
   }
@@ -87,18 +89,18 @@ module _ {M : Type 0} (at : M → View → Type 0) (pool : ℕ) where
   pushed n done d = ap (between n) (sym (reverse-append done (d ∷ [])))
 
   module _ (old new : Lane M) (lines : List ScriptLine) where
-    pub one_more_rests : (a : Answer) → ((h : LaneHistory) → RestsWith at old h → CallCame at new pool h lines (ends.Answered a))
+    pub one_more_rests : (a : Answer) → ((h : LaneHistory) → RestsWith at old h → CallCame at new names h lines (ends.Answered a))
         → (h : LaneHistory) × RestsWith at old h → (h : LaneHistory) × RestsWith at new h
     one_more_rests a came (h, rests) = let c = came h rests in (with_ended c.0 h, c.1)
 
     pub one_more : (n : ℕ) (calls : List (List ScriptLine)) (answers : List Answer) (a : Answer)
-        → ((h : LaneHistory) → RestsWith at old h → CallCame at new pool h lines (ends.Answered a))
-        → CallsMade at old pool n calls answers → CallsMade at new pool n (calls ++ lines ∷ []) (answers ++ a ∷ [])
+        → ((h : LaneHistory) → RestsWith at old h → CallCame at new names h lines (ends.Answered a))
+        → CallsMade at old names n calls answers → CallsMade at new names n (calls ++ lines ∷ []) (answers ++ a ∷ [])
     one_more n calls answers a came made = let c = came _ made.rests in record {
       done = made.done ++ c.0 ∷ [];
       rests = subst (λ (h : LaneHistory). RestsWith at new h) (pushed n made.done c.0) c.1;
       lines = map-append lines_of answers (a ∷ []) ∙ ap₂ (λ (xs : List (List ScriptLine)) (x : List ScriptLine). xs ++ x ∷ []) made.lines c.2;
-      shown = zip_push (IsAnswer pool n) answers made.done a c.0 made.shown c.3;
+      shown = zip_push (IsAnswer names n) answers made.done a c.0 made.shown c.3;
       answered = All-push (λ (b : Answer). is_answered b.fate ≡ true) answers a made.answered c.4;
     }
 
@@ -111,18 +113,18 @@ module _ {M : Type 0} (at : M → View → Type 0) (pool : ℕ) where
   -- no answer is missing
   all_told : (lane : Lane M) (n : ℕ) (calls lines more : List (List ScriptLine)) (answers : List Answer) (done : List Ended) (call : List Told) (e : LaneEnd)
       → StandsWith at lane (record { lane = n; done = reverse done; call = call })
-      → map lines_of answers ≡ lines → lines ++ more ≡ calls → AllZip (IsAnswer pool n) answers done
+      → map lines_of answers ≡ lines → lines ++ more ≡ calls → AllZip (IsAnswer names n) answers done
       → All (λ (a : Answer). is_answered a.fate ≡ true) answers
       → (lane.stopped ≡ true → lane.drawn ≡ None) → (lane.stopped ≡ false → position_of lane ≡ resting)
       → (e ≡ end.Ended → more ≡ []) → (lane.stopped ≡ false → (k : ℕ) → e ≢ end.Stopped k)
-      → CallsCame at lane pool n calls answers None e
+      → CallsCame at lane names n calls answers None e
   all_told lane n calls lines more answers done call e stands are parts shown answered stopped going whole unstopped = record {
     done = done;
     call = call;
     stands = stands;
     of_calls = taken (answers ++ []) calls more
         (ap (λ (said : List Answer). map lines_of said ++ more) (append-nil answers) ∙ (ap (λ (l : List (List ScriptLine)). l ++ more) are ∙ parts));
-    shown = subst (λ (said : List Answer). AllZip (IsAnswer pool n) said done) (sym (append-nil answers)) shown;
+    shown = subst (λ (said : List Answer). AllZip (IsAnswer names n) said done) (sym (append-nil answers)) shown;
     answered = answered;
     either = λ a d none. absurd (let clash : None ≡ Some a = none in cc);
     stopped = stopped;
@@ -135,26 +137,26 @@ module _ {M : Type 0} (at : M → View → Type 0) (pool : ℕ) where
 
   -- it is between two calls: all are made, or no number was left
   pub rests_after : (lane : Lane M) (n : ℕ) (calls lines more : List (List ScriptLine)) (answers : List Answer) (e : LaneEnd)
-      → CallsMade at lane pool n lines answers → lines ++ more ≡ calls
+      → CallsMade at lane names n lines answers → lines ++ more ≡ calls
       → (e ≡ end.Ended → more ≡ []) → ((k : ℕ) → e ≢ end.Stopped k)
-      → CallsCame at lane pool n calls answers None e
+      → CallsCame at lane names n calls answers None e
   rests_after lane n calls lines more answers e made parts whole unstopped =
       all_told lane n calls lines more answers made.done [] e made.rests.0 made.lines parts made.shown made.answered
       (λ is. absurd (stopped_not lane made.rests.1 is)) (λ g. made.rests.1) whole (λ g. unstopped)
 
   module _ (old new : Lane M) (line : List ScriptLine) (n : ℕ) (calls lines more : List (List ScriptLine)) (answers : List Answer)
-      (made : CallsMade at old pool n lines answers) where
+      (made : CallsMade at old names n lines answers) where
     -- no number was left
-    pub spent_after : (at_line : ℕ) → ((h : LaneHistory) → RestsWith at old h → CallCame at new pool h line (ends.Spent at_line))
-        → lines ++ more ≡ calls → CallsCame at new pool n calls answers None (end.Spent at_line)
+    pub spent_after : (at_line : ℕ) → ((h : LaneHistory) → RestsWith at old h → CallCame at new names h line (ends.Spent at_line))
+        → lines ++ more ≡ calls → CallsCame at new names n calls answers None (end.Spent at_line)
     spent_after at_line came parts =
         rests_after new n calls lines more answers (end.Spent at_line)
         (record { done = made.done; rests = came _ made.rests; lines = made.lines; shown = made.shown; answered = made.answered })
         parts (λ is. absurd (let clash : end.Spent at_line ≡ end.Ended = is in cc)) (λ k is. let clash : end.Spent at_line ≡ end.Stopped k = is in cc)
 
     -- it stopped in this call
-    pub stopped_after : (u : Option Answer) (k : ℕ) → ((h : LaneHistory) → RestsWith at old h → CallCame at new pool h line (ends.Stopped u))
-        → lines ++ line ∷ more ≡ calls → CallsCame at new pool n calls answers u (end.Stopped k)
+    pub stopped_after : (u : Option Answer) (k : ℕ) → ((h : LaneHistory) → RestsWith at old h → CallCame at new names h line (ends.Stopped u))
+        → lines ++ line ∷ more ≡ calls → CallsCame at new names n calls answers u (end.Stopped k)
     stopped_after None k came parts =
         let c = came _ made.rests in
         all_told new n calls lines (line ∷ more) answers made.done c.0 (end.Stopped k) c.1 made.lines parts made.shown made.answered
@@ -170,9 +172,9 @@ module _ {M : Type 0} (at : M → View → Type 0) (pool : ℕ) where
           stands = subst (λ (h : LaneHistory). StandsWith at new h) (pushed n made.done c.0) c.1;
           of_calls = taken (answers ++ a ∷ []) calls more
               (ap (λ (l : List (List ScriptLine)). l ++ more) is_lines ∙ (append_assoc lines (line ∷ []) more ∙ parts));
-          shown = zip_push (IsAnswer pool n) answers made.done a c.0 made.shown c.5;
+          shown = zip_push (IsAnswer names n) answers made.done a c.0 made.shown c.5;
           answered = made.answered;
-          either = λ b d is shows. either_of pool n b d (ap (λ (x : Answer). x.fate) (sym (some_is a b is)) ∙ c.6) shows;
+          either = λ b d is shows. either_of names n b d (ap (λ (x : Answer). x.fate) (sym (some_is a b is)) ∙ c.6) shows;
           stopped = λ is. c.3;
           going = λ g. absurd (let clash : true ≡ false = sym c.2 ∙ g in cc);
           whole = λ is. absurd (let clash : end.Stopped k ≡ end.Ended = is in cc);

@@ -14,6 +14,7 @@ use Rattle.pm_call.specs.Histories.{Ended, LaneHistory, calls_ended, nothing_tol
 use Rattle.pm_call.specs.Positions.{position_of, resting}
 use Rattle.pm_call.specs.Standing.{IsLaneStopped, IsStopDue, StandsWith}
 use Rattle.pm_calls.specs.LaneRooms.{lines_to_run}
+use Rattle.pm_calls.specs.declared.names.Names.{Names}
 use Rattle.pm_calls.specs.declared.room.CallRoom.{CallRoom}
 use Rattle.pm_exec.specs.Answers.{IsAnswer, lines_of}
 use Rattle.pm_exec.specs.Running.{CallsCame, Closed, RestsWith}
@@ -31,8 +32,8 @@ same_count k n is = ap (λ (e : LaneEnd). count_in e) is
 
 module _ {G M : Type 0} (at : M → View → Type 0) (before after : LaneWork G) (ran closed : Lane M) (n : ℕ)
     (calls : Vec CallRoom Global) (has : before.calls ≡ Some calls) (e : LaneEnd)
-    (same : (after.number ≡ before.number) × (after.pool ≡ before.pool))
-    (came : CallsCame at ran before.pool n (map lines_to_run calls.items) after.answers.items after.unanswered e)
+    (same : (after.number ≡ before.number) × (after.names ≡ before.names))
+    (came : CallsCame at ran before.names n (map lines_to_run calls.items) after.answers.items after.unanswered e)
     (ends : Closed at ran closed (record { lane = n; done = reverse came.done; call = came.call }) e after.end) where
   left_are : map lines_to_run calls.items ≡ lines_left before
   left_are = ap (λ (c : Option (Vec CallRoom Global)). option_map_or (λ (room : Vec CallRoom Global). map lines_to_run room.items) c []) (sym has)
@@ -66,12 +67,12 @@ module _ {G M : Type 0} (at : M → View → Type 0) (before after : LaneWork G)
   work_did = record {
     same = same;
     calls = subst (λ (l : List (List ScriptLine)). map lines_of (all_answers after) ≡ take (length (all_answers after)) l) left_are came.of_calls;
-    shown = subst (λ (k : ℕ). AllZip (IsAnswer before.pool k) (all_answers after) (reverse (calls_ended ends.stops.view))) (sym ends.lane)
-        (subst (λ (d : List Ended). AllZip (IsAnswer before.pool n) (all_answers after) d)
+    shown = subst (λ (k : ℕ). AllZip (IsAnswer before.names k) (all_answers after) (reverse (calls_ended ends.stops.view))) (sym ends.lane)
+        (subst (λ (d : List Ended). AllZip (IsAnswer before.names n) (all_answers after) d)
         (sym (ap (λ (d : List Ended). reverse d) ends.done ∙ reverse-reverse came.done)) came.shown);
     answered = came.answered;
     open_ = subst (λ (o : Option ℕ). EndsOpen o ends.stops.view) (drawn_is ran.stopped refl) ends.ends;
-    either = λ a d is shows. came.either a d is (subst (λ (k : ℕ). IsAnswer before.pool k a d) ends.lane shows);
+    either = λ a d is shows. came.either a d is (subst (λ (k : ℕ). IsAnswer before.names k a d) ends.lane shows);
     whole = λ is. whole_when ran.stopped refl is ∙ ap (λ (l : List (List ScriptLine)). length l) left_are;
     stopped = stopped_when ran.stopped refl;
     counted = counted_when ran.stopped refl;
@@ -83,18 +84,18 @@ module _ {G M : Type 0} (at : M → View → Type 0) (before self : LaneWork G) 
   -- the calls came to this on the lane, which was then closed
   pub lane_ran : (calls : Vec CallRoom Global) → before.calls ≡ Some calls → (left : Option (Vec CallRoom Global))
       → (answers : Vec Answer Global) (unanswered : Option Answer) (e : LaneEnd) (ran : Lane M)
-      → self ≡ record { number = before.number; pool = before.pool; gate = before.gate; calls = left; answers = answers; unanswered = unanswered; end = e }
+      → self ≡ record { number = before.number; names = before.names; gate = before.gate; calls = left; answers = answers; unanswered = unanswered; end = e }
       → lane ≡ ran
-      → CallsCame at ran before.pool n (map lines_to_run calls.items) answers.items unanswered e
+      → CallsCame at ran before.names n (map lines_to_run calls.items) answers.items unanswered e
       → (x : IsLaneStopped at closed) × (x.view.fixed.lane ≡ n) × WorkLeft before (record self { end = result }) x.view
   lane_ran calls has left answers unanswered e ran self_is lane_is came =
-      let here = subst (λ (l : Lane M). CallsCame at l before.pool n (map lines_to_run calls.items) answers.items unanswered e) (sym lane_is) came in
-      let came_so = subst (λ (w : LaneWork G). CallsCame at lane before.pool n (map lines_to_run calls.items) w.answers.items w.unanswered w.end) (sym self_is) here in
+      let here = subst (λ (l : Lane M). CallsCame at l before.names n (map lines_to_run calls.items) answers.items unanswered e) (sym lane_is) came in
+      let came_so = subst (λ (w : LaneWork G). CallsCame at lane before.names n (map lines_to_run calls.items) w.answers.items w.unanswered w.end) (sym self_is) here in
       let ends = closes (record { lane = n; done = reverse came_so.done; call = came_so.call }) came_so.stands (λ g. (came_so.going g).0) in (
         ends.stops,
         ends.lane,
         λ some. work_did at before (record self { end = result }) lane closed n calls has self.end
-            (ap (λ (w : LaneWork G). w.number) self_is, ap (λ (w : LaneWork G). w.pool) self_is) came_so ends,
+            (ap (λ (w : LaneWork G). w.number) self_is, ap (λ (w : LaneWork G). w.names) self_is) came_so ends,
       )
 
   -- nothing was left to do
@@ -106,12 +107,12 @@ module _ {G M : Type 0} (at : M → View → Type 0) (before self : LaneWork G) 
       (ends.stops, ends.lane, λ some. absurd (some none))
 
 -- where the calls came to this the lane may be closed
-pub came_closes : {M : Type 0} (at : M → View → Type 0) (lane ran : Lane M) (pool n : ℕ) (calls : List (List ScriptLine))
+pub came_closes : {M : Type 0} (at : M → View → Type 0) (lane ran : Lane M) (names : Names) (n : ℕ) (calls : List (List ScriptLine))
     (answers : List Answer) (unanswered : Option Answer) (e : LaneEnd) → lane ≡ ran
-    → CallsCame at ran pool n calls answers unanswered e
+    → CallsCame at ran names n calls answers unanswered e
     → (h : LaneHistory) × StandsWith at lane h × (lane.stopped ≡ false → position_of lane ≡ resting)
-came_closes {M} at lane ran pool n calls answers unanswered e is came =
-    let here = subst (λ (l : Lane M). CallsCame at l pool n calls answers unanswered e) (sym is) came in
+came_closes {M} at lane ran names n calls answers unanswered e is came =
+    let here = subst (λ (l : Lane M). CallsCame at l names n calls answers unanswered e) (sym is) came in
     (record { lane = n; done = reverse here.done; call = here.call }, here.stands, λ g. (here.going g).0)
 
 pub rests_closes : {M : Type 0} (at : M → View → Type 0) (lane ran : Lane M) (n : ℕ) → lane ≡ ran

@@ -24,11 +24,12 @@ use Rattle.pm_world.specs.World.{Past}
 use Rattle.pm_call.specs.Histories.{Ended, calls_ended}
 use Rattle.pm_crash.specs.Fates.{is_judged_kept}
 use Rattle.pm_exec.specs.Answers.{IsAnswer, lines_of}
-use Rattle.pm_calls.specs.Calls.{calls_from, calls_of_lane, level_behind, line_of, with_line}
+use Rattle.pm_calls.specs.Calls.{call_of, calls_from, calls_of_lane, level_behind, line_of, with_line}
+use Rattle.pm_calls.specs.declared.names.Names.{Names}
 use Rattle.pm_exec.specs.Entries.{HasNumber, HaveAllNumbers}
 use Rattle.pm_script.specs.Scripts.{of_lane}
 use Rattle.pm_exec.specs.Reports.{AreInOrder, AreWorksFor, HaveLines, IsLaneHistory, IsLined, IsWorkFor, all_entries, ends_of, entries_of, entries_of_lane}
-use Rattle.pm_exec.specs.Runs.{RanOnLanes, Replayed, StandsFor, SurvivesAs}
+use Rattle.pm_exec.specs.Runs.{RanOnLanes, Replayed, StandsFor, SurvivesAs, names_of}
 use Rattle.pm_exec.specs.declared.outcome.Outcome.{Outcome}
 use Rattle.pm_script.specs.declared.script.Script.{Script}
 use Rattle.pm_exec.specs.Works.{DidCalls, all_answers}
@@ -36,7 +37,7 @@ use Rattle.pm_exec.specs.declared.answer.Answer.{Answer}
 use Rattle.pm_exec.specs.declared.work.LaneWork.{LaneWork}
 use Rattle.pm_exec.proofs.Choices.{IsAnsweredWork, are_judged, but_fates, judged_flags, refated, still_in_order}
 use Rattle.pm_exec.proofs.Reported.{InOrder, LaneSays, NumberOf, OfSome, are_entries, are_history, are_of_lane, least_number, number_below}
-use Rattle.pm_exec.proofs.Reports.{LaneLeft, all_answered, calls_are, entries_with, lane_says, not_more, root_answered, with_roots}
+use Rattle.pm_exec.proofs.Reports.{LaneLeft, all_answered, as_many, entries_with, first_calls, lane_says}
 use Rattle.pm_exec.proofs.Entries.{all_in, in_all}
 use Rattle.pm_exec.proofs.Rising.{Has, all_has, has_all, has_at, place_of}
 
@@ -78,8 +79,8 @@ each_lined (a ∷ xs) (l ∷ ls) is all =
     let long : length a.lines.items ≡ length l = sym (length-map a.lines.items line_of) ∙ ap (λ (x : List ScriptLine). length x) first in
     All-cons IsLined a xs (omega (arith, some, long)) (each_lined xs ls more (All-tail IsSomeLine l ls all))
 
-module _ {G : Type 0} (laws : PoolLaws) (b : Beginning) (keep_number : ℕ) (script : List ScriptLine) (before after : List (LaneWork G)) (written : List ℕ) (flags_written : List Bool)
-    {left : LaneWork G → LaneWork G → View → Type 0} (ran : HaveRun left b keep_number before after written flags_written) (works : AreWorksFor b.pool script b.lanes before)
+module _ {G : Type 0} {names : Names} (laws : PoolLaws) (b : Beginning) (keep_number : ℕ) (script : List ScriptLine) (before after : List (LaneWork G)) (written : List ℕ) (flags_written : List Bool)
+    {left : LaneWork G → LaneWork G → View → Type 0} (ran : HaveRun left b keep_number before after written flags_written) (works : AreWorksFor names script b.lanes before)
     (w : LaneWork G) (dids : (k : ℕ) (low : k < b.lanes) → DidCalls (get_or before k w) (get_or after k w) (ran.each k w low).view) where
   abbrev g : Past
   g = ran.closed.last.past
@@ -92,7 +93,7 @@ module _ {G : Type 0} (laws : PoolLaws) (b : Beginning) (keep_number : ℕ) (scr
   pub have_lines : (k : ℕ) → k < b.lanes → HaveLines (work_of k)
   have_lines k low =
       let did : DidCalls (get_or before k w) (work_of k) (ran.each k w low).view = dids k low in
-      let for_ : IsWorkFor b.pool script k (get_or before k w) = works k w low in
+      let for_ : IsWorkFor names script k (get_or before k w) = works k w low in
       let all = all_answers (work_of k) in
       each_lined all (calls_of_lane k script)
       (did.calls ∙ ap (λ (ls : List (List ScriptLine)). take (length all) ls) for_.lines) (calls_are_lined 0 (of_lane k script))
@@ -108,24 +109,24 @@ module _ {G : Type 0} (laws : PoolLaws) (b : Beginning) (keep_number : ℕ) (scr
 
     -- ---- A LANE
 
-    -- the lane left its answers, with the pool's id and its number
-    left_by : (k : ℕ) → (low : k < b.lanes) → LaneLeft b.pool k (flag_of k) g keep (ran.each k w low).view (work_of k).answers.items (work_of k).unanswered
+    -- the lane left its answers, with the names and its number
+    left_by : (k : ℕ) → (low : k < b.lanes) → LaneLeft names k (flag_of k) g keep (ran.each k w low).view (work_of k).answers.items (work_of k).unanswered
     left_by k low =
         let lane = ran.each k w low in
         let v = lane.view in
         let did : DidCalls (get_or before k w) (work_of k) v = dids k low in
-        let for_ : IsWorkFor b.pool script k (get_or before k w) = works k w low in
+        let for_ : IsWorkFor names script k (get_or before k w) = works k w low in
         let own = ran.closed.lanes k v lane.there in
         let same : ran.closed.last.views k ≡ v = ap ran.closed.last.views (sym lane.lane_is) ∙ own.1 in
         let flagged : flag_of k ≡ is_judged_kept b.shape ran.words (get_or ran.undrained k []) image k =
         get_or_default flags k true false (let one = judged.count in let two = ran.count in omega (arith, low, one, two))
         ∙ judged.each k (let two = ran.count in omega (arith, low, two)) in
-        let is_answer : (a : Answer) (d : Ended) → IsAnswer b.pool k a d → IsAnswer (get_or before k w).pool v.fixed.lane a d =
-        λ a d is. subst (λ p. IsAnswer p v.fixed.lane a d) (sym for_.pool_is) (subst (λ l. IsAnswer b.pool l a d) (sym lane.lane_is) is) in
+        let is_answer : (a : Answer) (d : Ended) → IsAnswer names k a d → IsAnswer (get_or before k w).names v.fixed.lane a d =
+        λ a d is. subst (λ p. IsAnswer p v.fixed.lane a d) (sym for_.names_are) (subst (λ l. IsAnswer names l a d) (sym lane.lane_is) is) in
         record {
           entries = ap (λ (u : View). u.entries) (sym same) ∙ (ran.closed.world.each_lane k low).entries;
-          shown = subst (λ l. AllZip (IsAnswer b.pool l) (all_answers (work_of k)) (reverse (calls_ended v))) lane.lane_is
-              (subst (λ p. AllZip (IsAnswer p v.fixed.lane) (all_answers (work_of k)) (reverse (calls_ended v))) for_.pool_is did.shown);
+          shown = subst (λ l. AllZip (IsAnswer names l) (all_answers (work_of k)) (reverse (calls_ended v))) lane.lane_is
+              (subst (λ p. AllZip (IsAnswer p v.fixed.lane) (all_answers (work_of k)) (reverse (calls_ended v))) for_.names_are did.shown);
           answered = did.answered;
           open_ = did.open_;
           either = λ a d here is. did.either a d here (is_answer a d is);
@@ -138,19 +139,19 @@ module _ {G : Type 0} (laws : PoolLaws) (b : Beginning) (keep_number : ℕ) (scr
         }
 
     abbrev entries_at : ℕ → List Entry
-    entries_at k = entries_with b.pool k (flag_of k) (work_of k).answers.items (work_of k).unanswered
+    entries_at k = entries_with names k (flag_of k) (work_of k).answers.items (work_of k).unanswered
 
     says : (k : ℕ) → k < b.lanes → LaneSays g keep k (entries_at k)
-    says k low = lane_says b.pool k (flag_of k) g keep (ran.each k w low).view (work_of k).answers.items (work_of k).unanswered (left_by k low)
+    says k low = lane_says names k (flag_of k) g keep (ran.each k w low).view (work_of k).answers.items (work_of k).unanswered (left_by k low)
 
-    -- what is reported of a work is of its lane and pool
+    -- what is reported of a work is of its lane, with the names
     same_entries : (k : ℕ) → k < b.lanes → entries_of (flag_of k) (work_of k) ≡ entries_at k
     same_entries k low =
         let did : DidCalls (get_or before k w) (work_of k) (ran.each k w low).view = dids k low in
-        let for_ : IsWorkFor b.pool script k (get_or before k w) = works k w low in
+        let for_ : IsWorkFor names script k (get_or before k w) = works k w low in
         let number : (work_of k).number ≡ k = did.same.0 ∙ for_.number in
-        let pool : (work_of k).pool ≡ b.pool = did.same.1 ∙ for_.pool_is in
-        λ i. entries_with (pool i) (number i) (flag_of k) (work_of k).answers.items (work_of k).unanswered
+        let named : (work_of k).names ≡ names = did.same.1 ∙ for_.names_are in
+        λ i. entries_with (named i) (number i) (flag_of k) (work_of k).answers.items (work_of k).unanswered
 
     -- ---- THE NUMBERS
 
@@ -229,25 +230,25 @@ module _ {G : Type 0} (laws : PoolLaws) (b : Beginning) (keep_number : ℕ) (scr
           let stop = did.stopped (λ none. cc) in
           absurd (not_stopped stop.0 stop.1)
 
-      pub lane_history : (k : ℕ) → k < b.lanes → IsLaneHistory b.pool script entries k (get_or (ends_of after) k end.Ended)
+      pub lane_history : (k : ℕ) → k < b.lanes → IsLaneHistory names script entries k (get_or (ends_of after) k end.Ended)
       lane_history k low =
           let did : DidCalls (get_or before k w) (work_of k) (ran.each k w low).view = dids k low in
-          let for_ : IsWorkFor b.pool script k (get_or before k w) = works k w low in
+          let for_ : IsWorkFor names script k (get_or before k w) = works k w low in
           let all = all_answers (work_of k) in
           let of_lane : entries_of_lane k entries ≡ entries_at k = are_of_lane g keep b.lanes in_history entries_at says entries in_order k low in
           let lines : map lines_of all ≡ take (length all) (calls_of_lane k script) =
           did.calls ∙ ap (λ (ls : List (List ScriptLine)). take (length all) ls) for_.lines in
           let ended : get_or (ends_of after) k end.Ended ≡ (work_of k).end = end_at k low in
           record {
-            roots = map root_answered all;
-            calls = ap (λ (es : List Entry). map (λ (e : Entry). e.call) es) of_lane
-                ∙ calls_are b.pool k (flag_of k) (work_of k).answers.items (work_of k).unanswered
-                ∙ with_roots b.pool k (flag_of k) all (calls_of_lane k script) lines;
-            most = not_more b.pool k (flag_of k) all (calls_of_lane k script) lines;
+            calls = subst (λ (es : List Entry). map (λ (e : Entry). e.call) es
+                ≡ take (length es) (map (call_of names k) (calls_of_lane k script))) (sym of_lane)
+                (first_calls names k (flag_of k) (work_of k).answers.items (work_of k).unanswered
+                (calls_of_lane k script) lines);
             whole = λ is.
                 let so : (work_of k).end ≡ end.Ended = sym ended ∙ is in
                 let none : (work_of k).unanswered ≡ None = none_open k low (work_of k).unanswered refl (λ calls stopped. cc) in
-                length-map all root_answered
+                ap (λ (es : List Entry). length es) of_lane
+                ∙ as_many names k (flag_of k) (work_of k).answers.items (work_of k).unanswered
                 ∙ ap (λ (u : Option Answer). length ((work_of k).answers.items ++ option_to_list u)) none
                 ∙ ap (λ (xs : List Answer). length xs) (append-nil (work_of k).answers.items)
                 ∙ did.whole so
@@ -255,8 +256,8 @@ module _ {G : Type 0} (laws : PoolLaws) (b : Beginning) (keep_number : ℕ) (scr
             answered = λ not_stopped.
                 let none : (work_of k).unanswered ≡ None = none_open k low (work_of k).unanswered refl (λ calls stopped. not_stopped calls (ended ∙ stopped)) in
                 subst (λ (es : List Entry). All (λ (e : Entry). is_answered e.fate ≡ true) es)
-                (sym (of_lane ∙ ap (λ (u : Option Answer). entries_with b.pool k (flag_of k) (work_of k).answers.items u) none))
-                (all_answered b.pool k (flag_of k) (work_of k).answers.items did.answered);
+                (sym (of_lane ∙ ap (λ (u : Option Answer). entries_with names k (flag_of k) (work_of k).answers.items u) none))
+                (all_answered names k (flag_of k) (work_of k).answers.items did.answered);
           }
 
       -- ---- WHAT IT MEANS
@@ -299,7 +300,7 @@ module _ {G : Type 0} (laws : PoolLaws) (b : Beginning) (keep_number : ℕ) (scr
   are_answered k x inside =
       let low : k < b.lanes = let count = ran.works in omega (arith, count, inside) in
       let did : DidCalls (get_or before k w) (work_of k) (ran.each k w low).view = dids k low in
-      let for_ : IsWorkFor b.pool script k (get_or before k w) = works k w low in
+      let for_ : IsWorkFor names script k (get_or before k w) = works k w low in
       let is : IsAnsweredWork k (work_of k) = record { number = did.same.0 ∙ for_.number; answered = did.answered } in
       subst (λ (y : LaneWork G). IsAnsweredWork k y) (get_or_default after k w x inside) is
 
@@ -326,8 +327,10 @@ first_item (x ∷ xs) enough = x
 
 pub ran_on_lanes : {G : Type 0} → PoolLaws → (origin layout : List ℕ) (script : Script) (stops : List (Option ℕ)) (keep : ℕ) (out : Outcome)
     (b : Beginning) (before after : List (LaneWork G)) (flags : List Bool) (left : LaneWork G → LaneWork G → View → Type 0)
-    → IsOpened origin layout b.words.items b.shape b.pool → b.lanes ≡ script.lanes → b.stops ≡ stops
-    → (ran : HaveRun left b keep before after out.image.items flags) → AreWorksFor b.pool script.lines b.lanes before
+    → (opened : IsOpened origin layout b.words.items b.shape b.pool)
+    → b.lanes ≡ script.lanes → b.stops ≡ stops
+    → (ran : HaveRun left b keep before after out.image.items flags)
+    → AreWorksFor (names_of opened.pool) script.lines b.lanes before
     → ((k : ℕ) (w : LaneWork G) (low : k < b.lanes) → DidCalls (get_or before k w) (get_or after k w) (ran.each k w low).view)
     → AreInOrder after flags out.entries.items → out.lanes.items ≡ ends_of after
     → RanOnLanes origin layout script stops keep out
@@ -351,7 +354,7 @@ ran_on_lanes {G} laws origin layout script stops keep out b before after flags l
       size = ran.size ∙ sym ran.closed.world.size ∙ opened.recovered.as_long;
       is_history = is_history laws b keep script.lines before after out.image.items flags ran works w did out.image.items flags ran.survives ran.judged entries order;
       ends = ap (λ (l : List LaneEnd). length l) ends ∙ length-map after (λ (x : LaneWork G). x.end) ∙ ran.works ∙ lanes;
-      each = λ k low. subst (λ (l : List LaneEnd). IsLaneHistory b.pool script.lines entries k (get_or l k end.Ended)) (sym ends)
+      each = λ k low. subst (λ (l : List LaneEnd). IsLaneHistory (names_of opened.pool) script.lines entries k (get_or l k end.Ended)) (sym ends)
           (lane_history laws b keep script.lines before after out.image.items flags ran works w did out.image.items flags ran.survives ran.judged entries order k (subst (λ n. k < n) (sym lanes) low));
       stopped = λ k calls low is.
           let high : k < b.lanes = subst (λ n. k < n) (sym lanes) low in

@@ -1,5 +1,5 @@
 -- A CALL OF A LANE, by what its lines came to: the answer shows it, and the lane stands with it.
-use Rattle.std.proofs.Common.{◌≡◌, ◌≢◌, ◌⊎◌, inl, inr, ℕ, zero, suc, ◌≤◌, ◌<◌, true, false, List, [], ◌∷◌, ◌++◌, length, map, Option, Some, None, option_map, Result, Ok, Err, Vec, refl, sym, ap, ◌∙◌, subst, arith}
+use Rattle.std.proofs.Common.{◌≡◌, ◌≢◌, ◌⊎◌, inl, inr, ℕ, zero, suc, ◌≤◌, ◌<◌, true, false, List, [], ◌∷◌, ◌++◌, length, map, Option, Some, None, option_map, Err, Vec, refl, sym, ap, ◌∙◌, subst, arith}
 use Rattle.std.specs.Borrow.{Bor}
 use Rattle.std.specs.Global.{Global}
 use Rattle.std.specs.List.Sorted.{IsStrictlyIncreasing}
@@ -10,7 +10,6 @@ use Rattle.pm_objects.specs.declared.history.TxErr.{TxErr}
 use Rattle.pm_objects.specs.declared.history.TxErr.TheVariants as error
 use Rattle.pm_objects.specs.declared.history.Value.{Value}
 use Rattle.pm_objects.specs.declared.history.Value.TheVariants.{Refused}
-use Rattle.pm_objects.specs.declared.ids.Oid.{Oid}
 use Rattle.pm_objects.specs.declared.refusal.Refusal.{Refusal}
 use Rattle.pm_objects.specs.declared.refusal.Refusal.TheVariants as refusal
 use Rattle.pm_model.specs.History.{is_answered}
@@ -24,7 +23,7 @@ use Rattle.pm_call.specs.Positions.{Position, aborted_at, position_of}
 use Rattle.pm_call.specs.Standing.{StandsWith}
 use Rattle.pm_calls.specs.Calls.{IsWhole, call_of, line_of, line_operation, numbers_of}
 use Rattle.pm_calls.specs.declared.names.Names.{Names}
-use Rattle.pm_exec.specs.Answers.{EndsSo, GivesUpSo, MayHaveFate, names_for, rans_of, run_of}
+use Rattle.pm_exec.specs.Answers.{EndsSo, GivesUpSo, MayHaveFate, rans_of, run_of}
 use Rattle.pm_exec.specs.Lines.{Awaits}
 use Rattle.pm_exec.specs.Running.{CallCame, LinesRan, OpensWith, RestsWith, RootCame, lost_call, with_ended}
 use Rattle.pm_exec.specs.Shown.{GoesOn, fate_of}
@@ -134,32 +133,33 @@ module _ {names : Names} {lines : List ScriptLine} {values : List (ℕ × Value)
 -- ---- THE LANE
 
 module _ {M : Type 0} (at : M → View → Type 0) (h : LaneHistory) where
-  pub rested_on : (lane : Lane M) (result : Result Oid Refusal) (root : Oid) → RootCame at lane h result → result ≡ Ok root → RestsWith at lane h
-  rested_on lane result root came is = subst (RootCame at lane h) is came
+  pub root_spent : (lane : Lane M) (r : Refusal) → RootCame at lane h (Err r) → r ≡ refusal.Spent
+      → RestsWith at lane h
+  root_spent lane r came spent = subst (λ (r : Refusal). RootCame at lane h (Err r)) spent came
 
-  pub root_spent : (lane : Lane M) (result : Result Oid Refusal) (r : Refusal) → RootCame at lane h result → result ≡ Err r → r ≡ refusal.Spent → RestsWith at lane h
-  root_spent lane result r came is spent = subst (RootCame at lane h) (is ∙ ap Err spent) came
+  stopped_so : (lane : Lane M) (r : Refusal) → RootCame at lane h (Err r) → (r ≡ refusal.Spent → ⊥)
+      → StandsWith at lane h × (lane.stopped ≡ true) × (lane.drawn ≡ None)
+  stopped_so lane refusal.Spent came not = absurd (not refl)
+  stopped_so lane r came not = came
 
-  stopped_so : (lane : Lane M) (r : Refusal) → (r ≡ refusal.Spent → ⊥) → RootCame at lane h (Err r) → StandsWith at lane h × (lane.stopped ≡ true) × (lane.drawn ≡ None)
-  stopped_so lane refusal.Spent not came = absurd (not refl)
-  stopped_so lane r not came = came
-
-  pub root_stopped : (lane : Lane M) (pool : ℕ) (lines : List ScriptLine) (result : Result Oid Refusal) (r : Refusal) → RootCame at lane h result → result ≡ Err r → (r ≡ refusal.Spent → ⊥)
-      → CallCame at lane pool h lines (call_ends.Stopped None)
-  root_stopped lane pool lines result r came is not = let s = stopped_so lane r not (subst (RootCame at lane h) is came) in (h.call, s.0, s.1, s.2)
+  pub root_stopped : (lane : Lane M) (names : Names) (lines : List ScriptLine) (r : Refusal)
+      → RootCame at lane h (Err r) → (r ≡ refusal.Spent → ⊥)
+      → CallCame at lane names h lines (call_ends.Stopped None)
+  root_stopped lane names lines r came not =
+      let s = stopped_so lane r came not in (h.call, s.0, s.1, s.2)
 
   -- what its lines came to, by what they are
-  pub ran_so : (pool : ℕ) (root : Oid) (lines : Vec (Bor ScriptLine) Global) (values : Vec (ℕ × Value) Global) (old lane : Lane M) (said : List ScriptLine) (line : ℕ) (e is : LineEnd)
-      → said ≡ map line_of lines.items → (RestsWith at old h → LinesRan at lane (names_for pool root) h said values.items line e) → RestsWith at old h → e ≡ is
-      → LinesRan at lane (names_for pool root) h (map line_of lines.items) values.items line is
-  ran_so pool root lines values old lane said line e is are ran rests same =
-      subst (LinesRan at lane (names_for pool root) h (map line_of lines.items) values.items line) same
-      (subst (λ said. LinesRan at lane (names_for pool root) h said values.items line e) are (ran rests))
+  pub ran_so : (names : Names) (lines : Vec (Bor ScriptLine) Global)
+      (values : Vec (ℕ × Value) Global) (lane : Lane M) (said : List ScriptLine) (line : ℕ)
+      (e is : LineEnd) → said ≡ map line_of lines.items
+      → LinesRan at lane names h said values.items line e → e ≡ is
+      → LinesRan at lane names h (map line_of lines.items) values.items line is
+  ran_so names lines values lane said line e is are ran same =
+      subst (LinesRan at lane names h (map line_of lines.items) values.items line) same
+      (subst (λ said. LinesRan at lane names h said values.items line e) are ran)
 
-  module _ (pool : ℕ) (root : Oid) (lines : Vec (Bor ScriptLine) Global) (values : Vec (ℕ × Value) Global) (rising : IsStrictlyIncreasing (numbers_of (map line_of lines.items))) where
-    abbrev names : Names
-    names = names_for pool root
-
+  module _ (names : Names) (lines : Vec (Bor ScriptLine) Global) (values : Vec (ℕ × Value) Global)
+      (rising : IsStrictlyIncreasing (numbers_of (map line_of lines.items))) where
     abbrev of_call : List ScriptLine
     of_call = map line_of lines.items
 
@@ -170,7 +170,8 @@ module _ {M : Type 0} (at : M → View → Type 0) (h : LaneHistory) where
     before lane line e ran = record { front = ran.front; passed = ran.passed; are = ran.are; goes = ran.goes; first = ran.first; begun = ran.begun; over = ran.over }
 
     pub over_came : (lane : Lane M) (line : ℕ) (why : Option Refusal) (f : Fate) → f ≡ fate_of why → Ran lane line (ends.Over why)
-        → CallCame at lane pool h of_call (call_ends.Answered (record { lines = lines; number = lane.last; root = root; values = values; at = 0; fate = f }))
+        → CallCame at lane names h of_call (call_ends.Answered
+        (record { lines = lines; number = lane.last; values = values; at = 0; fate = f }))
     over_came lane line why f is ran =
         let came = ran.came in
         let b = before lane line (ends.Over why) ran in (
@@ -190,7 +191,8 @@ module _ {M : Type 0} (at : M → View → Type 0) (h : LaneHistory) where
 
     pub given_up_came : (old new : Lane M) (line : ℕ) (e : TxErr) → Ran old line (ends.GivenUp e)
         → ((h : LaneHistory) (e : TxErr) (n : ℕ) → StandsWith at old h → e ≢ error.None → position_of old ≡ aborted_at e (suc n) → RestsWith at new h)
-        → CallCame at new pool h of_call (call_ends.Answered (record { lines = lines; number = new.last; root = root; values = values; at = line; fate = fate.Aborted e }))
+        → CallCame at new names h of_call (call_ends.Answered (record
+        { lines = lines; number = new.last; values = values; at = line; fate = fate.Aborted e }))
     given_up_came old new line e ran ended =
         let came = ran.came in
         let b = before old line (ends.GivenUp e) ran in
@@ -209,7 +211,10 @@ module _ {M : Type 0} (at : M → View → Type 0) (h : LaneHistory) where
           refl,
         )
 
-    stopped_by : (lane : Lane M) (line : ℕ) → Ran lane line ends.Stopped → (drawn : Option ℕ) → lane.drawn ≡ drawn → CallCame at lane pool h of_call (call_ends.Stopped (option_map (lost_call lines root values) drawn))
+    stopped_by : (lane : Lane M) (line : ℕ) → Ran lane line ends.Stopped
+        → (drawn : Option ℕ) → lane.drawn ≡ drawn
+        → CallCame at lane names h of_call
+        (call_ends.Stopped (option_map (lost_call lines values) drawn))
     stopped_by lane line ran None is =
         let came = ran.came in
         (ran.told, subst (λ n. StandsWith at lane (told_by n (line_operation names ran.said) None (record h { call = ran.told }))) is came.0, came.1, is)
@@ -232,7 +237,9 @@ module _ {M : Type 0} (at : M → View → Type 0) (h : LaneHistory) where
           refl,
         )
 
-    pub stopped_came : (lane : Lane M) (line : ℕ) → Ran lane line ends.Stopped → CallCame at lane pool h of_call (call_ends.Stopped (option_map (lost_call lines root values) lane.drawn))
+    pub stopped_came : (lane : Lane M) (line : ℕ) → Ran lane line ends.Stopped
+        → CallCame at lane names h of_call
+        (call_ends.Stopped (option_map (lost_call lines values) lane.drawn))
     stopped_came lane line ran = stopped_by lane line ran lane.drawn refl
 
     pub spent_came : (old lane : Lane M) (line : ℕ) → RestsWith at old h → Ran lane line ends.Spent → RestsWith at lane h

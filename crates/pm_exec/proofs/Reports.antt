@@ -1,22 +1,22 @@
 -- WHAT LANES REPORT of their calls is what they told: each lane's entries show its calls, those that
 -- are lost are those that the image loses, and they are the first of the lane's calls in the script.
-use Rattle.std.proofs.Common.{◌≡◌, ◌≢◌, inl, inr, ℕ, suc, ◌<◌, ◌≤◌, not, Bool, true, false, All, List, [], ◌∷◌, ◌++◌, length, map, reverse, take, option_map, option_to_list, Option, Some, None, refl, sym, ap, ◌∙◌, subst, arith}
+use Rattle.std.proofs.Common.{◌≡◌, ◌≢◌, inl, inr, ℕ, suc, ◌<◌, not, Bool, true, false, All, List, [], ◌∷◌, ◌++◌, length, map, reverse, take, option_map, option_to_list, Option, Some, None, refl, sym, ap, ◌∙◌, subst, arith}
 use Rattle.std.specs.List.{AllZip}
-use Rattle.std.proofs.lemmas.List.{length-map, length-take}
+use Rattle.std.proofs.lemmas.List.{length-map, take-map}
 use Rattle.pm_objects.specs.declared.calls.Call.{Call}
 use Rattle.pm_objects.specs.declared.history.Entry.{Entry}
 use Rattle.pm_objects.specs.declared.history.Fate.{Fate}
 use Rattle.pm_objects.specs.declared.history.Fate.TheVariants as fate
-use Rattle.pm_objects.specs.declared.ids.Oid.{Oid}
 use Rattle.pm_model.specs.History.{is_answered, is_lost}
 use Rattle.pm_view.specs.View.{Numbered, View}
 use Rattle.pm_world.specs.World.{Past, numbered_by}
 use Rattle.pm_call.specs.Histories.{Ended, calls_ended, ended_of}
 use Rattle.pm_crash.specs.Fates.{EndsOpen}
 use Rattle.pm_script.specs.declared.script.ScriptLine.{ScriptLine}
-use Rattle.pm_exec.specs.Answers.{IsAnswer, MayBeKeptOrLost, MayHaveFate, entry_of, lines_of, names_for}
+use Rattle.pm_exec.specs.Answers.{IsAnswer, MayBeKeptOrLost, MayHaveFate, entry_of, lines_of}
 use Rattle.pm_calls.specs.Calls.{call_of}
-use Rattle.pm_exec.specs.Reports.{calls_with, open_fate}
+use Rattle.pm_calls.specs.declared.names.Names.{Names}
+use Rattle.pm_exec.specs.Reports.{open_fate}
 use Rattle.pm_exec.specs.declared.answer.Answer.{Answer}
 use Rattle.pm_exec.proofs.Reported.{LaneSays, Shows, number_of, shown_rise, told_by_lane}
 use Rattle.pm_exec.proofs.Rising.{Has, all_has, has_all, in_either, in_map, rises_to}
@@ -41,18 +41,15 @@ open_may false d both = both.1
 abbrev number_answered : Option Answer → Option ℕ
 number_answered u = option_map (λ (a : Answer). a.number) u
 
-abbrev pub root_answered : Answer → Oid
-root_answered a = a.root
-
-module _ (pool k : ℕ) (flag : Bool) where
+module _ (names : Names) (k : ℕ) (flag : Bool) where
   abbrev answered_entry : Answer → Entry
-  answered_entry a = entry_of pool k a a.fate
+  answered_entry a = entry_of names k a a.fate
 
   abbrev open_entry : Answer → Entry
-  open_entry a = entry_of pool k a (open_fate flag)
+  open_entry a = entry_of names k a (open_fate flag)
 
   abbrev pub entries_with : List Answer → Option Answer → List Entry
-  entries_with xs u = map (λ (a : Answer). entry_of pool k a a.fate) xs ++ map (λ (a : Answer). entry_of pool k a (open_fate flag)) (option_to_list u)
+  entries_with xs u = map (λ (a : Answer). entry_of names k a a.fate) xs ++ map (λ (a : Answer). entry_of names k a (open_fate flag)) (option_to_list u)
 
   two_parts : (R : Answer → Ended → Type 0) (S : Entry → Ended → Type 0) (xs : List Answer) (u : Option Answer) (ds : List Ended)
       → ((a : Answer) (d : Ended) → R a d → S (answered_entry a) d)
@@ -69,19 +66,19 @@ module _ (pool k : ℕ) (flag : Bool) where
   -- WHAT A LANE LEFT, of the history g of which the calls are kept that `keep` tells
   pub record LaneLeft (g : Past) (keep : ℕ → Bool) (v : View) (xs : List Answer) (u : Option Answer) : Type 0 where
     pub entries : v.entries ≡ numbered_by k g.drew g.length
-    pub shown : AllZip (IsAnswer pool k) (xs ++ option_to_list u) (reverse (calls_ended v))
+    pub shown : AllZip (IsAnswer names k) (xs ++ option_to_list u) (reverse (calls_ended v))
     pub answered : All (λ (a : Answer). is_answered a.fate ≡ true) xs
     pub open_ : EndsOpen (number_answered u) v
-    pub either : (a : Answer) (d : Ended) → u ≡ Some a → IsAnswer pool k a d → MayBeKeptOrLost d
+    pub either : (a : Answer) (d : Ended) → u ≡ Some a → IsAnswer names k a d → MayBeKeptOrLost d
     pub others : (number : Option ℕ) (call : ℕ) → EndsOpen number v → call < g.length → (g.drew call).fixed.lane ≡ k → number ≢ Some (suc call) → keep call ≡ true
     pub judged : (call : ℕ) → EndsOpen (Some (suc call)) v → call < g.length → (g.drew call).fixed.lane ≡ k → keep call ≡ flag
 
   module _ (g : Past) (keep : ℕ → Bool) (v : View) (xs : List Answer) where
     says_shown : (u : Option Answer) → LaneLeft g keep v xs u → AllZip (Shows k) (entries_with xs u) (told_by_lane k g)
-    says_shown u left = two_parts (IsAnswer pool k) (Shows k) xs u (told_by_lane k g)
+    says_shown u left = two_parts (IsAnswer names k) (Shows k) xs u (told_by_lane k g)
         (λ a d is. record { number = is.number; lane_is = refl; shown = is.shown; fate = is.fate })
         (λ a d here is. record { number = is.number; lane_is = refl; shown = is.shown; fate = open_may flag d (left.either a d here is) })
-        (subst (λ (es : List Numbered). AllZip (IsAnswer pool k) (xs ++ option_to_list u) (reverse (map ended_of es))) left.entries left.shown)
+        (subst (λ (es : List Numbered). AllZip (IsAnswer names k) (xs ++ option_to_list u) (reverse (map ended_of es))) left.entries left.shown)
 
     settled : (u : Option Answer) → LaneLeft g keep v xs u → (e : Entry) → Has (map answered_entry xs) e → is_answered e.fate ≡ true
     settled u left e there =
@@ -141,27 +138,36 @@ module _ (pool k : ℕ) (flag : Bool) where
 
   -- ---- THE LANE'S CALLS IN THE SCRIPT
 
-  abbrev pub call_answered : Answer → Call
-  call_answered a = call_of (names_for pool a.root) k (lines_of a)
+  abbrev call_answered : Answer → Call
+  call_answered a = call_of names k (lines_of a)
 
-  pub calls_are : (xs : List Answer) (u : Option Answer) → map (λ (e : Entry). e.call) (entries_with xs u) ≡ map call_answered (xs ++ option_to_list u)
+  calls_are : (xs : List Answer) (u : Option Answer) → map (λ (e : Entry). e.call) (entries_with xs u) ≡ map call_answered (xs ++ option_to_list u)
   calls_are [] None = refl
   calls_are [] (Some a) = refl
   calls_are (x ∷ xs) u = ap (λ (cs : List Call). call_answered x ∷ cs) (calls_are xs u)
 
-  pub with_roots : (ys : List Answer) (ls : List (List ScriptLine)) → map lines_of ys ≡ take (length ys) ls → map call_answered ys ≡ calls_with pool k (map root_answered ys) ls
-  with_roots [] ls is = refl
-  with_roots (a ∷ ys) [] is = cc
-  with_roots (a ∷ ys) (l ∷ ls) is =
-      let first : lines_of a ≡ l = cc in
-      let more : map lines_of ys ≡ take (length ys) ls = cc in
-      let rest = with_roots ys ls more in
-      λ i. call_of (names_for pool a.root) k (first i) ∷ rest i
+  called : (ys : List Answer) → map call_answered ys ≡ map (call_of names k) (map lines_of ys)
+  called [] = refl
+  called (a ∷ ys) = ap (λ (cs : List Call). call_answered a ∷ cs) (called ys)
 
-  pub not_more : (ys : List Answer) (ls : List (List ScriptLine)) → map lines_of ys ≡ take (length ys) ls → length (map root_answered ys) ≤ length ls
-  not_more ys ls is =
-      let long = ap (λ (x : List (List ScriptLine)). length x) is in
-      omega (arith, long, length-map ys lines_of, length-map ys root_answered, length-take (length ys) ls)
+  -- one entry for each answer
+  pub as_many : (xs : List Answer) (u : Option Answer)
+      → length (entries_with xs u) ≡ length (xs ++ option_to_list u)
+  as_many xs u =
+      sym (length-map (entries_with xs u) (λ (e : Entry). e.call))
+      ∙ ap (λ (cs : List Call). length cs) (calls_are xs u)
+      ∙ length-map (xs ++ option_to_list u) call_answered
+
+  pub first_calls : (xs : List Answer) (u : Option Answer) (ls : List (List ScriptLine))
+      → map lines_of (xs ++ option_to_list u) ≡ take (length (xs ++ option_to_list u)) ls
+      → map (λ (e : Entry). e.call) (entries_with xs u)
+      ≡ take (length (entries_with xs u)) (map (call_of names k) ls)
+  first_calls xs u ls is =
+      let ys = xs ++ option_to_list u in
+      calls_are xs u ∙ called ys
+      ∙ ap (λ (l : List (List ScriptLine)). map (call_of names k) l) is
+      ∙ sym (take-map (call_of names k) (length ys) ls)
+      ∙ ap (λ (n : ℕ). take n (map (call_of names k) ls)) (sym (as_many xs u))
 
   pub all_answered : (xs : List Answer) → All (λ (a : Answer). is_answered a.fate ≡ true) xs → All (λ (e : Entry). is_answered e.fate ≡ true) (entries_with xs None)
   all_answered xs all = has_all (λ (e : Entry). is_answered e.fate ≡ true) (entries_with xs None) (λ e there.

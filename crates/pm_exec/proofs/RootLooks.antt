@@ -1,5 +1,5 @@
 -- A LANE THAT LOOKED UP THE ROOT is where it was, or stopped without a number.
-use Rattle.std.proofs.Common.{◌≡◌, zero, false, None, Result, Ok, Err, ap, ◌∙◌, subst}
+use Rattle.std.proofs.Common.{◌≡◌, zero, false, None, Result, Ok, Err, sym, ap, ◌∙◌, subst}
 use Rattle.pm_objects.specs.declared.ids.Oid.{Oid}
 use Rattle.pm_objects.specs.declared.refusal.Refusal.{Refusal}
 use Rattle.pm_objects.specs.declared.refusal.Refusal.TheVariants as refusal
@@ -33,14 +33,17 @@ module _ {M : Type 0} (at : M → View → Type 0) (old new : Lane M) (h : LaneH
       (stands, ap (λ (f : Fields). f.stopped) stay, ap (λ (f : Fields). f.drawn) stay ∙ rests_undrawn at old h rests)
   refused_for r s found stay = absurd found.holds
 
-  pub root_came : (result : Result Oid Refusal) → RootFound at old new result
-      → FieldsStay old new result → RootCame at new h result
+  pub found_root : (id : Oid) → FieldsStay old new (Ok id) → RestsWith at new h
+  found_root id stay = (stands, ap position_in stay ∙ rests.1)
+
+  pub refused : (r : Refusal) (result : Result (Unit {0}) Refusal) → result ≡ Err r
+      → RootFound at old new (Err r) → FieldsStay old new (Err r) → RootCame at new h result
   unfolding RootFound
-  root_came (Ok id) found stay = (stands, ap position_in stay ∙ rests.1)
-  root_came (Err r) found stay =
+  refused r result is found stay =
       let by : FoundBy false zero at old new (Err r) =
       subst (λ (p : Position). FoundBy p.stopped p.level at old new (Err r)) rests.1 found in
       let going = ap (λ (p : Position). p.stopped) rests.1 in
       let outside = ap (λ (p : Position). p.level) rests.1 in
       let here = (rests.0.between going outside).0 in
-      refused_for r here.standing (by here.standing here.rests here.between) stay
+      subst (RootCame at new h) (sym is)
+      (refused_for r here.standing (by here.standing here.rests here.between) stay)

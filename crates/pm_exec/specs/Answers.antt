@@ -11,7 +11,6 @@ use Rattle.pm_objects.specs.declared.history.TxErr.{TxErr}
 use Rattle.pm_objects.specs.declared.history.TxErr.TheVariants as error
 use Rattle.pm_objects.specs.declared.history.Value.{Value}
 use Rattle.pm_objects.specs.declared.history.Value.TheVariants.{Refused}
-use Rattle.pm_objects.specs.declared.ids.Oid.{Oid}
 use Rattle.pm_objects.specs.declared.refusal.Refusal.{Refusal}
 use Rattle.pm_model.specs.CallStep.{CallRun}
 use Rattle.pm_model.specs.Inside.{Ran, error_for, is_action, is_begin}
@@ -48,9 +47,6 @@ run_of lane told = record { lane = lane; operations = rans_of told; parts = no_p
 abbrev pub lines_of : Answer → List ScriptLine
 lines_of a = map line_of a.lines.items
 
-abbrev pub names_for : ℕ → Oid → Names
-names_for pool root = record { pool = pool; root = root }
-
 abbrev pub reply_of : Answer → Reply
 reply_of a = record { values = a.values.items; at = a.at }
 
@@ -58,11 +54,11 @@ reply_of a = record { values = a.values.items; at = a.at }
 abbrev pub MayHaveFate : List Told → Fate → Type 0
 MayHaveFate told f = IsFate (is_single (rans_of told)) (rans_of told) f
 
--- THE ANSWER SHOWS THE CALL, of a lane of the pool with this id: its number, its lines with what they
--- gave, and its fate
-pub record IsAnswer (pool lane : ℕ) (a : Answer) (d : Ended) : Type 0 where
+-- THE ANSWER SHOWS THE CALL of a lane, in lines with these names: its number, its lines with what
+-- they gave, and its fate
+pub record IsAnswer (names : Names) (lane : ℕ) (a : Answer) (d : Ended) : Type 0 where
   pub number : a.number ≡ d.number
-  pub shown : IsShown (call_of (names_for pool a.root) lane (lines_of a)) (reply_of a) (run_of lane d.call)
+  pub shown : IsShown (call_of names lane (lines_of a)) (reply_of a) (run_of lane d.call)
   pub fate : MayHaveFate d.call a.fate
 
 -- of a call that was not answered either is so: an image may keep it or lose it
@@ -70,10 +66,10 @@ abbrev pub MayBeKeptOrLost : Ended → Type 0
 MayBeKeptOrLost d = MayHaveFate d.call fate.Kept × MayHaveFate d.call fate.Lost
 
 -- the entry of the call, with this fate
-abbrev pub entry_of : ℕ → ℕ → Answer → Fate → Entry
-entry_of pool lane a f = record {
+abbrev pub entry_of : Names → ℕ → Answer → Fate → Entry
+entry_of names lane a f = record {
   number = a.number;
-  call = call_of (names_for pool a.root) lane (lines_of a);
+  call = call_of names lane (lines_of a);
   reply = reply_of a;
   fate = f;
 }

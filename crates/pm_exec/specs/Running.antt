@@ -9,7 +9,6 @@ use Rattle.pm_model.specs.History.{is_answered}
 use Rattle.pm_script.specs.declared.script.ScriptLine.{ScriptLine}
 use Rattle.pm_text.specs.declared.report.LaneEnd.{LaneEnd}
 use Rattle.pm_text.specs.declared.report.LaneEnd.TheVariants as end
-use Rattle.pm_objects.specs.declared.ids.Oid.{Oid}
 use Rattle.pm_objects.specs.declared.refusal.Refusal.{Refusal}
 use Rattle.pm_objects.specs.declared.refusal.Refusal.TheVariants as refusal
 use Rattle.pm_script.specs.Operations.{opens}
@@ -92,8 +91,9 @@ pub record LinesRan {M : Type 0} (at : M → View → Type 0) (lane : Lane M) (n
 
 -- the root was looked up, or no generation or number is left: the lane is between two calls still; or it
 -- stopped, without a number
-abbrev pub RootCame : {M : Type 0} → (M → View → Type 0) → Lane M → LaneHistory → Result Oid Refusal → Type 0
-RootCame at lane h (Ok root) = RestsWith at lane h
+abbrev pub RootCame : {M : Type 0} → (M → View → Type 0) → Lane M → LaneHistory
+    → Result (Unit {0}) Refusal → Type 0
+RootCame at lane h (Ok done) = RestsWith at lane h
 RootCame at lane h (Err refusal.Spent) = RestsWith at lane h
 RootCame at lane h (Err r) = StandsWith at lane h × (lane.stopped ≡ true) × (lane.drawn ≡ None)
 
@@ -102,37 +102,42 @@ abbrev pub with_ended : Ended → LaneHistory → LaneHistory
 with_ended d h = record h { done = d ∷ h.done; call = [] }
 
 -- what is told of a call of these lines in which the lane stopped, with this number
-abbrev pub lost_call : Vec (Bor ScriptLine) Global → Oid → Vec (ℕ × Value) Global → ℕ → Answer
-lost_call lines root values n =
-    record { lines = lines; number = n; root = root; values = values; at = 0; fate = fate.Lost }
+abbrev pub lost_call : Vec (Bor ScriptLine) Global → Vec (ℕ × Value) Global → ℕ → Answer
+lost_call lines values n =
+    record { lines = lines; number = n; values = values; at = 0; fate = fate.Lost }
 
 -- it was answered, and the lane is between two calls; or the lane stopped in it, with its number or
 -- without one; or no number was left for it
-abbrev pub CallCame : {M : Type 0} → (M → View → Type 0) → Lane M → ℕ → LaneHistory → List ScriptLine → CallEnd → Type 0
-CallCame at lane pool h lines (ends.Answered a) =
+abbrev pub CallCame : {M : Type 0} → (M → View → Type 0) → Lane M → Names → LaneHistory
+    → List ScriptLine → CallEnd → Type 0
+CallCame at lane names h lines (ends.Answered a) =
     (d : Ended) × RestsWith at lane (with_ended d h)
-    × (lines_of a ≡ lines) × IsAnswer pool h.lane a d × (is_answered a.fate ≡ true)
-CallCame at lane pool h lines (ends.Stopped None) =
-    (told : List Told) × StandsWith at lane (record h { call = told }) × (lane.stopped ≡ true) × (lane.drawn ≡ None)
-CallCame at lane pool h lines (ends.Stopped (Some a)) =
-    (d : Ended) × StandsWith at lane (with_ended d h) × (lane.stopped ≡ true) × (lane.drawn ≡ Some a.number)
-    × (lines_of a ≡ lines) × IsAnswer pool h.lane a d × (a.fate ≡ fate.Lost)
-CallCame at lane pool h lines (ends.Spent line) = RestsWith at lane h
+    × (lines_of a ≡ lines) × IsAnswer names h.lane a d × (is_answered a.fate ≡ true)
+CallCame at lane names h lines (ends.Stopped None) =
+    (told : List Told) × StandsWith at lane (record h { call = told }) × (lane.stopped ≡ true)
+    × (lane.drawn ≡ None)
+CallCame at lane names h lines (ends.Stopped (Some a)) =
+    (d : Ended) × StandsWith at lane (with_ended d h) × (lane.stopped ≡ true)
+    × (lane.drawn ≡ Some a.number)
+    × (lines_of a ≡ lines) × IsAnswer names h.lane a d × (a.fate ≡ fate.Lost)
+CallCame at lane names h lines (ends.Spent line) = RestsWith at lane h
 
 -- ---- CALLS
 
 -- the calls of a lane that made none before: the first so many were answered, and the lane stands with
 -- them; it may have stopped in the next, with its number or without
-pub record CallsCame {M : Type 0} (at : M → View → Type 0) (lane : Lane M) (pool number : ℕ)
-    (calls : List (List ScriptLine)) (answers : List Answer) (unanswered : Option Answer) (e : LaneEnd) : Type 0 where
+pub record CallsCame {M : Type 0} (at : M → View → Type 0) (lane : Lane M) (names : Names)
+    (number : ℕ) (calls : List (List ScriptLine)) (answers : List Answer)
+    (unanswered : Option Answer) (e : LaneEnd) : Type 0 where
   -- what it told, the first call first, and in a call without a number
   pub done : List Ended
   pub call : List Told
   pub stands : StandsWith at lane (record { lane = number; done = reverse done; call = call })
   pub of_calls : map lines_of (answers ++ option_to_list unanswered) ≡ take (length (answers ++ option_to_list unanswered)) calls
-  pub shown : AllZip (IsAnswer pool number) (answers ++ option_to_list unanswered) done
+  pub shown : AllZip (IsAnswer names number) (answers ++ option_to_list unanswered) done
   pub answered : All (λ (a : Answer). is_answered a.fate ≡ true) answers
-  pub either : (a : Answer) (d : Ended) → unanswered ≡ Some a → IsAnswer pool number a d → MayBeKeptOrLost d
+  pub either : (a : Answer) (d : Ended) → unanswered ≡ Some a → IsAnswer names number a d
+      → MayBeKeptOrLost d
   -- it stopped, or is between two calls
   pub stopped : lane.stopped ≡ true → lane.drawn ≡ option_map (λ (a : Answer). a.number) unanswered
   pub going : lane.stopped ≡ false → (position_of lane ≡ resting) × (unanswered ≡ None)

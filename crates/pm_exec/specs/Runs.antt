@@ -2,6 +2,9 @@
 -- fails at the end: docs/MODEL.md, "Crash".
 use Rattle.std.specs.Prelude.{◌≡◌, ℕ, ◌%◌, ◌^◌, ◌<◌, true, false, List, length, map, slice_index_or, Option}
 use Rattle.std.specs.List.{AllZip}
+use Rattle.std.specs.Option.{option_map_or}
+use Rattle.pm_calls.specs.Calls.{null_id}
+use Rattle.pm_calls.specs.declared.names.Names.{Names}
 use Rattle.pm_crash.specs.Images.{block_for}
 use Rattle.pm_image.specs.Blocks.{blocks}
 use Rattle.pm_image.specs.Logs.{recovered_at}
@@ -23,6 +26,14 @@ use Rattle.pm_world.specs.Runs.{Moment}
 use Rattle.pm_call.specs.Standing.{IsStopDue}
 use Rattle.pm_exec.specs.Reports.{IsLaneHistory}
 use Rattle.pm_exec.specs.declared.outcome.Outcome.{Outcome}
+
+-- WHAT THE NAMES OF A SCRIPT STAND FOR on a pool: its id, and the object that `root` is, null where
+-- it has none. No word that lanes run changes the root
+abbrev pub names_of : PoolView → Names
+names_of pool = record {
+  pool = pool.id;
+  root = option_map_or (λ (off : ℕ). record { pool = pool.id; off = off }) pool.root null_id;
+}
 
 -- THE PLAIN MODEL replays the entries that are not lost, one whole call after another, each with its
 -- values, from the pool that was opened
@@ -82,7 +93,8 @@ pub record RanOnLanes (image layout : List ℕ) (script : Script) (stops : List 
   pub is_history : IsHistory out.entries.items
   pub ends : length out.lanes.items ≡ script.lanes
   pub each : (lane : ℕ) → lane < script.lanes
-      → IsLaneHistory begin_.pool script.lines out.entries.items lane (slice_index_or out.lanes.items lane end.Ended)
+      → IsLaneHistory (names_of opened.pool) script.lines out.entries.items lane
+      (slice_index_or out.lanes.items lane end.Ended)
   -- a lane that stopped had made so many counted calls as it came back, and its stop was due
   pub stopped : (lane calls : ℕ) → lane < script.lanes → slice_index_or out.lanes.items lane end.Ended ≡ end.Stopped calls
       → HasStopped back lane calls

@@ -26,13 +26,15 @@ all_answers work = work.answers.items ++ option_to_list work.unanswered
 -- THE LANE DID ITS CALLS: the first so many of them, each as its answer shows; all of them where it
 -- ended; and one of them may be unanswered, in which the lane stopped
 pub record DidCalls {G : Type 0} (before after : LaneWork G) (v : View) : Type 0 where
-  pub same : (after.number ≡ before.number) × (after.pool ≡ before.pool)
+  pub same : (after.number ≡ before.number) × (after.names ≡ before.names)
   pub calls : map lines_of (all_answers after) ≡ take (length (all_answers after)) (lines_left before)
-  pub shown : AllZip (IsAnswer before.pool v.fixed.lane) (all_answers after) (reverse (calls_ended v))
+  pub shown : AllZip (IsAnswer before.names v.fixed.lane) (all_answers after)
+      (reverse (calls_ended v))
   pub answered : All (λ (a : Answer). is_answered a.fate ≡ true) after.answers.items
   pub open_ : EndsOpen (option_map (λ (a : Answer). a.number) after.unanswered) v
   -- of the unanswered call either fate may be
-  pub either : (a : Answer) (d : Ended) → after.unanswered ≡ Some a → IsAnswer before.pool v.fixed.lane a d → MayBeKeptOrLost d
+  pub either : (a : Answer) (d : Ended) → after.unanswered ≡ Some a
+      → IsAnswer before.names v.fixed.lane a d → MayBeKeptOrLost d
   pub whole : after.end ≡ end.Ended → length after.answers.items ≡ length (lines_left before)
   pub stopped : after.unanswered ≢ None → (calls : ℕ) × (after.end ≡ end.Stopped calls)
   pub counted : (calls : ℕ) → after.end ≡ end.Stopped calls → calls ≡ v.calls % 2 ^ 64

@@ -1,4 +1,4 @@
-use pm_objects::{Fate, Oid, Value};
+use pm_objects::{Fate, Value};
 use pm_script::ScriptLine;
 
 /// What a call of a lane answered, with its lines.
@@ -8,8 +8,6 @@ pub struct Answer<'s> {
     pub lines: Vec<&'s ScriptLine>,
     /// Its commit number.
     pub number: u64,
-    /// What the word `root` stood for in its lines; null where there was none.
-    pub root: Oid,
     /// The lines that gave a value, each with it, in order.
     pub values: Vec<(u64, Value)>,
     /// The line that aborted the transaction; 0 where none did.

@@ -1,6 +1,7 @@
 //! A script, run by lanes in threads on the pool of an image.
 
 ghost use Rattle.std.specs.Prelude.{◌≡◌, ◌≢◌, ◌<◌, ◌≤◌, All, IfErr, IfOk, ℕ, List, None, length, map};
+ghost use Rattle.std.specs.Prelude.{slice_index};
 ghost use Rattle.std.specs.List.Sorted.{IsStrictlyIncreasing};
 ghost use Rattle.pm_lanes.specs.Opens.{IsOpenCause};
 ghost use Rattle.pm_script.specs.Operations.{closes};
@@ -8,6 +9,8 @@ ghost use Rattle.pm_script.specs.Scripts.{AreCalls, of_lane, operations};
 ghost use Rattle.pm_script.specs.declared.script.ScriptLine.{ScriptLine};
 ghost use Rattle.pm_shared.specs.Openings.{CanBegin};
 ghost use Rattle.pm_calls.specs.Calls.{RunsOnLanes, numbers_of};
+ghost use Rattle.pm_calls.specs.declared.names.Names.{Names};
+ghost use Rattle.pm_root.specs.Root.{id_of};
 ghost use Rattle.pm_exec.specs.Reported.{HaveReported};
 ghost use Rattle.pm_exec.specs.Reports.{AreWorksFor, AreWorksOf, HasCalls};
 ghost use Rattle.pm_exec.specs.Runs.{RanOnLanes};
@@ -16,9 +19,10 @@ ghost use Rattle.pm_exec.specs.Works.{CanRunWork};
 use crate::outcome::Outcome;
 use crate::reporting::{ends_of, entries_of};
 use crate::work::LaneWork;
-use pm_calls::{LaneRoom, a_lanes_calls_are_whole, lane_rooms};
+use pm_calls::{LaneRoom, Names, a_lanes_calls_are_whole, lane_rooms};
 use pm_lanes::{OpenFault, closed_pools_mean_their_histories, open, open_calls_are_judged};
-use pm_objects::Stops;
+use pm_layout::ROOT_WORD;
+use pm_objects::{Oid, Stops};
 use pm_raw::RawImage;
 use pm_run::{Ran, run_lanes};
 use pm_script::Script;
@@ -29,14 +33,28 @@ use std::alloc::{AllocError, Global};
 use std::sync::Wait;
 use std::thread::Threads;
 
-/// The works of lanes that are to run on this pool, with room for their answers.
+/// What the names of a script stand for on the pool that lanes begin on, by its root word.
+fn names_on(beginning: &Beginning) -> Names
+    ensures pool { result.pool ≡ beginning.now.pool }
+    ensures root { result.root
+        ≡ id_of beginning.now.pool (slice_index beginning.now.words.items 64) }
+{
+    let pool = beginning.pool;
+    let root = match beginning.words.get(ROOT_WORD as usize) {
+        Some(&off) if off != 0 => Oid { pool, off },
+        _ => Oid::NULL,
+    };
+    Names { pool, root }
+}
+
+/// The works of lanes that are to run with these names, with room for their answers.
 fn works_of<'s, G>(
     alloc: Global,
     rooms: Vec<LaneRoom<'s>>,
-    pool: u64,
+    names: Names,
     gate: &'s G,
 ) -> Result<Vec<LaneWork<'s, G>>, AllocError>
-    ensures { IfOk result (λ works. AreWorksOf pool rooms.entry.items works.items) }
+    ensures { IfOk result (λ works. AreWorksOf names rooms.entry.items works.items) }
 {
     let mut works = Vec::with_capacity(alloc, rooms.len())?;
     for room in rooms {
@@ -44,7 +62,7 @@ fn works_of<'s, G>(
         let answers = Vec::with_capacity(alloc, calls.len())?;
         works.push(LaneWork {
             number: works.len() as u64,
-            pool,
+            names,
             gate,
             calls: Some(calls),
             answers,
@@ -65,7 +83,8 @@ fn run_works<'s, R: Threads + Wait + Sync, G: Gate + Sync>(
 ) -> Result<Outcome, AllocError>
     requires begins { CanBegin beginning }
     requires count { length works.items ≡ beginning.lanes }
-    requires works { (lines : List ScriptLine) × AreWorksFor beginning.pool lines beginning.lanes works.items }
+    requires works { (names : Names) × (lines : List ScriptLine)
+        × AreWorksFor names lines beginning.lanes works.items }
     requires calls { All HasCalls works.items }
     requires can { All CanRunWork works.items }
     ensures { IfOk result (HaveReported beginning keep works.entry.items) }
@@ -121,7 +140,7 @@ pub fn exec<'a, R: Threads + Wait + Sync, G: Gate + Sync>(
         Err((_, fault)) => return Err(fault),
     };
     a_lanes_calls_are_whole();
-    let Ok(works) = works_of(alloc, rooms, beginning.pool, gate) else {
+    let Ok(works) = works_of(alloc, rooms, names_on(&beginning), gate) else {
         return Err(OpenFault::Memory);
     };
     closed_pools_mean_their_histories();

@@ -21,7 +21,7 @@ impl<'s, G: Gate> Work for LaneWork<'s, G> {
                 self.gate,
                 lane,
                 self.number,
-                self.pool,
+                self.names,
                 calls,
                 &mut self.answers,
             );

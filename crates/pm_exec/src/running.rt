@@ -21,7 +21,7 @@ use crate::line_end::LineEnd;
 use crate::lines::run_line;
 use pm_action::finish;
 use pm_calls::{CallRoom, LineRoom, Names, names_root};
-use pm_objects::{Fate, Oid, Refusal, Value};
+use pm_objects::{Fate, Refusal, Value};
 use pm_root::root_id;
 use pm_script::ScriptLine;
 use pm_shelf::Gate;
@@ -82,21 +82,20 @@ fn end_levels<M: LawfulMem>(lane: &mut Lane<M>)
     }
 }
 
-/// What the word `root` stands for in these lines; null where none has it.
-fn root_of<M: LawfulMem, R: Wait>(
+/// Looks the root up, where one of the lines has the word `root`.
+fn look_up_root<M: LawfulMem, R: Wait>(
     rt: &R,
     lane: &mut Lane<M>,
     lines: &[&ScriptLine],
-) -> Result<Oid, Refusal>
+) -> Result<(), Refusal>
     requires { Rested M.at lane.old }
     ensures { (h : LaneHistory) → RestsWith M.at lane.old h → RootCame M.at lane.new h result }
 {
     pm_root::lanes_stand::<M>();
     if names_root(lines) {
-        root_id(rt, lane)
-    } else {
-        Ok(Oid::NULL)
+        root_id(rt, lane)?;
     }
+    Ok(())
 }
 
 /// What became of a call of which no level is open any more.
@@ -109,42 +108,38 @@ fn fate_of(why: Option<Refusal>) -> Fate
     }
 }
 
-/// Makes the call of these lines.
+/// Makes the call of these lines. No word that lanes run changes the root, so a look-up finds that
+/// of the opening. It is made for the lock that it waits for, and for its refusals.
 fn run_call<'s, M: LawfulMem, R: Wait, G: Gate>(
     rt: &R,
     gate: &G,
     lane: &mut Lane<M>,
     number: u64,
-    pool: u64,
+    names: Names,
     room: CallRoom<'s>,
 ) -> CallEnd<'s>
     requires made { MayBeMade (lines_to_run room) }
     requires rests { Rested M.at lane.old }
     ensures { (h : LaneHistory) → RestsWith M.at lane.old h
-        → CallCame M.at lane.new pool h (lines_to_run room.entry) result }
+        → CallCame M.at lane.new names h (lines_to_run room.entry) result }
 {
     let CallRoom {
         lines,
         rooms,
         values,
     } = room;
-    let root = match root_of(rt, lane, lines.as_slice()) {
-        Ok(root) => root,
-        Err(why) => {
-            return match why {
-                Refusal::Spent => CallEnd::Spent(lines[0].line),
-                _ => CallEnd::Stopped(None),
-            };
-        }
-    };
+    if let Err(why) = look_up_root(rt, lane, lines.as_slice()) {
+        return match why {
+            Refusal::Spent => CallEnd::Spent(lines[0].line),
+            _ => CallEnd::Stopped(None),
+        };
+    }
     let mut values = values;
-    let names = Names { pool, root };
     let (line, end) = run_lines(rt, gate, lane, number, names, rooms, &mut values);
     match end {
         LineEnd::Over(why) => CallEnd::Answered(Answer {
             lines,
             number: lane.last,
-            root,
             values,
             at: 0,
             fate: fate_of(why),
@@ -154,13 +149,12 @@ fn run_call<'s, M: LawfulMem, R: Wait, G: Gate>(
             CallEnd::Answered(Answer {
                 lines,
                 number: lane.last,
-                root,
                 values,
                 at: line,
                 fate: Fate::Aborted(error),
             })
         }
-        LineEnd::Stopped => CallEnd::Stopped(unanswered(lane.drawn, lines, root, values)),
+        LineEnd::Stopped => CallEnd::Stopped(unanswered(lane.drawn, lines, values)),
         LineEnd::Spent => CallEnd::Spent(line),
         LineEnd::GoesOn(_) => unreachable!(),
     }
@@ -170,16 +164,14 @@ fn run_call<'s, M: LawfulMem, R: Wait, G: Gate>(
 fn unanswered<'s>(
     number: Option<u64>,
     lines: Vec<&'s ScriptLine>,
-    root: Oid,
     values: Vec<(u64, Value)>,
 ) -> Option<Answer<'s>>
-    ensures { result ≡ option_map (lost_call lines.entry root values) number }
+    ensures { result ≡ option_map (lost_call lines.entry values) number }
 {
     let number = number?;
     Some(Answer {
         lines,
         number,
-        root,
         values,
         at: 0,
         fate: Fate::Lost,
@@ -193,7 +185,7 @@ pub(crate) fn run_calls<'s, M: LawfulMem, R: Wait, G: Gate>(
     gate: &G,
     lane: &mut Lane<M>,
     number: u64,
-    pool: u64,
+    names: Names,
     calls: Vec<CallRoom<'s>>,
     answers: &mut Vec<Answer<'s>>,
 ) -> (Option<Answer<'s>>, LaneEnd)
@@ -202,10 +194,11 @@ pub(crate) fn run_calls<'s, M: LawfulMem, R: Wait, G: Gate>(
     requires room { length calls.items ≤ vec_capacity answers.old }
     requires rests { Rested M.at lane.old }
     ensures { (n : ℕ) → RestsWith M.at lane.old (nothing_told n)
-        → CallsCame M.at lane.new pool n (map lines_to_run calls.entry.items) answers.new.items result.0 result.1 }
+        → CallsCame M.at lane.new names n (map lines_to_run calls.entry.items)
+        answers.new.items result.0 result.1 }
 {
     for room in calls {
-        match run_call(rt, gate, lane, number, pool, room) {
+        match run_call(rt, gate, lane, number, names, room) {
             CallEnd::Answered(answer) => answers.push_reserved(answer),
             CallEnd::Stopped(answer) => return (answer, LaneEnd::Stopped(lane.memory.calls())),
             CallEnd::Spent(line) => return (None, LaneEnd::Spent(line)),

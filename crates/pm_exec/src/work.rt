@@ -1,13 +1,14 @@
 use crate::answer::Answer;
-use pm_calls::CallRoom;
+use pm_calls::{CallRoom, Names};
 use pm_text::LaneEnd;
 
 /// The calls of a lane, and their answers as it made them.
 #[derive(Drop)]
 pub struct LaneWork<'s, G> {
-    /// The lane's number, and the pool's id.
+    /// The lane's number.
     pub number: u64,
-    pub pool: u64,
+    /// What the ids of its lines stand for.
+    pub names: Names,
     /// What is passed before each line.
     pub gate: &'s G,
     /// The calls that are to be made, until the lane runs.

@@ -15,7 +15,7 @@ entries_of-requires-clause-lines g c =
     } in
     let made = c.in_ok-image.field-0 in
     all_have_lines c.args.beginning c.args.keep c.args.works.items made.works.items made.image.items made.kept.items c.in_ok-image.ensures
-    c.requires.count c.requires.calls laws c.requires.works.0 c.requires.works.1
+    c.requires.count c.requires.calls laws c.requires.works.1 c.requires.works.2
 
 pub entries_of-requires-clause-numbers : goal.entries_of-requires-clause-numbers
 entries_of-requires-clause-numbers g c =
@@ -28,4 +28,4 @@ entries_of-requires-clause-numbers g c =
     let made = c.in_ok-image.field-0 in
     subst (λ (l : List Bool). HaveAllNumbers (all_entries l made.works.items)) (sym c.as_slice-2.ensures.value)
     (all_have_numbers c.args.beginning c.args.keep c.args.works.items made.works.items made.image.items made.kept.items c.in_ok-image.ensures
-    c.requires.count c.requires.calls laws c.requires.works.0 c.requires.works.1)
+    c.requires.count c.requires.calls laws c.requires.works.1 c.requires.works.2)

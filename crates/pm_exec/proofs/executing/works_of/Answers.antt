@@ -22,7 +22,7 @@ loop-room-preserved g c =
     omega (arith, e, o, x) in
     let work : LaneWork g.row.G.Denot = record {
       number = number;
-      pool = c.args.pool;
+      names = c.args.names;
       gate = c.args.gate;
       calls = Some room.calls;
       answers = c.in_ok-answers.answers;
@@ -31,7 +31,7 @@ loop-room-preserved g c =
     } in
     record {
       all = append_assoc yielded (room ∷ []) rest ∙ (ap (λ (l : List LaneRoom). yielded ++ l) (sym c.in-Some.ensures.steps.0) ∙ i.all);
-      made = subst (λ (l : List (LaneWork g.row.G.Denot)). AreWorksOf c.args.pool (yielded ++ room ∷ []) l) (sym c.in_ok-push.ensures.items)
-          (one_more_of c.args.pool yielded works room work
-          (record { number = at; pool_is = refl; calls = refl; none = c.in_ok-answers.ensures.items; room_is = enough }) i.made);
+      made = subst (λ (l : List (LaneWork g.row.G.Denot)). AreWorksOf c.args.names (yielded ++ room ∷ []) l) (sym c.in_ok-push.ensures.items)
+          (one_more_of c.args.names yielded works room work
+          (record { number = at; names_are = refl; calls = refl; none = c.in_ok-answers.ensures.items; room_is = enough }) i.made);
     }

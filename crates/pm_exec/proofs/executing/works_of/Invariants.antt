@@ -6,5 +6,5 @@ use Rattle.pm_exec.proofs.executing.works_of.Given as goal
 abbrev pub invariant-loop-room : goal.invariant-loop-room
 invariant-loop-room g l = record {
   all : l.yielded ++ l.room-iterator.rest.items ≡ l.fn.rooms.items;
-  made : AreWorksOf l.pool l.yielded l.works.items;
+  made : AreWorksOf l.names l.yielded l.works.items;
 }

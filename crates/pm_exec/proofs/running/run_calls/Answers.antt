@@ -16,7 +16,7 @@ loop-room-init g c = record {
   room = refl;
   count = ap (λ (said : List Answer). length said) c.requires.empty;
   rests = c.requires.rests;
-  made = λ n rests. none_made g.M.LaneMem.at c.args.pool c.args.lane.now n c.args.answers.now.items c.requires.empty rests;
+  made = λ n rests. none_made g.M.LaneMem.at c.args.names c.args.lane.now n c.args.answers.now.items c.requires.empty rests;
 }
 
 pub run_call-requires-clause-made : goal.run_call-requires-clause-made
@@ -36,12 +36,12 @@ loop-room-preserved g c =
       room = c.push_reserved.ensures.capacity ∙ i.room;
       count = ap (λ (said : List Answer). length said) c.push_reserved.ensures.items
           ∙ (length_push c.loop-room.answers.items c.in-Answered.answer ∙ (ap (λ (k : ℕ). k + 1) i.count ∙ sym (length_push yielded c.in-Some.room)));
-      rests = one_more_rests g.M.LaneMem.at c.args.pool c.loop-room.lane c.run_call.new.lane (lines_to_run c.in-Some.room) c.in-Answered.answer c.in-Answered.ensures i.rests;
-      made = λ n first. subst (λ (said : List Answer). CallsMade g.M.LaneMem.at c.run_call.new.lane c.args.pool n (map lines_to_run (yielded ++ c.in-Some.room ∷ [])) said)
+      rests = one_more_rests g.M.LaneMem.at c.args.names c.loop-room.lane c.run_call.new.lane (lines_to_run c.in-Some.room) c.in-Answered.answer c.in-Answered.ensures i.rests;
+      made = λ n first. subst (λ (said : List Answer). CallsMade g.M.LaneMem.at c.run_call.new.lane c.args.names n (map lines_to_run (yielded ++ c.in-Some.room ∷ [])) said)
           (sym c.push_reserved.ensures.items)
-          (subst (λ (ls : List (List ScriptLine)). CallsMade g.M.LaneMem.at c.run_call.new.lane c.args.pool n ls (c.loop-room.answers.items ++ c.in-Answered.answer ∷ []))
+          (subst (λ (ls : List (List ScriptLine)). CallsMade g.M.LaneMem.at c.run_call.new.lane c.args.names n ls (c.loop-room.answers.items ++ c.in-Answered.answer ∷ []))
           (sym (map-append lines_to_run yielded (c.in-Some.room ∷ [])))
-          (one_more g.M.LaneMem.at c.args.pool c.loop-room.lane c.run_call.new.lane (lines_to_run c.in-Some.room) n (map lines_to_run yielded) c.loop-room.answers.items c.in-Answered.answer c.in-Answered.ensures (i.made n first)));
+          (one_more g.M.LaneMem.at c.args.names c.loop-room.lane c.run_call.new.lane (lines_to_run c.in-Some.room) n (map lines_to_run yielded) c.loop-room.answers.items c.in-Answered.answer c.in-Answered.ensures (i.made n first)));
     }
 
 pub returns-in-Stopped : goal.returns-in-Stopped
@@ -49,7 +49,7 @@ returns-in-Stopped g c n first =
     let i = c.loop-room.invariant in
     let yielded = c.loop-room.yielded in
     let rest = c.next.new.self.rest.items in
-    stopped_after g.M.LaneMem.at c.args.pool c.loop-room.lane c.run_call.new.lane (lines_to_run c.in-Some.room) n (map lines_to_run c.args.calls.items) (map lines_to_run yielded) (map lines_to_run rest)
+    stopped_after g.M.LaneMem.at c.args.names c.loop-room.lane c.run_call.new.lane (lines_to_run c.in-Some.room) n (map lines_to_run c.args.calls.items) (map lines_to_run yielded) (map lines_to_run rest)
     c.loop-room.answers.items (i.made n first) c.in-Stopped.answer c.calls.result c.in-Stopped.ensures
     (sym (map-append lines_to_run yielded (c.in-Some.room ∷ rest))
     ∙ ap (λ (rooms : List CallRoom). map lines_to_run rooms) (ap (λ (l : List CallRoom). yielded ++ l) (sym c.in-Some.ensures.steps.0) ∙ i.all))
@@ -59,7 +59,7 @@ returns-in-Spent g c n first =
     let i = c.loop-room.invariant in
     let yielded = c.loop-room.yielded in
     let rest = c.next.new.self.rest.items in
-    spent_after g.M.LaneMem.at c.args.pool c.loop-room.lane c.run_call.new.lane (lines_to_run c.in-Some.room) n (map lines_to_run c.args.calls.items) (map lines_to_run yielded) (map lines_to_run (c.in-Some.room ∷ rest))
+    spent_after g.M.LaneMem.at c.args.names c.loop-room.lane c.run_call.new.lane (lines_to_run c.in-Some.room) n (map lines_to_run c.args.calls.items) (map lines_to_run yielded) (map lines_to_run (c.in-Some.room ∷ rest))
     c.loop-room.answers.items (i.made n first) c.in-Spent.line c.in-Spent.ensures
     (sym (map-append lines_to_run yielded (c.in-Some.room ∷ rest))
     ∙ ap (λ (rooms : List CallRoom). map lines_to_run rooms) (ap (λ (l : List CallRoom). yielded ++ l) (sym c.in-Some.ensures.steps.0) ∙ i.all))
@@ -69,7 +69,7 @@ returns g c n first =
     let i = c.loop-room.invariant in
     let yielded = c.loop-room.yielded in
     let rest = c.loop-room.room-iterator.rest.items in
-    rests_after g.M.LaneMem.at c.args.pool c.loop-room.lane n (map lines_to_run c.args.calls.items) (map lines_to_run yielded) (map lines_to_run rest)
+    rests_after g.M.LaneMem.at c.args.names c.loop-room.lane n (map lines_to_run c.args.calls.items) (map lines_to_run yielded) (map lines_to_run rest)
     c.loop-room.answers.items end.Ended (i.made n first)
     (sym (map-append lines_to_run yielded rest) ∙ ap (λ (rooms : List CallRoom). map lines_to_run rooms) i.all)
     (λ is. ap (λ (rooms : List CallRoom). map lines_to_run rooms) (nil_from_length rest (sym c.loop-room.room-iterator.rest.ok.0 ∙ c.in-None.ensures.steps.0)))

@@ -14,5 +14,5 @@ invariant-loop-room g l = record {
   count : length l.answers.items ≡ length l.yielded;
   rests : Rested g.M.LaneMem.at l.lane;
   made : (n : ℕ) → RestsWith g.M.LaneMem.at l.initial.lane (nothing_told n)
-      → CallsMade g.M.LaneMem.at l.lane l.pool n (map lines_to_run l.yielded) l.answers.items;
+      → CallsMade g.M.LaneMem.at l.lane l.names n (map lines_to_run l.yielded) l.answers.items;
 }

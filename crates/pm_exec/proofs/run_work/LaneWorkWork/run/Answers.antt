@@ -9,7 +9,7 @@ close-self-requires g c =
     let before = c.args.self.now in
     let new = c.requires.lane in
     elim c.match-take.branch [
-      | in-Some w ↦ came_closes g.M.LaneMem.at c.match-take.lane w.run_calls-unanswered.new.lane before.pool new.0 (map lines_to_run w.in-Some.calls.items)
+      | in-Some w ↦ came_closes g.M.LaneMem.at c.match-take.lane w.run_calls-unanswered.new.lane before.names new.0 (map lines_to_run w.in-Some.calls.items)
           w.run_calls-unanswered.new.answers.items w.run_calls-unanswered.result.0 w.run_calls-unanswered.result.1 w.lane-is
           (w.run_calls-unanswered.ensures new.0 new.1)
       | in_default w ↦ rests_closes g.M.LaneMem.at c.match-take.lane c.args.lane.now new.0 w.lane-is new.1
