@@ -22,7 +22,7 @@ use Rattle.pm_call.specs.Standing.{StandsWith}
 use Rattle.pm_calls.specs.declared.names.Names.{Names}
 use Rattle.pm_action.specs.Outside.{Finished, FinishedSo}
 use Rattle.pm_action.specs.Standing.{FinishedLanesHaveFacts}
-use Rattle.pm_exec.specs.Answers.{IsAnswer, MayBeKeptOrLost, lines_of, rans_of}
+use Rattle.pm_exec.specs.Answers.{IsAnswer, IsSpent, MayBeKeptOrLost, lines_of, rans_of}
 use Rattle.pm_exec.specs.Running.{CallCame, CallsCame, Closed, RestsWith, with_ended}
 use Rattle.pm_exec.specs.declared.answer.Answer.{Answer}
 use Rattle.pm_exec.specs.declared.call_end.CallEnd.TheVariants as ends
@@ -117,8 +117,9 @@ module _ {M : Type 0} (at : M → View → Type 0) (names : Names) where
       → All (λ (a : Answer). is_answered a.fate ≡ true) answers
       → (lane.stopped ≡ true → lane.drawn ≡ None) → (lane.stopped ≡ false → position_of lane ≡ resting)
       → (e ≡ end.Ended → more ≡ []) → (lane.stopped ≡ false → (k : ℕ) → e ≢ end.Stopped k)
+      → ((line : ℕ) → e ≡ end.Spent line → IsSpent at lane (record { lane = n; done = reverse done; call = call }))
       → CallsCame at lane names n calls answers None e
-  all_told lane n calls lines more answers done call e stands are parts shown answered stopped going whole unstopped = record {
+  all_told lane n calls lines more answers done call e stands are parts shown answered stopped going whole unstopped spent = record {
     done = done;
     call = call;
     stands = stands;
@@ -133,16 +134,18 @@ module _ {M : Type 0} (at : M → View → Type 0) (names : Names) where
         ∙ (ap (λ (l : List (List ScriptLine)). length l) (sym (append-nil lines))
         ∙ (ap (λ (m : List (List ScriptLine)). length (lines ++ m)) (sym (whole ended)) ∙ ap (λ (l : List (List ScriptLine)). length l) parts)));
     unstopped = unstopped;
+    spent = spent;
   }
 
   -- it is between two calls: all are made, or no number was left
   pub rests_after : (lane : Lane M) (n : ℕ) (calls lines more : List (List ScriptLine)) (answers : List Answer) (e : LaneEnd)
-      → CallsMade at lane names n lines answers → lines ++ more ≡ calls
+      → (made : CallsMade at lane names n lines answers) → lines ++ more ≡ calls
       → (e ≡ end.Ended → more ≡ []) → ((k : ℕ) → e ≢ end.Stopped k)
+      → ((line : ℕ) → e ≡ end.Spent line → IsSpent at lane (record { lane = n; done = reverse made.done; call = [] }))
       → CallsCame at lane names n calls answers None e
-  rests_after lane n calls lines more answers e made parts whole unstopped =
+  rests_after lane n calls lines more answers e made parts whole unstopped spent =
       all_told lane n calls lines more answers made.done [] e made.rests.0 made.lines parts made.shown made.answered
-      (λ is. absurd (stopped_not lane made.rests.1 is)) (λ g. made.rests.1) whole (λ g. unstopped)
+      (λ is. absurd (stopped_not lane made.rests.1 is)) (λ g. made.rests.1) whole (λ g. unstopped) spent
 
   module _ (old new : Lane M) (line : List ScriptLine) (n : ℕ) (calls lines more : List (List ScriptLine)) (answers : List Answer)
       (made : CallsMade at old names n lines answers) where
@@ -150,9 +153,11 @@ module _ {M : Type 0} (at : M → View → Type 0) (names : Names) where
     pub spent_after : (at_line : ℕ) → ((h : LaneHistory) → RestsWith at old h → CallCame at new names h line (ends.Spent at_line))
         → lines ++ more ≡ calls → CallsCame at new names n calls answers None (end.Spent at_line)
     spent_after at_line came parts =
+        let c = came _ made.rests in
         rests_after new n calls lines more answers (end.Spent at_line)
-        (record { done = made.done; rests = came _ made.rests; lines = made.lines; shown = made.shown; answered = made.answered })
+        (record { done = made.done; rests = (c.stands, c.here); lines = made.lines; shown = made.shown; answered = made.answered })
         parts (λ is. absurd (let clash : end.Spent at_line ≡ end.Ended = is in cc)) (λ k is. let clash : end.Spent at_line ≡ end.Stopped k = is in cc)
+        (λ line is. c)
 
     -- it stopped in this call
     pub stopped_after : (u : Option Answer) (k : ℕ) → ((h : LaneHistory) → RestsWith at old h → CallCame at new names h line (ends.Stopped u))
@@ -163,6 +168,7 @@ module _ {M : Type 0} (at : M → View → Type 0) (names : Names) where
         (λ is. c.3) (λ g. absurd (let clash : true ≡ false = sym c.2 ∙ g in cc))
         (λ is. absurd (let clash : end.Stopped k ≡ end.Ended = is in cc))
         (λ g. absurd (let clash : true ≡ false = sym c.2 ∙ g in cc))
+        (λ line is. absurd (let clash : end.Stopped k ≡ end.Spent line = is in cc))
     stopped_after (Some a) k came parts =
         let c = came _ made.rests in
         let is_lines = map-append lines_of answers (a ∷ []) ∙ ap₂ (λ (xs : List (List ScriptLine)) (x : List ScriptLine). xs ++ x ∷ []) made.lines c.4 in
@@ -179,6 +185,7 @@ module _ {M : Type 0} (at : M → View → Type 0) (names : Names) where
           going = λ g. absurd (let clash : true ≡ false = sym c.2 ∙ g in cc);
           whole = λ is. absurd (let clash : end.Stopped k ≡ end.Ended = is in cc);
           unstopped = λ g. absurd (let clash : true ≡ false = sym c.2 ∙ g in cc);
+          spent = λ line is. absurd (let clash : end.Stopped k ≡ end.Spent line = is in cc);
         }
 
 -- ---- THE LANE IS CLOSED

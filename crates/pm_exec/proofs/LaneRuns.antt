@@ -11,13 +11,13 @@ use Rattle.pm_view.specs.View.{View}
 use Rattle.pm_world.specs.declared.lane.Lane.{Lane}
 use Rattle.pm_crash.specs.Fates.{EndsOpen}
 use Rattle.pm_call.specs.Histories.{Ended, LaneHistory, calls_ended, nothing_told}
-use Rattle.pm_call.specs.Positions.{position_of, resting}
+use Rattle.pm_call.specs.Positions.{Position, position_of, resting}
 use Rattle.pm_call.specs.Standing.{IsLaneStopped, IsStopDue, StandsWith}
 use Rattle.pm_calls.specs.LaneRooms.{lines_to_run}
 use Rattle.pm_calls.specs.declared.names.Names.{Names}
 use Rattle.pm_calls.specs.declared.room.CallRoom.{CallRoom}
-use Rattle.pm_exec.specs.Answers.{IsAnswer, lines_of}
-use Rattle.pm_exec.specs.Running.{CallsCame, Closed, RestsWith}
+use Rattle.pm_exec.specs.Answers.{IsAnswer, IsSpent, IsSpentView, lines_of}
+use Rattle.pm_exec.specs.Running.{CallsCame, Closed, RestsWith, SpentClosed}
 use Rattle.pm_exec.specs.Works.{DidCalls, WorkLeft, all_answers, lines_left}
 use Rattle.pm_exec.specs.declared.answer.Answer.{Answer}
 use Rattle.pm_exec.specs.declared.work.LaneWork.{LaneWork}
@@ -34,7 +34,8 @@ module _ {G M : Type 0} (at : M → View → Type 0) (before after : LaneWork G)
     (calls : Vec CallRoom Global) (has : before.calls ≡ Some calls) (e : LaneEnd)
     (same : (after.number ≡ before.number) × (after.names ≡ before.names))
     (came : CallsCame at ran before.names n (map lines_to_run calls.items) after.answers.items after.unanswered e)
-    (ends : Closed at ran closed (record { lane = n; done = reverse came.done; call = came.call }) e after.end) where
+    (ends : Closed at ran closed (record { lane = n; done = reverse came.done; call = came.call }) e after.end)
+    (spent : (line : ℕ) → after.end ≡ end.Spent line → IsSpentView ends.stops.view) where
   left_are : map lines_to_run calls.items ≡ lines_left before
   left_are = ap (λ (c : Option (Vec CallRoom Global)). option_map_or (λ (room : Vec CallRoom Global). map lines_to_run room.items) c []) (sym has)
 
@@ -77,10 +78,53 @@ module _ {G M : Type 0} (at : M → View → Type 0) (before after : LaneWork G)
     stopped = stopped_when ran.stopped refl;
     counted = counted_when ran.stopped refl;
     due = due_when ran.stopped refl;
+    spent = spent;
   }
 
 module _ {G M : Type 0} (at : M → View → Type 0) (before self : LaneWork G) (lane closed : Lane M) (n : ℕ) (result : LaneEnd)
-    (closes : (h : LaneHistory) → StandsWith at lane h → (lane.stopped ≡ false → position_of lane ≡ resting) → Closed at lane closed h self.end result) where
+    (closes : (h : LaneHistory) → StandsWith at lane h → (lane.stopped ≡ false → position_of lane ≡ resting) → Closed at lane closed h self.end result)
+    (spends : (h : LaneHistory) → IsSpent at lane h → SpentClosed at lane closed h × (result ≡ self.end)) where
+  -- the lane was closed, spent still where it was spent
+  abbrev ClosedSo : LaneHistory → Type 0
+  ClosedSo h = (c : Closed at lane closed h self.end result)
+      × ((line : ℕ) → result ≡ end.Spent line → IsSpentView c.stops.view)
+
+  plain : (h : LaneHistory) (e : LaneEnd) → ((line : ℕ) → e ≡ end.Spent line → ⊥) → self.end ≡ e
+      → StandsWith at lane h → (lane.stopped ≡ false → position_of lane ≡ resting) → ClosedSo h
+  plain h e unspent is stands here =
+      let c = closes h stands here in (c, λ line spent. absurd (by c line spent lane.stopped refl))
+    where
+      by : (c : Closed at lane closed h self.end result) (line : ℕ) → result ≡ end.Spent line
+          → (b : Bool) → lane.stopped ≡ b → ⊥
+      by c line spent true s =
+          let clash : end.Stopped _ ≡ end.Spent line = sym (c.stopped s) ∙ spent in cc
+      by c line spent false g = unspent line (sym is ∙ (sym (c.going g) ∙ spent))
+
+  closed_so : (h : LaneHistory) (e : LaneEnd) → self.end ≡ e → StandsWith at lane h
+      → (lane.stopped ≡ false → position_of lane ≡ resting)
+      → ((line : ℕ) → self.end ≡ end.Spent line → IsSpent at lane h) → ClosedSo h
+  closed_so h (end.Spent line) is stands here spent =
+      let was = spent line is in
+      let z = spends h was in
+      let not : lane.stopped ≡ true → ⊥ = λ s.
+      let clash : true ≡ false = sym s ∙ ap (λ (p : Position). p.stopped) was.here in cc in (
+        record {
+          stops = z.0.stops;
+          done = z.0.done;
+          lane = z.0.lane;
+          ends = z.0.ends;
+          going = λ g. z.1;
+          stopped = λ s. absurd (not s);
+          due = λ s. absurd (not s);
+        },
+        λ other so. z.0.spent,
+      )
+  closed_so h end.Ended is stands here spent =
+      plain h end.Ended (λ line e. let clash : end.Ended ≡ end.Spent line = e in cc) is stands here
+  closed_so h (end.Stopped k) is stands here spent =
+      plain h (end.Stopped k) (λ line e. let clash : end.Stopped k ≡ end.Spent line = e in cc) is
+      stands here
+
   -- the calls came to this on the lane, which was then closed
   pub lane_ran : (calls : Vec CallRoom Global) → before.calls ≡ Some calls → (left : Option (Vec CallRoom Global))
       → (answers : Vec Answer Global) (unanswered : Option Answer) (e : LaneEnd) (ran : Lane M)
@@ -91,11 +135,12 @@ module _ {G M : Type 0} (at : M → View → Type 0) (before self : LaneWork G) 
   lane_ran calls has left answers unanswered e ran self_is lane_is came =
       let here = subst (λ (l : Lane M). CallsCame at l before.names n (map lines_to_run calls.items) answers.items unanswered e) (sym lane_is) came in
       let came_so = subst (λ (w : LaneWork G). CallsCame at lane before.names n (map lines_to_run calls.items) w.answers.items w.unanswered w.end) (sym self_is) here in
-      let ends = closes (record { lane = n; done = reverse came_so.done; call = came_so.call }) came_so.stands (λ g. (came_so.going g).0) in (
-        ends.stops,
-        ends.lane,
+      let ends = closed_so (record { lane = n; done = reverse came_so.done; call = came_so.call }) self.end refl
+      came_so.stands (λ g. (came_so.going g).0) came_so.spent in (
+        ends.0.stops,
+        ends.0.lane,
         λ some. work_did at before (record self { end = result }) lane closed n calls has self.end
-            (ap (λ (w : LaneWork G). w.number) self_is, ap (λ (w : LaneWork G). w.names) self_is) came_so ends,
+            (ap (λ (w : LaneWork G). w.number) self_is, ap (λ (w : LaneWork G). w.names) self_is) came_so ends.0 ends.1,
       )
 
   -- nothing was left to do

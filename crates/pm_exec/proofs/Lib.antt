@@ -15,4 +15,6 @@ pub mod Rising
 pub mod RootLooks
 pub mod RunLines
 pub mod Shown
+pub mod Spent
+pub mod Stopped
 pub mod Stopping

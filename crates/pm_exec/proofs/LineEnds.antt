@@ -23,7 +23,7 @@ use Rattle.pm_tx.specs.Standing.{turned_begin}
 use Rattle.pm_action.specs.Calls.{ByLevel, IfOutside}
 use Rattle.pm_action.specs.Inside.{Cancelled}
 use Rattle.pm_action.specs.Standing.{if_outside, turned_action, turned_asked}
-use Rattle.pm_exec.specs.Answers.{GoesOnSo, LineCame}
+use Rattle.pm_exec.specs.Answers.{GoesOnSo, IsSpent, LineCame}
 use Rattle.pm_exec.specs.Lines.{at_level, end_alone, end_asked, end_at_work, end_noted, end_opened, unvalued}
 use Rattle.pm_exec.specs.declared.line_end.LineEnd.TheVariants as ends
 use Rattle.pm_exec.proofs.Stopping.{cancel_stops}
@@ -150,6 +150,10 @@ module _ {M : Type 0} (at : M → View → Type 0) (old new : Lane M) (h : LaneH
         came_refused {T = Unit {0}} no_value r plain stands moved
         (λ is. unnumbered (ap (λ (q : Refusal). Err q) is))
 
+  -- no number is left, where the lane stands and is here so
+  abbrev pub SpentThen : Type 0
+  SpentThen = StandsWith at new h → position_of new ≡ resting → IsSpent at new h
+
   -- ---- A BEGIN
 
   module _ (wants : List Want) where
@@ -159,27 +163,29 @@ module _ {M : Type 0} (at : M → View → Type 0) (old new : Lane M) (h : LaneH
         → StandsWith at new (turned_begin (work_refusal old) new wants result h)
         → position_of new ≡ begun_by (work_refusal old) result (position_of old)
         → (result ≡ Err refusal.Stopped → new.drawn ≡ None)
+        → (result ≡ Err refusal.Spent → SpentThen)
         → LineCame at new (operation.Begin wants) 0 1 h (end_opened result)
-    came_opened result here outside stands moved unnumbered =
+    came_opened result here outside stands moved unnumbered spent =
         by result
         (subst (λ (w : Option Refusal). StandsWith at new (turned_begin w new wants result h)) outside
         stands)
         (moved ∙ (λ i. begun_by (outside i) result (here i)))
-        unnumbered
+        unnumbered spent
       where
         by : (done : Result (Unit {0}) Refusal)
             → StandsWith at new (turned_open new (operation.Begin wants) done h)
             → position_of new ≡ begun_by (Some refusal.NoTx) done resting
             → (done ≡ Err refusal.Stopped → new.drawn ≡ None)
+            → (done ≡ Err refusal.Spent → SpentThen)
             → LineCame at new (operation.Begin wants) 0 1 h (end_opened done)
-        by (Ok done) s m u = (s, m, omega arith, refl)
-        by (Err refusal.Stopped) s m u = (
+        by (Ok done) s m u p = (s, m, omega arith, refl)
+        by (Err refusal.Stopped) s m u p = (
           s,
           ap (λ (p : Position). p.stopped) m,
           λ k is. absurd (none_drawn new.drawn k (u refl) is),
         )
-        by (Err refusal.Spent) s m u = (s, m)
-        by (Err r) s m u =
+        by (Err refusal.Spent) s m u p = p refl s m
+        by (Err r) s m u p =
             (Some (Refused r), 0, inl (r, refl, refl, refl), s, m, λ zero. refl)
 
     -- of an inner one
@@ -222,20 +228,23 @@ module _ {M : Type 0} (at : M → View → Type 0) (old new : Lane M) (h : LaneH
 
   module _ (op : Operation) (alone : is_outside op ≡ true) where
     -- that is asked for alone
-    pub came_asked : (result : Result (Unit {0}) Refusal) → StandsWith at new (turned_asked new op result h)
-        → position_of new ≡ resting → LineCame at new op 0 0 h (end_asked result)
-    came_asked (Ok done) s m = (s, m, refl, inr (alone, refl))
-    came_asked (Err refusal.Spent) s m = (s, m)
-    came_asked (Err r) s m = (s, m, refl, inr (alone, refl))
+    pub came_asked : (result : Result (Unit {0}) Refusal)
+        → StandsWith at new (turned_asked new op result h) → position_of new ≡ resting
+        → (result ≡ Err refusal.Spent → SpentThen) → LineCame at new op 0 0 h (end_asked result)
+    came_asked (Ok done) s m p = (s, m, refl, inr (alone, refl))
+    came_asked (Err refusal.Spent) s m p = p refl s m
+    came_asked (Err r) s m p = (s, m, refl, inr (alone, refl))
 
     -- a publish
-    pub came_alone : (result : Result (Unit {0}) Refusal) → StandsWith at new (turned_alone new op result h)
-        → position_of new ≡ stopped_by result resting → LineCame at new op 0 0 h (end_alone result)
-    came_alone (Ok done) s m = (s, m, refl, inr (alone, refl))
-    came_alone (Err refusal.Spent) s m = (s, m)
-    came_alone (Err refusal.Stopped) s m =
-        (s, ap (λ (p : Position). p.stopped) m, λ k is. (refl, inr (alone, refl)))
-    came_alone (Err r) s m = (s, m, refl, inr (alone, refl))
+    pub came_alone : (result : Result (Unit {0}) Refusal)
+        → StandsWith at new (turned_alone new op result h)
+        → position_of new ≡ stopped_by result resting
+        → (result ≡ Err refusal.Spent → SpentThen) → LineCame at new op 0 0 h (end_alone result)
+    came_alone (Ok done) s m p = (s, m, refl, inr (alone, refl))
+    came_alone (Err refusal.Spent) s m p = p refl s m
+    came_alone (Err refusal.Stopped) s m p =
+        (s, ap (λ (q : Position). q.stopped) m, λ k is. (refl, inr (alone, refl)))
+    came_alone (Err r) s m p = (s, m, refl, inr (alone, refl))
 
   -- ---- A WORD THAT IS ASKED FOR in a transaction
 

@@ -36,9 +36,10 @@ use Rattle.pm_exec.specs.Works.{DidCalls, all_answers}
 use Rattle.pm_exec.specs.declared.answer.Answer.{Answer}
 use Rattle.pm_exec.specs.declared.work.LaneWork.{LaneWork}
 use Rattle.pm_exec.proofs.Choices.{IsAnsweredWork, are_judged, but_fates, judged_flags, refated, still_in_order}
-use Rattle.pm_exec.proofs.Reported.{InOrder, LaneSays, NumberOf, OfSome, are_entries, are_history, are_of_lane, least_number, number_below}
+use Rattle.pm_exec.proofs.Reported.{InOrder, LaneSays, NumberOf, OfSome, are_entries, are_history, are_of_lane, as_long, least_number, number_below}
 use Rattle.pm_exec.proofs.Reports.{LaneLeft, all_answered, as_many, entries_with, first_calls, lane_says}
 use Rattle.pm_exec.proofs.Entries.{all_in, in_all}
+use Rattle.pm_exec.proofs.Stopped.{LaneLaws, has_stopped, lanes_ran, none_left}
 use Rattle.pm_exec.proofs.Rising.{Has, all_has, has_all, has_at, place_of}
 
 abbrev IsSomeLine : List ScriptLine → Type 0
@@ -218,6 +219,10 @@ module _ {G : Type 0} {names : Names} (laws : PoolLaws) (b : Beginning) (keep_nu
       pub is_history : IsHistory entries
       is_history = are_history g keep b.lanes in_history entries_at says entries in_order
 
+      -- as many as have numbers
+      pub all_are_there : length entries ≡ g.length
+      all_are_there = as_long g keep b.lanes in_history entries_at says entries in_order
+
       -- ---- A LANE'S PART
 
       end_at : (k : ℕ) → k < b.lanes → get_or (ends_of after) k end.Ended ≡ (work_of k).end
@@ -325,7 +330,7 @@ pub first_item : {X : Type 0} (xs : List X) → 1 ≤ length xs → X
 first_item [] enough = absurd (omega (arith, enough))
 first_item (x ∷ xs) enough = x
 
-pub ran_on_lanes : {G : Type 0} → PoolLaws → (origin layout : List ℕ) (script : Script) (stops : List (Option ℕ)) (keep : ℕ) (out : Outcome)
+pub ran_on_lanes : {G : Type 0} → PoolLaws → LaneLaws → (origin layout : List ℕ) (script : Script) (stops : List (Option ℕ)) (keep : ℕ) (out : Outcome)
     (b : Beginning) (before after : List (LaneWork G)) (flags : List Bool) (left : LaneWork G → LaneWork G → View → Type 0)
     → (opened : IsOpened origin layout b.words.items b.shape b.pool)
     → b.lanes ≡ script.lanes → b.stops ≡ stops
@@ -334,7 +339,7 @@ pub ran_on_lanes : {G : Type 0} → PoolLaws → (origin layout : List ℕ) (scr
     → ((k : ℕ) (w : LaneWork G) (low : k < b.lanes) → DidCalls (get_or before k w) (get_or after k w) (ran.each k w low).view)
     → AreInOrder after flags out.entries.items → out.lanes.items ≡ ends_of after
     → RanOnLanes origin layout script stops keep out
-ran_on_lanes {G} laws origin layout script stops keep out b before after flags left opened lanes stops_are ran works dids order ends =
+ran_on_lanes {G} laws more origin layout script stops keep out b before after flags left opened lanes stops_are ran works dids order ends =
     let enough : 1 ≤ length after = let s = ran.closed.world.some_lanes in let n = ran.works in omega (arith, s, n) in
     let w = first_item after enough in
     let did = λ (k : ℕ) (low : k < b.lanes). dids k w low in
@@ -346,7 +351,7 @@ ran_on_lanes {G} laws origin layout script stops keep out b before after flags l
       stops_are = stops_are;
       back = ran.back;
       words = ran.words;
-      closed = ran.closed;
+      made = lanes_ran b ran.back ran.words ran.closed;
       all = subst (λ n. AllAreBack n ran.back) lanes ran.all;
       undrained = ran.undrained;
       back_with = ran.back_with;
@@ -360,9 +365,20 @@ ran_on_lanes {G} laws origin layout script stops keep out b before after flags l
           let high : k < b.lanes = subst (λ n. k < n) (sym lanes) low in
           let lane = ran.each k w high in
           let ended : (get_or after k w).end ≡ end.Stopped calls = sym (get_or-map (λ (x : LaneWork G). x.end) after k w end.Ended (let count = ran.works in omega (arith, high, count))) ∙ ap (λ (l : List LaneEnd). get_or l k end.Ended) (sym ends) ∙ is in
-          (record { place = k; view = lane.view; there = lane.there; lane_is = lane.lane_is }, (did k high).counted calls ended, (did k high).due calls ended);
+          has_stopped more b ran.back ran.words ran.closed ran.all k high
+          (record { place = k; view = lane.view; there = lane.there; lane_is = lane.lane_is }) calls
+          ((did k high).counted calls ended) ((did k high).due calls ended);
+      spent = λ k line low is.
+          let high : k < b.lanes = subst (λ n. k < n) (sym lanes) low in
+          let lane = ran.each k w high in
+          let ended : (get_or after k w).end ≡ end.Spent line = sym (get_or-map (λ (x : LaneWork G). x.end) after k w end.Ended (let count = ran.works in omega (arith, high, count))) ∙ ap (λ (l : List LaneEnd). get_or l k end.Ended) (sym ends) ∙ is in
+          none_left more b ran.back ran.words ran.closed ran.all k high
+          (record { place = k; view = lane.view; there = lane.there; lane_is = lane.lane_is })
+          out.image.items ran.survives ((did k high).spent line ended) entries
+          (all_are_there laws b keep script.lines before after out.image.items flags ran works w did out.image.items flags ran.survives ran.judged entries order);
       replayed = replayed laws b keep script.lines before after out.image.items flags ran works w did out.image.items flags ran.survives ran.judged entries order origin layout opened;
       stands = λ none. stands laws b keep script.lines before after out.image.items flags ran works w did out.image.items flags ran.survives ran.judged entries order origin layout opened none;
       survives = ran.survives;
+      header = λ w is. more.headers origin layout ran.words out.image.items b ran.back opened ran.closed ran.survives w is;
       each_choice = survives_as laws b keep script.lines before after out.image.items flags ran works w did entries order origin layout opened;
     }

@@ -23,7 +23,7 @@ use Rattle.pm_call.specs.Positions.{Position, aborted_at, position_of}
 use Rattle.pm_call.specs.Standing.{StandsWith}
 use Rattle.pm_calls.specs.Calls.{IsWhole, call_of, line_of, line_operation, numbers_of}
 use Rattle.pm_calls.specs.declared.names.Names.{Names}
-use Rattle.pm_exec.specs.Answers.{EndsSo, GivesUpSo, MayHaveFate, rans_of, run_of}
+use Rattle.pm_exec.specs.Answers.{EndsSo, GivesUpSo, IsSpent, MayHaveFate, rans_of, run_of}
 use Rattle.pm_exec.specs.Lines.{Awaits}
 use Rattle.pm_exec.specs.Running.{CallCame, LinesRan, OpensWith, RestsWith, RootCame, lost_call, with_ended}
 use Rattle.pm_exec.specs.Shown.{GoesOn, fate_of}
@@ -134,7 +134,7 @@ module _ {names : Names} {lines : List ScriptLine} {values : List (ℕ × Value)
 
 module _ {M : Type 0} (at : M → View → Type 0) (h : LaneHistory) where
   pub root_spent : (lane : Lane M) (r : Refusal) → RootCame at lane h (Err r) → r ≡ refusal.Spent
-      → RestsWith at lane h
+      → IsSpent at lane h
   root_spent lane r came spent = subst (λ (r : Refusal). RootCame at lane h (Err r)) spent came
 
   stopped_so : (lane : Lane M) (r : Refusal) → RootCame at lane h (Err r) → (r ≡ refusal.Spent → ⊥)
@@ -242,7 +242,10 @@ module _ {M : Type 0} (at : M → View → Type 0) (h : LaneHistory) where
         (call_ends.Stopped (option_map (lost_call lines values) lane.drawn))
     stopped_came lane line ran = stopped_by lane line ran lane.drawn refl
 
-    pub spent_came : (old lane : Lane M) (line : ℕ) → RestsWith at old h → Ran lane line ends.Spent → RestsWith at lane h
+    pub spent_came : (old lane : Lane M) (line : ℕ) → RestsWith at old h → Ran lane line ends.Spent
+        → IsSpent at lane h
     spent_came old lane line rests ran =
         let came = ran.came in
-        (subst (λ call. StandsWith at lane (record h { call = call })) (nothing_open at lane (record h { call = ran.told }) came ∙ sym (nothing_open at old h rests)) came.0, came.1)
+        subst (λ call. IsSpent at lane (record h { call = call }))
+        (nothing_open at lane (record h { call = ran.told }) (came.stands, came.here)
+        ∙ sym (nothing_open at old h rests)) came

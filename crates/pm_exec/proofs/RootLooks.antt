@@ -11,6 +11,7 @@ use Rattle.pm_call.specs.Positions.{Position}
 use Rattle.pm_call.specs.Standing.{StandsWith}
 use Rattle.pm_root.specs.Root.{FieldsStay, FoundAs, FoundBy, RootFound}
 use Rattle.pm_exec.specs.Running.{RestsWith, RootCame}
+use Rattle.pm_exec.proofs.Spent.{root_spent}
 
 abbrev position_in : Fields → Position
 position_in f = record { stopped = f.stopped; level = f.level; stage = f.stage; error = f.error }
@@ -26,12 +27,14 @@ rests_undrawn at lane h rests =
 module _ {M : Type 0} (at : M → View → Type 0) (old new : Lane M) (h : LaneHistory)
     (rests : RestsWith at old h) (stands : StandsWith at new h) where
   -- no other refusal comes
-  refused_for : (r : Refusal) (s : Standing) → FoundAs at new (Err r) s
+  refused_for : (r : Refusal) (s : Standing) → RootFound at old new (Err r) → FoundAs at new (Err r) s
       → FieldsStay old new (Err r) → RootCame at new h (Err r)
-  refused_for refusal.Spent s found stay = (stands, ap position_in stay ∙ rests.1)
-  refused_for refusal.Stopped s found stay =
+  refused_for refusal.Spent s did found stay =
+      root_spent at old new h rests.0 (ap (λ (p : Position). p.stopped) rests.1)
+      (ap (λ (p : Position). p.level) rests.1) did stands (ap position_in stay ∙ rests.1)
+  refused_for refusal.Stopped s did found stay =
       (stands, ap (λ (f : Fields). f.stopped) stay, ap (λ (f : Fields). f.drawn) stay ∙ rests_undrawn at old h rests)
-  refused_for r s found stay = absurd found.holds
+  refused_for r s did found stay = absurd found.holds
 
   pub found_root : (id : Oid) → FieldsStay old new (Ok id) → RestsWith at new h
   found_root id stay = (stands, ap position_in stay ∙ rests.1)
@@ -46,4 +49,4 @@ module _ {M : Type 0} (at : M → View → Type 0) (old new : Lane M) (h : LaneH
       let outside = ap (λ (p : Position). p.level) rests.1 in
       let here = (rests.0.between going outside).0 in
       subst (RootCame at new h) (sym is)
-      (refused_for r here.standing (by here.standing here.rests here.between) stay)
+      (refused_for r here.standing found (by here.standing here.rests here.between) stay)

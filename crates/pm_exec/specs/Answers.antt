@@ -1,5 +1,5 @@
 -- WHAT A CALL OF A LANE ANSWERED, beside what the lane told in it.
-use Rattle.std.specs.Prelude.{◌≡◌, ◌⊎◌, ℕ, suc, ◌≤◌, true, false, List, map, option_map, Option, Some, None}
+use Rattle.std.specs.Prelude.{◌≡◌, ◌⊎◌, ℕ, suc, ◌≤◌, true, false, Contains, List, map, option_map, Option, Some, None}
 use Rattle.std.specs.Option.{ForSome}
 use Rattle.pm_objects.specs.declared.calls.Operation.{Operation}
 use Rattle.pm_objects.specs.declared.calls.Operation.TheVariants.{Abort, Commit}
@@ -18,9 +18,14 @@ use Rattle.pm_model.specs.Outside.{is_outside}
 use Rattle.pm_model.specs.Parts.{no_parts}
 use Rattle.pm_model.specs.Shown.{IsFate, IsShown, aborts, is_single}
 use Rattle.pm_script.specs.declared.script.ScriptLine.{ScriptLine}
+use Rattle.pm_layout.specs.Areas.{greatest_generation}
+use Rattle.pm_view.specs.Log.{is_early}
+use Rattle.pm_view.specs.Steps.Step.{NumberSeen}
 use Rattle.pm_view.specs.View.{Told, View}
+use Rattle.pm_world.specs.LaneFields.{Rests, Standing}
+use Rattle.pm_call.specs.Between.{MayOpen}
 use Rattle.pm_call.specs.Did.{unseen}
-use Rattle.pm_call.specs.Histories.{Ended, LaneHistory, told_by, told_last, told_more}
+use Rattle.pm_call.specs.Histories.{Ended, LaneHistory, history_of, told_by, told_last, told_more}
 use Rattle.pm_call.specs.Positions.{aborted_at, position_of, resting, working}
 use Rattle.pm_call.specs.Standing.{StandsWith}
 use Rattle.pm_world.specs.declared.lane.Lane.{Lane}
@@ -74,6 +79,30 @@ entry_of names lane a f = record {
   fate = f;
 }
 
+-- ---- NO NUMBER IS LEFT
+
+-- for the next call of a lane with this view: its generation is the greatest, or it saw that as many
+-- numbers were drawn
+abbrev pub HasNoNumber : View → Type 0
+HasNoNumber v = (greatest_generation v.fixed.shape ≤ v.log.generation)
+    ⊎ ((n : ℕ) × (greatest_generation v.fixed.shape ≤ n) × Contains v.seen (NumberSeen n))
+
+-- so it is of a lane whose call has no number
+pub record IsSpentView (v : View) : Type 0 where
+  pub none : HasNoNumber v
+  pub early : is_early v.log.phase ≡ true
+
+-- A LANE IS SPENT: it is between two calls, with this history, and has no number for the next
+pub record IsSpent {M : Type 0} (at : M → View → Type 0) (lane : Lane M) (h : LaneHistory)
+    : Type 0 where
+  pub stands : StandsWith at lane h
+  pub here : position_of lane ≡ resting
+  pub standing : Standing
+  pub rests : Rests at lane standing
+  pub between : MayOpen standing
+  pub same : history_of standing.view ≡ h
+  pub none : HasNoNumber standing.view
+
 -- ---- A LINE, and what it came to
 
 -- the operation with its reply aborts nothing
@@ -104,4 +133,4 @@ LineCame at lane op level behind h (ends.GivenUp e) =
 LineCame at lane op level behind h ends.Stopped =
     StandsWith at lane (told_by lane.drawn op None h) × (lane.stopped ≡ true)
     × ForSome lane.drawn (λ n. (behind ≡ 0) × EndsSo op level None)
-LineCame at lane op level behind h ends.Spent = StandsWith at lane h × (position_of lane ≡ resting)
+LineCame at lane op level behind h ends.Spent = IsSpent at lane h

@@ -18,7 +18,7 @@ use Rattle.pm_crash.specs.Fates.{EndsOpen}
 use Rattle.pm_call.specs.Histories.{Ended, LaneHistory, calls_ended}
 use Rattle.pm_call.specs.Positions.{position_of, resting}
 use Rattle.pm_call.specs.Standing.{IsLaneStopped, IsStopDue, StandsWith}
-use Rattle.pm_exec.specs.Answers.{IsAnswer, LineCame, MayBeKeptOrLost, lines_of}
+use Rattle.pm_exec.specs.Answers.{IsAnswer, IsSpent, IsSpentView, LineCame, MayBeKeptOrLost, lines_of}
 use Rattle.pm_calls.specs.Calls.{IsWholeFrom, line_operation}
 use Rattle.pm_exec.specs.Lines.{at_level}
 use Rattle.pm_exec.specs.Shown.{GoesOn}
@@ -94,7 +94,7 @@ pub record LinesRan {M : Type 0} (at : M → View → Type 0) (lane : Lane M) (n
 abbrev pub RootCame : {M : Type 0} → (M → View → Type 0) → Lane M → LaneHistory
     → Result (Unit {0}) Refusal → Type 0
 RootCame at lane h (Ok done) = RestsWith at lane h
-RootCame at lane h (Err refusal.Spent) = RestsWith at lane h
+RootCame at lane h (Err refusal.Spent) = IsSpent at lane h
 RootCame at lane h (Err r) = StandsWith at lane h × (lane.stopped ≡ true) × (lane.drawn ≡ None)
 
 -- one call more has its number
@@ -120,7 +120,7 @@ CallCame at lane names h lines (ends.Stopped (Some a)) =
     (d : Ended) × StandsWith at lane (with_ended d h) × (lane.stopped ≡ true)
     × (lane.drawn ≡ Some a.number)
     × (lines_of a ≡ lines) × IsAnswer names h.lane a d × (a.fate ≡ fate.Lost)
-CallCame at lane names h lines (ends.Spent line) = RestsWith at lane h
+CallCame at lane names h lines (ends.Spent line) = IsSpent at lane h
 
 -- ---- CALLS
 
@@ -144,6 +144,9 @@ pub record CallsCame {M : Type 0} (at : M → View → Type 0) (lane : Lane M) (
   pub whole : e ≡ end.Ended → length answers ≡ length calls
   -- where it did not stop it says so
   pub unstopped : lane.stopped ≡ false → (n : ℕ) → e ≢ end.Stopped n
+  -- and where it says that it was spent it was
+  pub spent : (line : ℕ) → e ≡ end.Spent line
+      → IsSpent at lane (record { lane = number; done = reverse done; call = call })
 
 -- ---- THE END OF A LANE'S CALLS
 
@@ -157,3 +160,12 @@ pub record Closed {M : Type 0} (at : M → View → Type 0) (old new : Lane M) (
   pub going : old.stopped ≡ false → e ≡ before
   pub stopped : old.stopped ≡ true → e ≡ end.Stopped (stops.view.calls % 2 ^ 64)
   pub due : old.stopped ≡ true → IsStopDue stops.view
+
+-- a lane that was spent, with this history, makes no call any more, and has no number still
+pub record SpentClosed {M : Type 0} (at : M → View → Type 0) (old new : Lane M) (h : LaneHistory)
+    : Type 0 where
+  pub stops : IsLaneStopped at new
+  pub done : calls_ended stops.view ≡ h.done
+  pub lane : stops.view.fixed.lane ≡ h.lane
+  pub ends : EndsOpen old.drawn stops.view
+  pub spent : IsSpentView stops.view

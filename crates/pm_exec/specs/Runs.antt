@@ -1,15 +1,19 @@
 -- WHAT A SCRIPT LEAVES that lanes ran on the pool of an image, each in a thread of its own, where power
 -- fails at the end: docs/MODEL.md, "Crash".
-use Rattle.std.specs.Prelude.{◌≡◌, ℕ, ◌%◌, ◌^◌, ◌<◌, true, false, List, length, map, slice_index_or, Option}
+use Rattle.std.specs.Prelude.{◌≡◌, ◌≢◌, ◌⊎◌, ℕ, ◌%◌, ◌^◌, ◌<◌, ◌≤◌, true, false, List, length, map, slice_index, slice_index_or, Option}
 use Rattle.std.specs.List.{AllZip}
 use Rattle.std.specs.Option.{option_map_or}
+use mathlib.Core.Option.{some}
+use lib.ListN.{get_elem?}
 use Rattle.pm_calls.specs.Calls.{null_id}
 use Rattle.pm_calls.specs.declared.names.Names.{Names}
 use Rattle.pm_crash.specs.Images.{block_for}
 use Rattle.pm_image.specs.Blocks.{blocks}
-use Rattle.pm_image.specs.Logs.{recovered_at}
+use Rattle.pm_image.specs.Logs.{generation_word, recovered_at}
 use Rattle.pm_image.specs.Means.{IsMeaning}
-use Rattle.pm_lanes.specs.Closed.{AllAreBack, BackWith, IsBack, MaySurvive, NoRecordTorn}
+use Rattle.pm_layout.specs.Chunks.{words_of}
+use Rattle.pm_lanes.specs.Closed.{AllAreBack, BackWith, CameToStop, IsBack, MaySurvive}
+use Rattle.pm_lanes.specs.Closed.{NoRecordTorn}
 use Rattle.pm_lanes.specs.Opens.{IsOpened}
 use Rattle.pm_memory.specs.Keep.{IsKeptImage}
 use Rattle.pm_model.specs.History.{IsHistory, ReplaysEntries, is_answered, without_lost}
@@ -17,13 +21,15 @@ use Rattle.pm_objects.specs.Pool.{IsPool}
 use Rattle.pm_objects.specs.declared.history.Entry.{Entry}
 use Rattle.pm_objects.specs.declared.pool.PoolView.{PoolView}
 use Rattle.pm_script.specs.declared.script.Script.{Script}
-use Rattle.pm_shared.specs.Closings.{Closes}
+use Rattle.pm_shared.specs.Openings.{idle_view, opening_of}
 use Rattle.pm_shared.specs.declared.rule.Beginning.{Beginning}
 use Rattle.pm_text.specs.declared.report.LaneEnd.TheVariants as end
 use Rattle.pm_view.specs.View.{View}
 use Rattle.pm_view.specs.declared.change.Change.{Change}
-use Rattle.pm_world.specs.Runs.{Moment}
-use Rattle.pm_call.specs.Standing.{IsStopDue}
+use Rattle.pm_world.specs.Memory.{PoolWord}
+use Rattle.pm_world.specs.Opens.{IsTaken}
+use Rattle.pm_world.specs.Runs.{IsRun, LaneStep, Moment}
+use Rattle.pm_world.specs.World.{is_header}
 use Rattle.pm_exec.specs.Reports.{IsLaneHistory}
 use Rattle.pm_exec.specs.declared.outcome.Outcome.{Outcome}
 
@@ -67,11 +73,43 @@ pub record SurvivesAs (b : Beginning) (last : Moment) (pool : PoolView) (entries
   pub replayed : Replayed pool fates
   pub stands : NoRecordTorn b last image → StandsFor pool fates image
 
--- the lane came back with this count of its counted calls, modulo 2^64, and a stop was due: its stop
--- number was reached, or it found the stop word set as it waited for a lock
-abbrev pub HasStopped : List View → ℕ → ℕ → Type 0
-HasStopped back lane calls =
-    (last : IsBack back lane) × (calls ≡ last.view.calls % 2 ^ 64) × IsStopDue last.view
+-- WHAT LANES DID on the words that were opened: from views that had seen nothing, lawful steps of
+-- theirs, in whatever order they interleaved, led to a last moment, at which the pool's words are
+-- these and each lane that came back has this view
+pub record LanesRan (b : Beginning) (back : List View) (words : List ℕ) : Type 0 where
+  pub first : Moment
+  pub views_are : first.views ≡ idle_view b
+  pub no_call : first.past.length ≡ 0
+  pub opened : (w : ℕ) → first.mem (PoolWord w) ≡ slice_index b.words.items w
+  pub taken : IsTaken (opening_of b) first.mem
+  pub turns : List LaneStep
+  pub last : Moment
+  pub run : IsRun (opening_of b) first turns last
+  pub size : length words ≡ words_of b.shape
+  pub words_are : (w : ℕ) → w < words_of b.shape → slice_index words w ≡ last.mem (PoolWord w)
+  pub lanes : (n : ℕ) (v : View) → get_elem? back n ≡ some v
+      → (v.fixed.lane < b.lanes) × (last.views v.fixed.lane ≡ v)
+
+-- another lane than this came to its stop number
+pub record AnotherStopped (b : Beginning) (back : List View) (lane : ℕ) : Type 0 where
+  pub other : ℕ
+  pub runs : other < b.lanes
+  pub apart : other ≢ lane
+  pub last : IsBack back other
+  pub reached : CameToStop b last.view
+
+-- A LANE STOPPED after so many counted calls, modulo 2^64: it came to its stop number; or it waited
+-- for a lock, and another lane had come to its own
+pub record HasStopped (b : Beginning) (back : List View) (lane calls : ℕ) : Type 0 where
+  pub last : IsBack back lane
+  pub count : calls ≡ last.view.calls % 2 ^ 64
+  pub due : CameToStop b last.view ⊎ AnotherStopped b back lane
+
+-- NO NUMBER IS LEFT for a call of the lane: its generation in the image is the greatest, or as many
+-- calls have numbers as there are
+abbrev pub NoNumberIsLeft : List ℕ → ℕ → List Entry → Type 0
+NoNumberIsLeft image lane entries =
+    (2 ^ 62 ≤ generation_word image lane) ⊎ (2 ^ 62 ≤ length entries)
 
 -- A SCRIPT RAN ON LANES: the pool was opened, lane k ran the script's lines of lane k up to its stop
 -- number, if it has one, all lanes came back, and what is left is what the keep number leaves of the
@@ -83,7 +121,7 @@ pub record RanOnLanes (image layout : List ℕ) (script : Script) (stops : List 
   pub stops_are : begin_.stops ≡ stops
   pub back : List View
   pub words : List ℕ
-  pub closed : Closes begin_ back words
+  pub made : LanesRan begin_ back words
   pub all : AllAreBack script.lanes back
   pub undrained : List (List Change)
   pub back_with : BackWith back undrained
@@ -95,15 +133,22 @@ pub record RanOnLanes (image layout : List ℕ) (script : Script) (stops : List 
   pub each : (lane : ℕ) → lane < script.lanes
       → IsLaneHistory (names_of opened.pool) script.lines out.entries.items lane
       (slice_index_or out.lanes.items lane end.Ended)
-  -- a lane that stopped had made so many counted calls as it came back, and its stop was due
+  -- a lane that stopped had made so many counted calls, and its stop was due
   pub stopped : (lane calls : ℕ) → lane < script.lanes → slice_index_or out.lanes.items lane end.Ended ≡ end.Stopped calls
-      → HasStopped back lane calls
+      → HasStopped begin_ back lane calls
+  -- and one that was spent has no number left
+  pub spent : (lane line : ℕ) → lane < script.lanes
+      → slice_index_or out.lanes.items lane end.Ended ≡ end.Spent line
+      → NoNumberIsLeft out.image.items lane out.entries.items
   -- what it means, with no premise; and, unless a record is torn that a lane was writing, what the
   -- image means
   pub replayed : Replayed opened.pool out.entries.items
-  pub stands : NoRecordTorn begin_ closed.last out.image.items
+  pub stands : NoRecordTorn begin_ made.last out.image.items
       → StandsFor opened.pool out.entries.items out.image.items
   -- the image is one that may survive the power failure, and the same holds of each of those
-  pub survives : MaySurvive begin_ closed.last out.image.items
-  pub each_choice : (other : List ℕ) → MaySurvive begin_ closed.last other
-      → SurvivesAs begin_ closed.last opened.pool out.entries.items other
+  pub survives : MaySurvive begin_ made.last out.image.items
+  -- the header's page is as it was, but for the root word
+  pub header : (w : ℕ) → is_header begin_.shape w ≡ true
+      → slice_index out.image.items w ≡ slice_index image w
+  pub each_choice : (other : List ℕ) → MaySurvive begin_ made.last other
+      → SurvivesAs begin_ made.last opened.pool out.entries.items other

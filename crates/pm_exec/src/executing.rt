@@ -20,7 +20,10 @@ use crate::outcome::Outcome;
 use crate::reporting::{ends_of, entries_of};
 use crate::work::LaneWork;
 use pm_calls::{LaneRoom, Names, a_lanes_calls_are_whole, lane_rooms};
-use pm_lanes::{OpenFault, closed_pools_mean_their_histories, open, open_calls_are_judged};
+use pm_lanes::{
+    OpenFault, closed_pools_mean_their_histories, headers_are_kept, numbers_are_shown, open,
+    open_calls_are_judged, stops_are_reached,
+};
 use pm_layout::ROOT_WORD;
 use pm_objects::{Oid, Stops};
 use pm_raw::RawImage;
@@ -145,6 +148,9 @@ pub fn exec<'a, R: Threads + Wait + Sync, G: Gate + Sync>(
     };
     closed_pools_mean_their_histories();
     open_calls_are_judged();
+    stops_are_reached();
+    headers_are_kept();
+    numbers_are_shown();
     match run_works(rt, alloc, beginning, works, keep) {
         Ok(outcome) => Ok(outcome),
         Err(_) => Err(OpenFault::Memory),

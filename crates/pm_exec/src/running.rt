@@ -11,7 +11,8 @@ ghost use Rattle.pm_calls.specs.Calls.{line_of};
 ghost use Rattle.pm_exec.specs.Lines.{Awaits};
 ghost use Rattle.pm_calls.specs.LaneRooms.{lines_to_run, said_in};
 ghost use Rattle.pm_exec.specs.Made.{MayBeMade};
-ghost use Rattle.pm_exec.specs.Running.{CallCame, CallsCame, Closed, LinesRan, RestsWith, Rested, RootCame, gave, lost_call};
+ghost use Rattle.pm_exec.specs.Answers.{IsSpent};
+ghost use Rattle.pm_exec.specs.Running.{CallCame, CallsCame, Closed, LinesRan, Rested, RestsWith, RootCame, SpentClosed, gave, lost_call};
 ghost use Rattle.pm_exec.specs.Shown.{fate_of};
 
 use crate::answer::Answer;
@@ -210,8 +211,11 @@ pub(crate) fn run_calls<'s, M: LawfulMem, R: Wait, G: Gate>(
 /// Gives up what is pending still: pmemobj_cancel(3). A lane that stopped stays so.
 pub(crate) fn close<M: LawfulMem>(lane: &mut Lane<M>, end: LaneEnd) -> LaneEnd
     requires { (h : LaneHistory) × StandsWith M.at lane.old h × (lane.old.stopped ≡ false → position_of lane.old ≡ resting) }
-    ensures { (h : LaneHistory) → StandsWith M.at lane.old h → (lane.old.stopped ≡ false → position_of lane.old ≡ resting)
+    ensures closed { (h : LaneHistory) → StandsWith M.at lane.old h
+        → (lane.old.stopped ≡ false → position_of lane.old ≡ resting)
         → Closed M.at lane.old lane.new h end result }
+    ensures spent { (h : LaneHistory) → IsSpent M.at lane.old h
+        → SpentClosed M.at lane.old lane.new h × (result ≡ end) }
 {
     pm_action::finished_lanes_have_facts::<M>();
     match finish(lane) {

@@ -7,6 +7,7 @@ use Rattle.pm_exec.specs.Works.{WorkLeft}
 use Rattle.pm_exec.proofs.LaneWorks.{can_run, did_calls, have_calls, opened_names, works_for}
 use Rattle.pm_exec.proofs.MadeCalls.{CallLaws, rooms_made}
 use Rattle.pm_exec.proofs.Ran.{PoolLaws, ran_on_lanes}
+use Rattle.pm_exec.proofs.Stopped.{LaneLaws}
 use Rattle.pm_exec.proofs.executing.exec.Goals as goal
 
 pub run_works-requires-clause-works : goal.run_works-requires-clause-works
@@ -63,7 +64,14 @@ returns-in-Ok-run_works-clause-ran g c =
     (works_for names script.lines script.lanes rooms works are c.in-Ok-works_of.ensures)) in
     let count : length works ≡ b.lanes = c.in-Ok-works_of.ensures.count ∙ are.count ∙ sym c.in-Ok-open.ensures.lanes in
     let calls = have_calls names rooms works c.in-Ok-works_of.ensures in
-    ran_on_lanes laws c.args.image c.args.layout.now script c.args.stops c.args.keep c.in-Ok-run_works.outcome b works r.after r.flags WorkLeft
+    let more : LaneLaws = record {
+      own = c.stops_are_reached.ensures.own;
+      seen = c.stops_are_reached.ensures.seen;
+      headers = c.headers_are_kept.ensures;
+      drawn = c.numbers_are_shown.ensures.drawn;
+      generation = c.numbers_are_shown.ensures.generation;
+    } in
+    ran_on_lanes laws more c.args.image c.args.layout.now script c.args.stops c.args.keep c.in-Ok-run_works.outcome b works r.after r.flags WorkLeft
     opened c.in-Ok-open.ensures.lanes c.in-Ok-open.ensures.stops r.ran for_
     (λ k w low. did_calls b c.args.keep works r.after c.in-Ok-run_works.outcome.image.items r.flags r.ran count calls k w low)
     r.order r.ends

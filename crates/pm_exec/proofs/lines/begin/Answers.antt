@@ -3,6 +3,7 @@ use Rattle.pm_objects.specs.declared.calls.Operation.TheVariants.{Begin}
 use Rattle.pm_tx.specs.Begins.{LevelBegun}
 use Rattle.pm_exec.specs.Answers.{LineCame}
 use Rattle.pm_exec.proofs.LineEnds.{came_inner, came_opened, level_is}
+use Rattle.pm_exec.proofs.Spent.{begin_spent}
 use Rattle.pm_exec.proofs.Stopping.{inner_unnumbered, outermost_unnumbered}
 use Rattle.pm_exec.proofs.lines.begin.Goals as goal
 
@@ -26,6 +27,8 @@ returns-then-level-eq0 g c zero h stands here =
     (known.begin_ wants c.begin.result old new h stands did)
     (known.begin_moves wants c.begin.result old new h stands did)
     (λ is. outermost_unnumbered at old new h stands wants rests.0 rests.1 rests.2
+    (subst (λ r. LevelBegun at old new wants r) is did))
+    (λ is. begin_spent at old new h stands rests.1 rests.2 wants rests.0
     (subst (λ r. LevelBegun at old new wants r) is did)))
 returns-then-level-eq0 g c (suc n) h stands here =
     let clash : suc n ≡ 0 = sym (level_is c.args.lane.now (suc n) here)

@@ -2,6 +2,7 @@ use Rattle.std.proofs.Common.{◌≡◌, zero, suc, refl, sym, ◌∙◌, subst}
 use Rattle.pm_objects.specs.declared.calls.Operation.TheVariants.{Cancel}
 use Rattle.pm_exec.specs.Answers.{LineCame}
 use Rattle.pm_exec.proofs.LineEnds.{came_asked, came_cancelled, inside_call, inside_history, level_is, outside_history, unmoved_outside}
+use Rattle.pm_exec.proofs.Spent.{asked_spent}
 use Rattle.pm_exec.proofs.lines.cancel.Goals as goal
 
 pub cancel-requires-clause-idle : goal.cancel-requires-clause-idle
@@ -22,7 +23,8 @@ returns-then-level-eq0 g c zero h stands here =
     subst (LineCame at new Cancel _ _ h) (sym c.asked.ensures)
     (came_asked at old new h Cancel refl result
     (outside_history at old new h _ _ rests.1 rests.2 (known.cancel result old new h stands did))
-    (unmoved_outside at old new h result here rests.0 (known.cancel_moves result old new h stands did)))
+    (unmoved_outside at old new h result here rests.0 (known.cancel_moves result old new h stands did))
+    (asked_spent at old new h stands rests.1 rests.2 Cancel result _ did))
 returns-then-level-eq0 g c (suc n) h stands here =
     let clash : suc n ≡ 0 = sym (level_is c.args.lane.now (suc n) here)
     ∙ (sym c.level.ensures ∙ c.if-level-eq0.true) in

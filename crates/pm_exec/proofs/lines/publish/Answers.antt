@@ -2,8 +2,10 @@ use Rattle.std.proofs.Common.{◌≡◌, zero, suc, refl, sym, ap, ◌∙◌, su
 use Rattle.pm_objects.specs.declared.calls.Operation.TheVariants.{Publish}
 use Rattle.pm_call.specs.Positions.{stopped_by}
 use Rattle.pm_tx.specs.Publishing.{Published}
+use Rattle.pm_action.specs.Publications.{PublishedOutside}
 use Rattle.pm_exec.specs.Answers.{LineCame}
 use Rattle.pm_exec.proofs.LineEnds.{came_alone, came_unreplied, level_is, outside_history}
+use Rattle.pm_exec.proofs.Spent.{publish_spent}
 use Rattle.pm_exec.proofs.Stopping.{published_unnumbered}
 use Rattle.pm_exec.proofs.lines.publish.Goals as goal
 
@@ -25,7 +27,9 @@ returns-then-level-eq0 g c zero h stands here =
     subst (LineCame at new Publish _ _ h) (sym c.alone.ensures)
     (came_alone at old new h Publish refl result
     (outside_history at old new h _ _ rests.1 rests.2 (known.publish result old new h stands did))
-    (known.publish_moves result old new h stands did ∙ ap (stopped_by result) here))
+    (known.publish_moves result old new h stands did ∙ ap (stopped_by result) here)
+    (λ is. publish_spent at old new h stands rests.1 rests.2
+    (subst (λ r. PublishedOutside at old new r) is did)))
 returns-then-level-eq0 g c (suc n) h stands here =
     let clash : suc n ≡ 0 = sym (level_is c.args.lane.now (suc n) here)
     ∙ (sym c.level.ensures ∙ c.if-level-eq0.true) in

@@ -2,6 +2,7 @@ use Rattle.std.proofs.Common.{◌≡◌, zero, suc, refl, sym, ◌∙◌, subst}
 use Rattle.pm_objects.specs.declared.calls.Operation.TheVariants.{SetValue}
 use Rattle.pm_exec.specs.Answers.{LineCame}
 use Rattle.pm_exec.proofs.LineEnds.{came_asked, came_noted, inside_history, level_is, outside_history}
+use Rattle.pm_exec.proofs.Spent.{asked_spent}
 use Rattle.pm_exec.proofs.lines.set.Goals as goal
 
 pub set_value-requires-clause-idle : goal.set_value-requires-clause-idle
@@ -26,7 +27,8 @@ returns-then-level-eq0 g c zero h stands here =
     (came_asked at old new h (SetValue id off value) refl result
     (outside_history at old new h _ _ rests.1 rests.2
     (known.set id off value result old new h stands did))
-    (known.set_moves id off value result old new h stands did ∙ here))
+    (known.set_moves id off value result old new h stands did ∙ here)
+    (asked_spent at old new h stands rests.1 rests.2 (SetValue id off value) result _ did))
 returns-then-level-eq0 g c (suc n) h stands here =
     let clash : suc n ≡ 0 = sym (level_is c.args.lane.now (suc n) here)
     ∙ (sym c.level.ensures ∙ c.if-level-eq0.true) in

@@ -74,3 +74,4 @@ returns g c n first =
     (sym (map-append lines_to_run yielded rest) ∙ ap (λ (rooms : List CallRoom). map lines_to_run rooms) i.all)
     (λ is. ap (λ (rooms : List CallRoom). map lines_to_run rooms) (nil_from_length rest (sym c.loop-room.room-iterator.rest.ok.0 ∙ c.in-None.ensures.steps.0)))
     (λ k is. let clash : end.Ended ≡ end.Stopped k = is in cc)
+    (λ line is. absurd (let clash : end.Ended ≡ end.Spent line = is in cc))

@@ -19,10 +19,10 @@ pub returns : goal.returns
 returns g c n new =
     let before = c.args.self.now in
     elim c.match-take.branch [
-      | in-Some w ↦ lane_ran g.M.LaneMem.at before c.match-take.self c.match-take.lane c.close-self.new.lane n c.close-self.result c.close-self.ensures
+      | in-Some w ↦ lane_ran g.M.LaneMem.at before c.match-take.self c.match-take.lane c.close-self.new.lane n c.close-self.result c.close-self.ensures.closed c.close-self.ensures.spent
           w.in-Some.calls (sym c.take.ensures.value ∙ w.in-Some.is) c.take.new.self w.run_calls-unanswered.new.answers
           w.run_calls-unanswered.result.0 w.run_calls-unanswered.result.1 w.run_calls-unanswered.new.lane w.self-is w.lane-is
           (w.run_calls-unanswered.ensures n new)
-      | in_default w ↦ lane_idle g.M.LaneMem.at before c.match-take.self c.match-take.lane c.close-self.new.lane n c.close-self.result c.close-self.ensures
+      | in_default w ↦ lane_idle g.M.LaneMem.at before c.match-take.self c.match-take.lane c.close-self.new.lane n c.close-self.result c.close-self.ensures.closed c.close-self.ensures.spent
           (sym c.take.ensures.value ∙ w.in_default.is) c.args.lane.now w.lane-is new
     ]

@@ -1,0 +1,142 @@
+-- A LANE FOR WHOSE NEXT CALL NO NUMBER IS LEFT, from what the call says that it did.
+use Rattle.std.proofs.Common.{◌≡◌, inl, inr, ⊎_elim, ℕ, zero, Bool, true, false, Contains, List, ◌∷◌}
+use Rattle.std.proofs.Common.{Option, Some, Result, Ok, Err, refl, sym, ap, ◌∙◌, subst, arith}
+use Rattle.std.proofs.lemmas.Bool.{both_ways}
+use Rattle.pm_objects.specs.declared.calls.Operation.{Operation}
+use Rattle.pm_objects.specs.declared.calls.Want.{Want}
+use Rattle.pm_objects.specs.declared.refusal.Refusal.{Refusal}
+use Rattle.pm_objects.specs.declared.refusal.Refusal.TheVariants as refusal
+use Rattle.pm_view.specs.Log.{Log, is_early}
+use Rattle.pm_view.specs.Steps.{Step}
+use Rattle.pm_view.specs.View.{View}
+use Rattle.pm_world.specs.LaneFields.{Fields, Rests, Standing}
+use Rattle.pm_world.specs.declared.lane.Lane.{Lane}
+use Rattle.pm_call.specs.Between.{MayOpen, saw_number}
+use Rattle.pm_call.specs.Did.{work_refusal}
+use Rattle.pm_call.specs.Histories.{LaneHistory, calls_ended, history_of}
+use Rattle.pm_call.specs.Opening.{NoneIsLeft, OutermostBegun}
+use Rattle.pm_call.specs.Positions.{Position, position_of, resting}
+use Rattle.pm_call.specs.Standing.{StandsWith}
+use Rattle.pm_call.proofs.OpenedCalls.{look_may_open}
+use Rattle.pm_call.proofs.StoppedLanes.{may_open_facts}
+use Rattle.pm_call.proofs.StoppedNumbers.{may_open_ends}
+use Rattle.pm_call.proofs.ToldLooks.{saw_history}
+use Rattle.pm_crash.specs.Fates.{EndsOpen}
+use Rattle.pm_root.specs.Root.{FoundBy, RootFound}
+use Rattle.pm_tx.specs.Begins.{LevelBegun, LevelBegunSo}
+use Rattle.pm_action.specs.Calls.{ByLevel, IfOutside}
+use Rattle.pm_action.specs.Outside.{AskedOutside, Finished, FinishedSo}
+use Rattle.pm_action.specs.Publications.{PublishedBy, PublishedOutside}
+use Rattle.pm_exec.specs.Answers.{IsSpent}
+use Rattle.pm_exec.specs.Running.{SpentClosed}
+
+first : (s : Step) (rest : List Step) → Contains (s ∷ rest) s
+first s rest = (0, omega arith, refl)
+
+module _ {M : Type 0} (at : M → View → Type 0) (old new : Lane M) (h : LaneHistory)
+    (stands : StandsWith at old h) (going : old.stopped ≡ false) (outside : old.level ≡ 0) where
+  abbrev s : Standing
+  s = (stands.between going outside).0.standing
+
+  abbrev rests : Rests at old s
+  rests = (stands.between going outside).0.rests
+
+  abbrev between : MayOpen s
+  between = (stands.between going outside).0.between
+
+  pub spent_so : NoneIsLeft at new s → StandsWith at new h → position_of new ≡ resting
+      → IsSpent at new h
+  spent_so none then here =
+      let was = stands.between going outside in ⊎_elim
+      (λ z. record {
+        stands = then;
+        here = here;
+        standing = s;
+        rests = z.1;
+        between = between;
+        same = was.1;
+        none = inl z.0;
+      })
+      (λ z. record {
+        stands = then;
+        here = here;
+        standing = saw_number s z.0;
+        rests = z.2;
+        between = look_may_open s z.0 between;
+        same = saw_history s z.0 h was.1 was.2;
+        none = inr (z.0, z.1, first _ _);
+      }) none
+
+  pub begin_spent : (wants : List Want) → work_refusal old ≡ Some refusal.NoTx
+      → LevelBegun at old new wants (Err refusal.Spent) → StandsWith at new h
+      → position_of new ≡ resting → IsSpent at new h
+  unfolding LevelBegun OutermostBegun
+  begin_spent wants none did =
+      let d : OutermostBegun at old new wants (Err refusal.Spent) =
+      subst (λ w. LevelBegunSo w at old new wants (Err refusal.Spent)) none did in
+      spent_so (d s rests between)
+
+  pub asked_spent : (op : Operation) (result : Result (Unit {0}) Refusal) (inside : Type 0)
+      → ByLevel old (AskedOutside at old new op result) inside → result ≡ Err refusal.Spent
+      → StandsWith at new h → position_of new ≡ resting → IsSpent at new h
+  unfolding ByLevel AskedOutside
+  asked_spent op result inside did is =
+      let one : IfOutside false old.level (AskedOutside at old new op result) inside =
+      subst (λ (b : Bool). IfOutside b old.level (AskedOutside at old new op result) inside) going did in
+      let d : AskedOutside at old new op (Err refusal.Spent) =
+      subst (AskedOutside at old new op) is
+      (subst (λ n. IfOutside false n (AskedOutside at old new op result) inside) outside one) in
+      spent_so (d s rests between)
+
+  pub publish_spent : PublishedOutside at old new (Err refusal.Spent) → StandsWith at new h
+      → position_of new ≡ resting → IsSpent at new h
+  unfolding PublishedOutside
+  publish_spent did =
+      let one : PublishedBy false old.level at old new (Err refusal.Spent) =
+      subst (λ (b : Bool). PublishedBy b old.level at old new (Err refusal.Spent)) going did in
+      let d : PublishedBy false 0 at old new (Err refusal.Spent) =
+      subst (λ n. PublishedBy false n at old new (Err refusal.Spent)) outside one in
+      spent_so (d s rests between)
+
+  pub root_spent : RootFound at old new (Err refusal.Spent) → StandsWith at new h
+      → position_of new ≡ resting → IsSpent at new h
+  unfolding RootFound
+  root_spent did =
+      let one : FoundBy false old.level at old new (Err refusal.Spent) =
+      subst (λ (b : Bool). FoundBy b old.level at old new (Err refusal.Spent)) going did in
+      let d : FoundBy false 0 at old new (Err refusal.Spent) =
+      subst (λ n. FoundBy false n at old new (Err refusal.Spent)) outside one in
+      spent_so (d s rests between)
+
+-- ---- ITS END: nothing is left to do, and its view stays
+
+-- the call of a lane between two calls has no number
+may_open_early : (s : Standing) → MayOpen s → is_early s.view.log.phase ≡ true
+may_open_early s may = ⊎_elim
+    (λ e. ap (λ (t : Standing). is_early t.view.log.phase) e
+    ∙ ap (λ (l : Log). is_early l.phase) may.between.over.log)
+    (λ z. ap (λ (t : Standing). is_early t.view.log.phase) z.1) may.since
+
+pub spent_closed : {M : Type 0} (at : M → View → Type 0) (old new : Lane M)
+    (result : Result (Unit {0}) Refusal) → Finished at old new result → (h : LaneHistory)
+    → IsSpent at old h → SpentClosed at old new h
+unfolding Finished
+spent_closed at old new result did h is =
+    let s : Standing = is.standing in
+    let going : old.stopped ≡ false = ap (λ (p : Position). p.stopped) is.here in
+    let d : FinishedSo false at old new result =
+    subst (λ (b : Bool). FinishedSo b at old new result) going did in
+    let seen = d.1 s is.rests in record {
+      stops = record {
+        view = s.view;
+        seen = seen.memory;
+        facts = may_open_facts s is.between;
+        due = λ e.
+            absurd (both_ways new.stopped (ap (λ (f : Fields). f.stopped) seen.fields) e);
+      };
+      done = ap (λ (x : LaneHistory). x.done) is.same;
+      lane = ap (λ (x : LaneHistory). x.lane) is.same;
+      ends = subst (λ d. EndsOpen d s.view) (sym (ap (λ (f : Fields). f.drawn) is.rests.fields))
+          (may_open_ends s is.between);
+      spent = record { none = is.none; early = may_open_early s is.between };
+    }
