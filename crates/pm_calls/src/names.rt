@@ -13,7 +13,7 @@ use pm_script::{ScriptAt, ScriptId, ScriptLine, ScriptOp, ScriptWant};
 pub struct Names {
     /// The pool's id.
     pub pool: u64,
-    /// The pool's root, looked up once for the call; null where there is none.
+    /// The pool's root; null where there is none.
     pub root: Oid,
 }
 

@@ -11,6 +11,7 @@ use crate::image_bytes::{bytes_of_words, image_of};
 use crate::lane_stops::lane_stops;
 use crate::pool_files::{put, read};
 use crate::ways::{Way, way_of};
+use pm_exec::PowerFailure;
 use pm_image::ImageFault;
 use pm_lanes::OpenFault;
 use pm_layout::{MAX_POOL_BYTES, WORD_BYTES};
@@ -99,8 +100,11 @@ fn run_script<'a, R: Threads + Wait + Sync, G: Gate + Sync>(
         }
         Way::Lanes(script) => {
             let stops = lane_stops(&words.stops);
-            let layout = words.layout;
-            let ran = pm_exec::exec(rt, alloc, image, &script, layout, stops, words.keep, gate);
+            let failure = PowerFailure {
+                stops,
+                keep: words.keep,
+            };
+            let ran = pm_exec::exec(rt, alloc, image, &script, words.layout, failure, gate);
             match ran {
                 Ok(outcome) => left_of(alloc, &outcome.image, &outcome.entries, &outcome.lanes),
                 Err(fault) => Err(lanes_failure(fault)),

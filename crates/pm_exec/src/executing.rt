@@ -16,6 +16,7 @@ ghost use Rattle.pm_exec.specs.Reports.{AreWorksFor, AreWorksOf, HasCalls};
 ghost use Rattle.pm_exec.specs.Runs.{RanOnLanes};
 ghost use Rattle.pm_exec.specs.Works.{CanRunWork};
 
+use crate::failure::PowerFailure;
 use crate::outcome::Outcome;
 use crate::reporting::{ends_of, entries_of};
 use crate::work::LaneWork;
@@ -25,7 +26,7 @@ use pm_lanes::{
     open_calls_are_judged, stops_are_reached,
 };
 use pm_layout::ROOT_WORD;
-use pm_objects::{Oid, Stops};
+use pm_objects::Oid;
 use pm_raw::RawImage;
 use pm_run::{Ran, run_lanes};
 use pm_script::Script;
@@ -106,8 +107,8 @@ fn run_works<'s, R: Threads + Wait + Sync, G: Gate + Sync>(
 
 /// Runs a script on the pool of an image, lane k's lines on lane k, each lane in a thread of its
 /// own. The image is recovered first; each lane makes counted calls up to its stop number, if it
-/// has one; and of what is then undrained so much survives as `keep` says. The same holds of every
-/// other choice of what survives, with the fates that it gives to the calls that were not answered.
+/// has one; and of what is then undrained so much survives as the keep number says. The same holds of
+/// every other choice of what survives, with the fates that it gives to the calls that were not answered.
 /// The room for all replies is taken before any lane runs.
 ///
 /// # Errors
@@ -124,17 +125,17 @@ pub fn exec<'a, R: Threads + Wait + Sync, G: Gate + Sync>(
     image: RawImage,
     script: &Script,
     layout: &'a str,
-    stops: Stops,
-    keep: u64,
+    failure: PowerFailure,
     gate: &G,
 ) -> Result<Outcome, OpenFault<'a>>
     requires calls { (lane : ℕ) → AreCalls (operations (of_lane lane script.now.lines)) }
     requires rising { IsStrictlyIncreasing (numbers_of script.now.lines) }
     requires words { All RunsOnLanes script.now.lines }
     requires lanes { (1 ≤ script.now.lanes) × (script.now.lanes ≤ 32) }
-    ensures ran { IfOk result (RanOnLanes image layout.now script.now stops keep) }
+    ensures ran { IfOk result (RanOnLanes image layout.now script.now failure.stops failure.keep) }
     ensures cause { IfErr result (IsOpenCause image layout.now script.now.lanes) }
 {
+    let PowerFailure { stops, keep } = failure;
     let Ok(rooms) = lane_rooms(alloc, script.lines.as_slice(), script.lanes) else {
         return Err(OpenFault::Memory);
     };

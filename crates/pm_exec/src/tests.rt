@@ -69,7 +69,8 @@ fn run<R: Threads + Wait + Sync, G: Gate + Sync>(
     if let Some(calls) = stop {
         stops.set(0, calls);
     }
-    Ok(exec(rt, alloc, image, &script, LAYOUT, stops, keep, gate)?)
+    let failure = PowerFailure { stops, keep };
+    Ok(exec(rt, alloc, image, &script, LAYOUT, failure, gate)?)
 }
 
 /// The report of a run.
@@ -332,16 +333,11 @@ fn fault_text<R: Threads + Wait + Sync>(
     if word < image.len() {
         image.set(word, 1);
     }
-    match exec(
-        rt,
-        alloc,
-        image,
-        &script,
-        layout,
-        Stops::none(),
-        0,
-        &IdleGate,
-    ) {
+    let failure = PowerFailure {
+        stops: Stops::none(),
+        keep: 0,
+    };
+    match exec(rt, alloc, image, &script, layout, failure, &IdleGate) {
         Ok(_) => Err(Fail::from("a fault")),
         Err(fault) => Ok(fault.to_string(alloc)?),
     }

@@ -71,7 +71,7 @@ returns-in-Ok-run_works-clause-ran g c =
       drawn = c.numbers_are_shown.ensures.drawn;
       generation = c.numbers_are_shown.ensures.generation;
     } in
-    ran_on_lanes laws more c.args.image c.args.layout.now script c.args.stops c.args.keep c.in-Ok-run_works.outcome b works r.after r.flags WorkLeft
+    ran_on_lanes laws more c.args.image c.args.layout.now script c.args.failure.stops c.args.failure.keep c.in-Ok-run_works.outcome b works r.after r.flags WorkLeft
     opened c.in-Ok-open.ensures.lanes c.in-Ok-open.ensures.stops r.ran for_
-    (λ k w low. did_calls b c.args.keep works r.after c.in-Ok-run_works.outcome.image.items r.flags r.ran count calls k w low)
+    (λ k w low. did_calls b c.args.failure.keep works r.after c.in-Ok-run_works.outcome.image.items r.flags r.ran count calls k w low)
     r.order r.ends
