@@ -1,5 +1,6 @@
 -- THE CALLS OF A LANE, one after another: what one call more leaves, and how they end.
 use Rattle.std.proofs.Common.{◌≡◌, ◌≢◌, ℕ, Bool, true, false, All, List, [], ◌∷◌, ◌++◌, length, map, reverse, take, ◌%◌, ◌^◌, Result, Ok, Err, append_assoc, Option, Some, None, refl, sym, ap, ap₂, ◌∙◌, subst, append-nil}
+use Rattle.std.proofs.lemmas.Bool.{both_ways}
 use Rattle.std.proofs.lemmas.List.{length-map, map-append, reverse-append}
 use Rattle.std.proofs.lemmas.List.Elements.{All-nil, All-push}
 use Rattle.std.proofs.Math.Seq.{take-append_seam}
@@ -26,6 +27,7 @@ use Rattle.pm_exec.specs.Answers.{IsAnswer, IsSpent, MayBeKeptOrLost, lines_of, 
 use Rattle.pm_exec.specs.Running.{CallCame, CallsCame, Closed, RestsWith, with_ended}
 use Rattle.pm_exec.specs.declared.answer.Answer.{Answer}
 use Rattle.pm_exec.specs.declared.call_end.CallEnd.TheVariants as ends
+use Rattle.pm_exec.proofs.Spent.{rest_closed}
 
 -- these calls were answered, and the lane, which made none before, is between two calls
 pub record CallsMade {M : Type 0} (at : M → View → Type 0) (lane : Lane M) (names : Names)
@@ -211,13 +213,31 @@ module _ {M : Type 0} (at : M → View → Type 0) (old new : Lane M) (result : 
       → (old.stopped ≡ false → position_of old ≡ resting) → (before e : LaneEnd) → (old.stopped ≡ false → e ≡ before)
       → (old.stopped ≡ true → (v : View) → at new.memory v → e ≡ end.Stopped (v.calls % 2 ^ 64))
       → Closed at old new h before e
-  closed known h stands here before e going stopped =
-      let x = known result old new h stands (λ g. ap (λ (p : Position). p.level) (here g)) did in record {
-        stops = x.0;
-        done = x.1;
-        lane = x.2;
-        ends = x.3;
-        going = going;
-        stopped = λ is. stopped is x.0.view x.0.seen;
-        due = λ is. x.0.due (ap (λ (lane : Lane M). lane.stopped) (same_lane is) ∙ is);
-      }
+  closed known h stands here before e going stopped = by old.stopped refl where
+    level : old.stopped ≡ false → old.level ≡ 0
+    level g = ap (λ (p : Position). p.level) (here g)
+
+    by : (b : Bool) → old.stopped ≡ b → Closed at old new h before e
+    by true s =
+        let x = known result old new h stands level did in record {
+          stops = x.0;
+          done = x.1;
+          lane = x.2;
+          ends = x.3;
+          going = going;
+          stopped = λ is. stopped is x.0.view x.0.seen;
+          due = λ is. x.0.due (ap (λ (lane : Lane M). lane.stopped) (same_lane is) ∙ is);
+          unwritten = λ g. absurd (both_ways old.stopped g s);
+        }
+    by false g =
+        let b = stands.between g (level g) in
+        let c = rest_closed at old new result did g h b.0.standing b.0.rests b.0.between b.1 in record {
+          stops = c.stops;
+          done = c.done;
+          lane = c.lane;
+          ends = c.ends;
+          going = going;
+          stopped = λ s. absurd (both_ways old.stopped g s);
+          due = λ s. absurd (both_ways old.stopped g s);
+          unwritten = λ is. c.unwritten;
+        }

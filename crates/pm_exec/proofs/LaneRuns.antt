@@ -16,7 +16,7 @@ use Rattle.pm_call.specs.Standing.{IsLaneStopped, IsStopDue, StandsWith}
 use Rattle.pm_calls.specs.LaneRooms.{lines_to_run}
 use Rattle.pm_calls.specs.declared.names.Names.{Names}
 use Rattle.pm_calls.specs.declared.room.CallRoom.{CallRoom}
-use Rattle.pm_exec.specs.Answers.{IsAnswer, IsSpent, IsSpentView, lines_of}
+use Rattle.pm_exec.specs.Answers.{IsAnswer, IsSpent, IsSpentView, WritesNoRecord, lines_of}
 use Rattle.pm_exec.specs.Running.{CallsCame, Closed, RestsWith, SpentClosed}
 use Rattle.pm_exec.specs.Works.{DidCalls, WorkLeft, all_answers, lines_left}
 use Rattle.pm_exec.specs.declared.answer.Answer.{Answer}
@@ -64,6 +64,11 @@ module _ {G M : Type 0} (at : M → View → Type 0) (before after : LaneWork G)
   due_when true s k is = ends.due s
   due_when false g k is = absurd (came.unstopped g k (sym (ends.going g) ∙ is))
 
+  unwritten_when : (b : Bool) → ran.stopped ≡ b → ((k : ℕ) → after.end ≢ end.Stopped k)
+      → WritesNoRecord ends.stops.view
+  unwritten_when true s not = absurd (not (ends.stops.view.calls % 2 ^ 64) (ends.stopped s))
+  unwritten_when false g not = ends.unwritten g
+
   pub work_did : DidCalls before after ends.stops.view
   work_did = record {
     same = same;
@@ -79,6 +84,7 @@ module _ {G M : Type 0} (at : M → View → Type 0) (before after : LaneWork G)
     counted = counted_when ran.stopped refl;
     due = due_when ran.stopped refl;
     spent = spent;
+    unwritten = unwritten_when ran.stopped refl;
   }
 
 module _ {G M : Type 0} (at : M → View → Type 0) (before self : LaneWork G) (lane closed : Lane M) (n : ℕ) (result : LaneEnd)
@@ -116,6 +122,7 @@ module _ {G M : Type 0} (at : M → View → Type 0) (before self : LaneWork G) 
           going = λ g. z.1;
           stopped = λ s. absurd (not s);
           due = λ s. absurd (not s);
+          unwritten = λ g. z.0.unwritten;
         },
         λ other so. z.0.spent,
       )

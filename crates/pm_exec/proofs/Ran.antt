@@ -1,7 +1,7 @@
 -- WHAT THE LANES OF A RUN REPORT is a history: it is the plain model's, each lane's part is the first
 -- of its calls in the script, and the image that is left means it; so does each other that may
 -- survive, with the fates that it gives to the calls that were not answered.
-use Rattle.std.proofs.Common.{◌≡◌, ℕ, ◌+◌, ◌<◌, ◌≤◌, ◌==◌, if◌then◌else◌, Bool, true, false, All, Contains, List, [], ◌∷◌, ◌++◌, length, map, get_or, reverse, take, option_to_list, Option, Some, None, refl, sym, ap, ◌∙◌, subst, arith}
+use Rattle.std.proofs.Common.{◌≡◌, ◌≢◌, ℕ, ◌+◌, ◌<◌, ◌≤◌, ◌==◌, if◌then◌else◌, Bool, true, false, All, Contains, List, [], ◌∷◌, ◌++◌, length, map, get_or, reverse, take, option_to_list, Option, Some, None, refl, sym, ap, ◌∙◌, subst, arith}
 use Rattle.std.specs.List.{AllZip}
 use Rattle.std.proofs.lemmas.List.{append-nil, get_or-map, get_or_default, length-map}
 use Rattle.std.proofs.lemmas.List.Elements.{All-cons, All-nil, All-tail}
@@ -29,7 +29,8 @@ use Rattle.pm_calls.specs.declared.names.Names.{Names}
 use Rattle.pm_exec.specs.Entries.{HasNumber, HaveAllNumbers}
 use Rattle.pm_script.specs.Scripts.{of_lane}
 use Rattle.pm_exec.specs.Reports.{AreInOrder, AreWorksFor, HaveLines, IsLaneHistory, IsLined, IsWorkFor, all_entries, ends_of, entries_of, entries_of_lane}
-use Rattle.pm_exec.specs.Runs.{RanOnLanes, Replayed, StandsFor, SurvivesAs, names_of}
+use Rattle.pm_world.specs.Crash.{IsBeingWritten, IsWhole}
+use Rattle.pm_exec.specs.Runs.{RanOnLanes, Replayed, StandsFor, StoppedTearNone, SurvivesAs, names_of}
 use Rattle.pm_exec.specs.declared.outcome.Outcome.{Outcome}
 use Rattle.pm_script.specs.declared.script.Script.{Script}
 use Rattle.pm_exec.specs.Works.{DidCalls, all_answers}
@@ -98,6 +99,31 @@ module _ {G : Type 0} {names : Names} (laws : PoolLaws) (b : Beginning) (keep_nu
       let all = all_answers (work_of k) in
       each_lined all (calls_of_lane k script)
       (did.calls ∙ ap (λ (ls : List (List ScriptLine)). take (length all) ls) for_.lines) (calls_are_lined 0 (of_lane k script))
+
+  -- ---- NO RECORD IS TORN, where none is that a stopped lane was writing
+
+  pub none_torn : (image : List ℕ) → StoppedTearNone ran.closed.last (ends_of after) image
+      → NoRecordTorn b ran.closed.last image
+  none_torn image none k j u low inside writing valid = by (work_of k).end refl where
+    end_is : get_or (ends_of after) k end.Ended ≡ (work_of k).end
+    end_is = get_or-map (λ (x : LaneWork G). x.end) after k w end.Ended
+        (let count = ran.works in omega (arith, count, low))
+
+    unwritten : ((calls : ℕ) → (work_of k).end ≢ end.Stopped calls) → ⊥
+    unwritten not =
+        let lane = ran.each k w low in
+        let own = ran.closed.lanes k lane.view lane.there in
+        let same : ran.closed.last.views k ≡ lane.view =
+        ap ran.closed.last.views (sym lane.lane_is) ∙ own.1 in
+        (dids k low).unwritten not j (subst (λ (v : View). IsBeingWritten v j) same writing)
+
+    by : (e : LaneEnd) → (work_of k).end ≡ e → IsWhole (ran.closed.last.views k) image j
+    by (end.Stopped calls) is = none k calls j (end_is ∙ is) inside writing
+        (λ reads. let clash : None ≡ Some u = sym reads ∙ valid in cc)
+    by end.Ended is = absurd (unwritten (λ calls so.
+        let clash : end.Ended ≡ end.Stopped calls = sym is ∙ so in cc))
+    by (end.Spent line) is = absurd (unwritten (λ calls so.
+        let clash : end.Spent line ≡ end.Stopped calls = sym is ∙ so in cc))
 
   -- ---- AN IMAGE THAT MAY SURVIVE, with the flags that judge it
 
@@ -310,7 +336,8 @@ module _ {G : Type 0} {names : Names} (laws : PoolLaws) (b : Beginning) (keep_nu
       subst (λ (y : LaneWork G). IsAnsweredWork k y) (get_or_default after k w x inside) is
 
   pub survives_as : (entries : List Entry) → AreInOrder after flags_written entries → (origin layout : List ℕ) (opened : IsOpened origin layout b.words.items b.shape b.pool)
-      (other : List ℕ) → MaySurvive b ran.closed.last other → SurvivesAs b ran.closed.last opened.pool entries other
+      (other : List ℕ) → MaySurvive b ran.closed.last other
+      → SurvivesAs ran.closed.last (ends_of after) opened.pool entries other
   survives_as entries order origin layout opened other survives =
       let flags = judged_flags b.shape ran.words ran.undrained other in
       let judged = are_judged b.shape ran.words ran.undrained other in
@@ -321,7 +348,8 @@ module _ {G : Type 0} {names : Names} (laws : PoolLaws) (b : Beginning) (keep_nu
         same = but_fates flags entries;
         is_history = is_history other flags survives judged fates ordered;
         replayed = replayed other flags survives judged fates ordered origin layout opened;
-        stands = λ none. stands other flags survives judged fates ordered origin layout opened none;
+        stands = λ none.
+            stands other flags survives judged fates ordered origin layout opened (none_torn other none);
       }
 
 -- ---- THE RUN, from the opening to the report
@@ -377,8 +405,12 @@ ran_on_lanes {G} laws more origin layout script stops keep out b before after fl
           out.image.items ran.survives ((did k high).spent line ended) entries
           (all_are_there laws b keep script.lines before after out.image.items flags ran works w did out.image.items flags ran.survives ran.judged entries order);
       replayed = replayed laws b keep script.lines before after out.image.items flags ran works w did out.image.items flags ran.survives ran.judged entries order origin layout opened;
-      stands = λ none. stands laws b keep script.lines before after out.image.items flags ran works w did out.image.items flags ran.survives ran.judged entries order origin layout opened none;
+      stands = λ none. stands laws b keep script.lines before after out.image.items flags ran works w did out.image.items flags ran.survives ran.judged entries order origin layout opened
+          (none_torn laws b keep script.lines before after out.image.items flags ran works w did out.image.items
+          (subst (λ (l : List LaneEnd). StoppedTearNone ran.closed.last l out.image.items) ends none));
       survives = ran.survives;
       header = λ w is. more.headers origin layout ran.words out.image.items b ran.back opened ran.closed ran.survives w is;
-      each_choice = survives_as laws b keep script.lines before after out.image.items flags ran works w did entries order origin layout opened;
+      each_choice = subst (λ (l : List LaneEnd). (other : List ℕ) → MaySurvive b ran.closed.last other
+          → SurvivesAs ran.closed.last l opened.pool entries other) (sym ends)
+          (survives_as laws b keep script.lines before after out.image.items flags ran works w did entries order origin layout opened);
     }

@@ -22,6 +22,7 @@ use Rattle.pm_layout.specs.Areas.{greatest_generation}
 use Rattle.pm_view.specs.Log.{is_early}
 use Rattle.pm_view.specs.Steps.Step.{NumberSeen}
 use Rattle.pm_view.specs.View.{Told, View}
+use Rattle.pm_world.specs.Crash.{IsBeingWritten}
 use Rattle.pm_world.specs.LaneFields.{Rests, Standing}
 use Rattle.pm_call.specs.Between.{MayOpen}
 use Rattle.pm_call.specs.Did.{unseen}
@@ -102,6 +103,10 @@ pub record IsSpent {M : Type 0} (at : M → View → Type 0) (lane : Lane M) (h 
   pub between : MayOpen standing
   pub same : history_of standing.view ≡ h
   pub none : HasNoNumber standing.view
+
+-- a lane with this view is writing no record of its log
+abbrev pub WritesNoRecord : View → Type 0
+WritesNoRecord v = (slot : ℕ) → ¬ IsBeingWritten v slot
 
 -- ---- A LINE, and what it came to
 

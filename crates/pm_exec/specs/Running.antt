@@ -18,7 +18,7 @@ use Rattle.pm_crash.specs.Fates.{EndsOpen}
 use Rattle.pm_call.specs.Histories.{Ended, LaneHistory, calls_ended}
 use Rattle.pm_call.specs.Positions.{position_of, resting}
 use Rattle.pm_call.specs.Standing.{IsLaneStopped, IsStopDue, StandsWith}
-use Rattle.pm_exec.specs.Answers.{IsAnswer, IsSpent, IsSpentView, LineCame, MayBeKeptOrLost, lines_of}
+use Rattle.pm_exec.specs.Answers.{IsAnswer, IsSpent, IsSpentView, LineCame, MayBeKeptOrLost, WritesNoRecord, lines_of}
 use Rattle.pm_calls.specs.Calls.{IsWholeFrom, line_operation}
 use Rattle.pm_exec.specs.Lines.{at_level}
 use Rattle.pm_exec.specs.Shown.{GoesOn}
@@ -160,6 +160,7 @@ pub record Closed {M : Type 0} (at : M → View → Type 0) (old new : Lane M) (
   pub going : old.stopped ≡ false → e ≡ before
   pub stopped : old.stopped ≡ true → e ≡ end.Stopped (stops.view.calls % 2 ^ 64)
   pub due : old.stopped ≡ true → IsStopDue stops.view
+  pub unwritten : old.stopped ≡ false → WritesNoRecord stops.view
 
 -- a lane that was spent, with this history, makes no call any more, and has no number still
 pub record SpentClosed {M : Type 0} (at : M → View → Type 0) (old new : Lane M) (h : LaneHistory)
@@ -169,3 +170,4 @@ pub record SpentClosed {M : Type 0} (at : M → View → Type 0) (old new : Lane
   pub lane : stops.view.fixed.lane ≡ h.lane
   pub ends : EndsOpen old.drawn stops.view
   pub spent : IsSpentView stops.view
+  pub unwritten : WritesNoRecord stops.view

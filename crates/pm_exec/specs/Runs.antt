@@ -1,6 +1,6 @@
 -- WHAT A SCRIPT LEAVES that lanes ran on the pool of an image, each in a thread of its own, where power
 -- fails at the end: docs/MODEL.md, "Crash".
-use Rattle.std.specs.Prelude.{◌≡◌, ◌≢◌, ◌⊎◌, ℕ, ◌%◌, ◌^◌, ◌<◌, ◌≤◌, true, false, List, length, map, slice_index, slice_index_or, Option}
+use Rattle.std.specs.Prelude.{◌≡◌, ◌≢◌, ◌⊎◌, ℕ, ◌%◌, ◌^◌, ◌<◌, ◌≤◌, true, false, List, length, map, slice_index, slice_index_or, None, Option}
 use Rattle.std.specs.List.{AllZip}
 use Rattle.std.specs.Option.{option_map_or}
 use mathlib.Core.Option.{some}
@@ -11,9 +11,9 @@ use Rattle.pm_crash.specs.Images.{block_for}
 use Rattle.pm_image.specs.Blocks.{blocks}
 use Rattle.pm_image.specs.Logs.{generation_word, recovered_at}
 use Rattle.pm_image.specs.Means.{IsMeaning}
+use Rattle.pm_image.specs.Steps.{valid_record}
 use Rattle.pm_layout.specs.Chunks.{words_of}
 use Rattle.pm_lanes.specs.Closed.{AllAreBack, BackWith, CameToStop, IsBack, MaySurvive}
-use Rattle.pm_lanes.specs.Closed.{NoRecordTorn}
 use Rattle.pm_lanes.specs.Opens.{IsOpened}
 use Rattle.pm_memory.specs.Keep.{IsKeptImage}
 use Rattle.pm_model.specs.History.{IsHistory, ReplaysEntries, is_answered, without_lost}
@@ -23,9 +23,11 @@ use Rattle.pm_objects.specs.declared.pool.PoolView.{PoolView}
 use Rattle.pm_script.specs.declared.script.Script.{Script}
 use Rattle.pm_shared.specs.Openings.{idle_view, opening_of}
 use Rattle.pm_shared.specs.declared.rule.Beginning.{Beginning}
+use Rattle.pm_text.specs.declared.report.LaneEnd.{LaneEnd}
 use Rattle.pm_text.specs.declared.report.LaneEnd.TheVariants as end
 use Rattle.pm_view.specs.View.{View}
 use Rattle.pm_view.specs.declared.change.Change.{Change}
+use Rattle.pm_world.specs.Crash.{IsBeingWritten, IsWhole}
 use Rattle.pm_world.specs.Memory.{PoolWord}
 use Rattle.pm_world.specs.Opens.{IsTaken}
 use Rattle.pm_world.specs.Runs.{IsRun, LaneStep, Moment}
@@ -63,15 +65,22 @@ pub record IsButFate (e f : Entry) : Type 0 where
   pub answered : is_answered e.fate ≡ true → f ≡ e
   pub unanswered : is_answered e.fate ≡ false → is_answered f.fate ≡ false
 
+-- EACH RECORD THAT A STOPPED LANE WAS WRITING is whole in the image, or reads as none
+abbrev pub StoppedTearNone : Moment → List LaneEnd → List ℕ → Type 0
+StoppedTearNone last ends image = (lane calls slot : ℕ)
+    → slice_index_or ends lane end.Ended ≡ end.Stopped calls → slot < 64
+    → IsBeingWritten (last.views lane) slot → valid_record image lane slot ≢ None
+    → IsWhole (last.views lane) image slot
+
 -- WHATEVER SURVIVES of what was undrained: the entries, with the fates that the image gives to the
 -- calls that were not answered, are a history, and the image stands for it unless a record is torn
-pub record SurvivesAs (b : Beginning) (last : Moment) (pool : PoolView) (entries : List Entry)
+pub record SurvivesAs (last : Moment) (ends : List LaneEnd) (pool : PoolView) (entries : List Entry)
     (image : List ℕ) : Type 0 where
   pub fates : List Entry
   pub same : AllZip IsButFate entries fates
   pub is_history : IsHistory fates
   pub replayed : Replayed pool fates
-  pub stands : NoRecordTorn b last image → StandsFor pool fates image
+  pub stands : StoppedTearNone last ends image → StandsFor pool fates image
 
 -- WHAT LANES DID on the words that were opened: from views that had seen nothing, lawful steps of
 -- theirs, in whatever order they interleaved, led to a last moment, at which the pool's words are
@@ -140,10 +149,10 @@ pub record RanOnLanes (image layout : List ℕ) (script : Script) (stops : List 
   pub spent : (lane line : ℕ) → lane < script.lanes
       → slice_index_or out.lanes.items lane end.Ended ≡ end.Spent line
       → NoNumberIsLeft out.image.items lane out.entries.items
-  -- what it means, with no premise; and, unless a record is torn that a lane was writing, what the
-  -- image means
+  -- what it means, with no premise; and what the image means, unless a record is torn that a stopped
+  -- lane was writing
   pub replayed : Replayed opened.pool out.entries.items
-  pub stands : NoRecordTorn begin_ made.last out.image.items
+  pub stands : StoppedTearNone made.last out.lanes.items out.image.items
       → StandsFor opened.pool out.entries.items out.image.items
   -- the image is one that may survive the power failure, and the same holds of each of those
   pub survives : MaySurvive begin_ made.last out.image.items
@@ -151,4 +160,4 @@ pub record RanOnLanes (image layout : List ℕ) (script : Script) (stops : List 
   pub header : (w : ℕ) → is_header begin_.shape w ≡ true
       → slice_index out.image.items w ≡ slice_index image w
   pub each_choice : (other : List ℕ) → MaySurvive begin_ made.last other
-      → SurvivesAs begin_ made.last opened.pool out.entries.items other
+      → SurvivesAs made.last out.lanes.items opened.pool out.entries.items other

@@ -10,7 +10,7 @@ use Rattle.pm_call.specs.Histories.{Ended, calls_ended}
 use Rattle.pm_call.specs.Standing.{IsStopDue}
 use Rattle.pm_crash.specs.Fates.{EndsOpen}
 use Rattle.pm_exec.specs.Made.{AreToBeMade}
-use Rattle.pm_exec.specs.Answers.{IsAnswer, IsSpentView, MayBeKeptOrLost, lines_of}
+use Rattle.pm_exec.specs.Answers.{IsAnswer, IsSpentView, MayBeKeptOrLost, WritesNoRecord, lines_of}
 use Rattle.pm_exec.specs.declared.answer.Answer.{Answer}
 use Rattle.pm_calls.specs.LaneRooms.{lines_to_run}
 use Rattle.pm_exec.specs.declared.work.LaneWork.{LaneWork}
@@ -40,6 +40,7 @@ pub record DidCalls {G : Type 0} (before after : LaneWork G) (v : View) : Type 0
   pub counted : (calls : ℕ) → after.end ≡ end.Stopped calls → calls ≡ v.calls % 2 ^ 64
   pub due : (calls : ℕ) → after.end ≡ end.Stopped calls → IsStopDue v
   pub spent : (line : ℕ) → after.end ≡ end.Spent line → IsSpentView v
+  pub unwritten : ((calls : ℕ) → after.end ≢ end.Stopped calls) → WritesNoRecord v
 
 -- a work can run whose calls may be made
 abbrev pub CanRunWork : {G : Type 0} → LaneWork G → Type 0
