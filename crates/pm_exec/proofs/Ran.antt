@@ -40,7 +40,7 @@ use Rattle.pm_exec.proofs.Choices.{IsAnsweredWork, are_judged, but_fates, judged
 use Rattle.pm_exec.proofs.Reported.{InOrder, LaneSays, NumberOf, OfSome, are_entries, are_history, are_of_lane, as_long, least_number, number_below}
 use Rattle.pm_exec.proofs.Reports.{LaneLeft, all_answered, as_many, entries_with, first_calls, lane_says}
 use Rattle.pm_exec.proofs.Entries.{all_in, in_all}
-use Rattle.pm_exec.proofs.Stopped.{LaneLaws, has_stopped, lanes_ran, none_left}
+use Rattle.pm_exec.proofs.Stopped.{LaneLaws, has_stopped, lanes_ran, may_survive, none_left}
 use Rattle.pm_exec.proofs.Rising.{Has, all_has, has_all, has_at, place_of}
 
 abbrev IsSomeLine : List ScriptLine → Type 0
@@ -408,9 +408,10 @@ ran_on_lanes {G} laws more origin layout script stops keep out b before after fl
       stands = λ none. stands laws b keep script.lines before after out.image.items flags ran works w did out.image.items flags ran.survives ran.judged entries order origin layout opened
           (none_torn laws b keep script.lines before after out.image.items flags ran works w did out.image.items
           (subst (λ (l : List LaneEnd). StoppedTearNone ran.closed.last l out.image.items) ends none));
-      survives = ran.survives;
       header = λ w is. more.headers origin layout ran.words out.image.items b ran.back opened ran.closed ran.survives w is;
-      each_choice = subst (λ (l : List LaneEnd). (other : List ℕ) → MaySurvive b ran.closed.last other
-          → SurvivesAs ran.closed.last l opened.pool entries other) (sym ends)
-          (survives_as laws b keep script.lines before after out.image.items flags ran works w did entries order origin layout opened);
+      each_choice = λ other left.
+          subst (λ (l : List LaneEnd). SurvivesAs ran.closed.last l opened.pool entries other) (sym ends)
+          (survives_as laws b keep script.lines before after out.image.items flags ran works w did entries order origin layout opened
+          other (may_survive b ran.back ran.words ran.closed ran.undrained ran.back_with
+          (let count = ran.count in omega (arith, count)) other left));
     }

@@ -13,9 +13,10 @@ use Rattle.pm_image.specs.Logs.{generation_word, recovered_at}
 use Rattle.pm_image.specs.Means.{IsMeaning}
 use Rattle.pm_image.specs.Steps.{valid_record}
 use Rattle.pm_layout.specs.Chunks.{words_of}
-use Rattle.pm_lanes.specs.Closed.{AllAreBack, BackWith, CameToStop, IsBack, MaySurvive}
+use Rattle.pm_lanes.specs.Closed.{AllAreBack, BackWith, CameToStop, IsBack}
 use Rattle.pm_lanes.specs.Opens.{IsOpened}
 use Rattle.pm_memory.specs.Keep.{IsKeptImage}
+use Rattle.pm_memory.specs.Survivors.{Survives}
 use Rattle.pm_model.specs.History.{IsHistory, ReplaysEntries, is_answered, without_lost}
 use Rattle.pm_objects.specs.Pool.{IsPool}
 use Rattle.pm_objects.specs.declared.history.Entry.{Entry}
@@ -154,10 +155,9 @@ pub record RanOnLanes (image layout : List ℕ) (script : Script) (stops : List 
   pub replayed : Replayed opened.pool out.entries.items
   pub stands : StoppedTearNone made.last out.lanes.items out.image.items
       → StandsFor opened.pool out.entries.items out.image.items
-  -- the image is one that may survive the power failure, and the same holds of each of those
-  pub survives : MaySurvive begin_ made.last out.image.items
   -- the header's page is as it was, but for the root word
   pub header : (w : ℕ) → is_header begin_.shape w ≡ true
       → slice_index out.image.items w ≡ slice_index image w
-  pub each_choice : (other : List ℕ) → MaySurvive begin_ made.last other
+  -- and of each other image that may survive of the words and of what each lane had undrained
+  pub each_choice : (other : List ℕ) → Survives words undrained other
       → SurvivesAs made.last out.lanes.items opened.pool out.entries.items other
