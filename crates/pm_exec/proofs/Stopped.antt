@@ -100,6 +100,7 @@ module _ (laws : LaneLaws) (b : Beginning) (back : List View) (words : List ℕ)
         (some.2, some.3) in
         inl (subst (CameToStop b) (is_last at.0) at.1))
         (λ (ne : some.0 ≢ k). inr (record {
+          saw = saw;
           other = some.0;
           runs = some.1;
           apart = ne;

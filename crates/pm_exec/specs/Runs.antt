@@ -1,6 +1,6 @@
 -- WHAT A SCRIPT LEAVES that lanes ran on the pool of an image, each in a thread of its own, where power
 -- fails at the end: docs/MODEL.md, "Crash".
-use Rattle.std.specs.Prelude.{◌≡◌, ◌≢◌, ◌⊎◌, ℕ, ◌%◌, ◌^◌, ◌<◌, ◌≤◌, true, false, List, length, map, slice_index, slice_index_or, None, Option}
+use Rattle.std.specs.Prelude.{◌≡◌, ◌≢◌, ◌⊎◌, ℕ, ◌%◌, ◌^◌, ◌<◌, ◌≤◌, true, false, Contains, List, length, map, slice_index, slice_index_or, None, Option}
 use Rattle.std.specs.List.{AllZip}
 use Rattle.std.specs.Option.{option_map_or}
 use mathlib.Core.Option.{some}
@@ -26,6 +26,7 @@ use Rattle.pm_shared.specs.Openings.{idle_view, opening_of}
 use Rattle.pm_shared.specs.declared.rule.Beginning.{Beginning}
 use Rattle.pm_text.specs.declared.report.LaneEnd.{LaneEnd}
 use Rattle.pm_text.specs.declared.report.LaneEnd.TheVariants as end
+use Rattle.pm_view.specs.Steps.Step.{StopSeen}
 use Rattle.pm_view.specs.View.{View}
 use Rattle.pm_view.specs.declared.change.Change.{Change}
 use Rattle.pm_world.specs.Crash.{IsBeingWritten, IsWhole}
@@ -100,8 +101,10 @@ pub record LanesRan (b : Beginning) (back : List View) (words : List ℕ) : Type
   pub lanes : (n : ℕ) (v : View) → get_elem? back n ≡ some v
       → (v.fixed.lane < b.lanes) × (last.views v.fixed.lane ≡ v)
 
--- another lane than this came to its stop number
-pub record AnotherStopped (b : Beginning) (back : List View) (lane : ℕ) : Type 0 where
+-- the lane of this view found the stop word set, which it looks at as it waits for a lock; and
+-- another lane came to its stop number
+pub record AnotherStopped (b : Beginning) (back : List View) (lane : ℕ) (v : View) : Type 0 where
+  pub saw : Contains v.seen (StopSeen true)
   pub other : ℕ
   pub runs : other < b.lanes
   pub apart : other ≢ lane
@@ -113,7 +116,7 @@ pub record AnotherStopped (b : Beginning) (back : List View) (lane : ℕ) : Type
 pub record HasStopped (b : Beginning) (back : List View) (lane calls : ℕ) : Type 0 where
   pub last : IsBack back lane
   pub count : calls ≡ last.view.calls % 2 ^ 64
-  pub due : CameToStop b last.view ⊎ AnotherStopped b back lane
+  pub due : CameToStop b last.view ⊎ AnotherStopped b back lane last.view
 
 -- NO NUMBER IS LEFT for a call of the lane: its generation in the image is the greatest, or as many
 -- calls have numbers as there are
