@@ -28,12 +28,13 @@ pub record Told : Type 0 where
   pub reply : Option Value
 
 -- a call that took a number: an entry of the history, with what its lane had taken, found and
--- logged as it took it
+-- logged as it took it, and what its steps had told, the latest first
 pub record Numbered : Type 0 where
   pub number : ℕ
   pub call : List Told
   pub claims : List Claim
   pub log : Log
+  pub seen : List Step
 
 pub record View : Type 0 where
   pub fixed : Constants
@@ -57,7 +58,7 @@ pub record View : Type 0 where
 
 -- the entry of a lane of this view that takes a number: so many were drawn before it
 abbrev pub entry_drawn : ℕ → View → Numbered
-entry_drawn n v = record { number = suc n; call = v.call; claims = v.claims; log = v.log }
+entry_drawn n v = record { number = suc n; call = v.call; claims = v.claims; log = v.log; seen = v.seen }
 
 -- one lane runs
 abbrev pub runs_one : View → Bool
