@@ -1,14 +1,21 @@
 -- FROM A CALL'S EFFECT TO ITS FACT: what a crate of calls has to show of one call, block by block.
-use Rattle.std.specs.Prelude.{◌≡◌, ℕ, ◌<◌, true, false, List, [], ◌∷◌, Some}
+use Rattle.std.specs.Prelude.{◌≡◌, ℕ, ◌+◌, ◌*◌, ◌<◌, true, false, Contains, List, [], ◌∷◌, Option, None, Some}
 use Rattle.pm_header.specs.declared.header.Header.{Header}
+use Rattle.pm_objects.specs.declared.calls.Operation.{Operation}
+use Rattle.pm_objects.specs.declared.calls.Want.{Want}
+use Rattle.pm_objects.specs.declared.history.Value.TheVariants.{Refused}
 use Rattle.pm_objects.specs.declared.pool.PoolView.{PoolView}
+use Rattle.pm_objects.specs.declared.refusal.Refusal.TheVariants.{Busy}
 use Rattle.pm_model.specs.CallStep.{CallRun, CallStep, State}
+use Rattle.pm_model.specs.Inside.{wants_of}
 use Rattle.pm_model.specs.Items.{Item, Items, plain_pool}
 use Rattle.pm_model.specs.Pending.{Pending}
 use Rattle.pm_view.specs.Places.{Block, Place, RootWord}
+use Rattle.pm_view.specs.Steps.{Step}
 use Rattle.pm_view.specs.Steps.Step.{Draw}
-use Rattle.pm_view.specs.View.{View, Constants, Numbered, idle}
+use Rattle.pm_view.specs.View.{View, Constants, Numbered, Told, idle}
 use Rattle.pm_view.specs.Views.{after}
+use Rattle.pm_world.specs.Causes.{was_refused}
 use Rattle.pm_world.specs.Memory.{Memory}
 use Rattle.pm_world.specs.World.{Opening, Views, Past, World}
 use Rattle.pm_world.specs.States.{State as Bits, Diff, after_diff, diff, given}
@@ -74,6 +81,32 @@ QuietCallsAreSteps = (v : View) (class : ℕ → ℕ) (s : Bits) (header : Heade
     (record { pool = plain_pool pool; pending = pending_then v pending })
     → StepsFrom v class s header pool pending
 
+-- ---- A CALL THAT ENDED AS Busy
+
+-- the last operation of some
+abbrev pub last_or : Told → Option Told → Option Told
+last_or t None = Some t
+last_or t (Some later) = Some later
+
+abbrev pub last_of : List Told → Option Told
+last_of [] = None
+last_of (t ∷ told) = last_or t (last_of told)
+
+-- the lock of an object that is wanted was tried, and the try was refused. The lock is that of the
+-- line before the object
+pub record WasTried (wants : List Want) (seen : List Step) : Type 0 where
+  pub want : Want
+  pub among : Contains wants want
+  pub line : ℕ
+  pub before : want.id.off ≡ 64 * line + 64
+  pub refused : was_refused line seen ≡ true
+
+-- where the last operation of a call was told as Busy, a lock that it wants was tried so in the call
+abbrev pub BusyWasTried : List Told → List Step → Type 0
+BusyWasTried call seen = (op : Operation)
+    → last_of call ≡ Some (record { operation = op; reply = Some (Refused Busy) })
+    → WasTried (wants_of op) seen
+
 -- ---- THE ENTRIES OF A LANE HAVE THEIR FACTS
 
 -- an entry with those before it, as a view: what its call rested on, changed and told
@@ -87,17 +120,25 @@ view_drawn fixed e earlier = record (idle fixed e.log.generation) {
 
 unfoldable pub EntriesHaveFacts : Constants → List Numbered → Type 0
 EntriesHaveFacts fixed [] = Unit {0}
-EntriesHaveFacts fixed (e ∷ earlier) = Fact (view_drawn fixed e earlier) × EntriesHaveFacts fixed earlier
+EntriesHaveFacts fixed (e ∷ earlier) =
+    (Fact (view_drawn fixed e earlier) × BusyWasTried e.call e.seen) × EntriesHaveFacts fixed earlier
 
 abbrev pub HaveFacts : View → Type 0
 HaveFacts v = EntriesHaveFacts v.fixed v.entries
 
 -- A CALL THAT HAS ITS FACT as it takes its number leaves a lane whose entries have theirs
 abbrev pub DrawsKeepFacts : Type 0
-DrawsKeepFacts = (v : View) (n : ℕ) → Fact v → HaveFacts v → HaveFacts (after v (Draw n))
+DrawsKeepFacts = (v : View) (n : ℕ) → Fact v → BusyWasTried v.call v.seen → HaveFacts v
+    → HaveFacts (after v (Draw n))
 
 -- SO THE CALLS OF A HISTORY HAVE THEIR FACTS where the entries of each lane's view do
 abbrev pub HistoriesHaveFacts : Type 0
 HistoriesHaveFacts = (o : Opening) (id : ℕ) (mem : Memory) (views : Views) (g : Past)
     → World o mem views g → Footprints o id views g
     → ((k : ℕ) → k < o.lanes → HaveFacts (views k)) → HasFacts g
+
+-- and those of its calls that ended as Busy had tried a lock
+abbrev pub HistoriesTriedLocks : Type 0
+HistoriesTriedLocks = (o : Opening) (mem : Memory) (views : Views) (g : Past)
+    → World o mem views g → ((k : ℕ) → k < o.lanes → HaveFacts (views k))
+    → (n : ℕ) → n < g.length → BusyWasTried (g.drew n).call (g.drew n).seen

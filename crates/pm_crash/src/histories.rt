@@ -1,4 +1,4 @@
-ghost use Rattle.pm_crash.specs.Facts.{DrawsKeepFacts, HistoriesHaveFacts};
+ghost use Rattle.pm_crash.specs.Facts.{DrawsKeepFacts, HistoriesHaveFacts, HistoriesTriedLocks};
 ghost use Rattle.pm_crash.specs.Facts.{EffectsAreFacts, EffectsAreSteps, QuietCallsAreSteps};
 ghost use Rattle.pm_crash.specs.Laws.{CallIsStep, EverySetMayBeKept, HistoryHolds};
 
@@ -28,8 +28,10 @@ pub fn effects_are_facts()
 
 /// A law: a lane whose call has its fact as it takes its number, and whose entries have theirs, has
 /// entries that all have theirs then. Of a world where the entries of each lane have their facts, each
-/// call of the history has its own. No code runs.
+/// call of the history has its own; and one whose last operation was told as `Busy` had tried a lock
+/// that this operation wants, and the try was refused. No code runs.
 pub fn entries_have_facts()
     ensures draws { DrawsKeepFacts }
     ensures histories { HistoriesHaveFacts }
+    ensures tried { HistoriesTriedLocks }
 {}

@@ -122,7 +122,7 @@ module _ (b : Beginning) (back : List View) (words : List ℕ) (closed : Closes 
       (λ k. subst AwaitsOne (sym (ap (λ (vs : Views). vs k) closed.run.begins.views_are)) tt)
 
   -- what is so of each view that came back is so of each lane's view
-  of_lanes : (P : View → Type 0) → AllAreBack b.lanes back
+  pub of_lanes : (P : View → Type 0) → AllAreBack b.lanes back
       → ((n : ℕ) (v : View) → get_elem? back n ≡ some v → P v)
       → (k : ℕ) → k < b.lanes → P (last.views k)
   of_lanes P all each k l =

@@ -1,4 +1,5 @@
 mod Closed
+mod BusyCalls
 mod Names
 mod Recovered
 mod Causes

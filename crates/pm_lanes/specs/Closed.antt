@@ -1,17 +1,22 @@
 -- WHAT A POOL IS LEFT AS by lanes that ran, came back, and whose table closed, where power fails
 -- then: docs/MODEL.md, "Crash".
-use Rattle.std.specs.Prelude.{◌≡◌, ◌≢◌, ℕ, suc, ◌<◌, ◌≤◌, All, Bool, true, Contains, List, []}
+use Rattle.std.specs.Prelude.{◌≡◌, ◌≢◌, ℕ, suc, ◌+◌, ◌*◌, ◌<◌, ◌≤◌, All, Bool, true, Contains, List, []}
 use Rattle.std.specs.Prelude.{length, slice_index, slice_index_or, None, Option, Some}
 use mathlib.Core.Option.{some}
 use lib.ListN.{get_elem?}
-use Rattle.pm_crash.specs.Facts.{HaveFacts}
+use Rattle.pm_crash.specs.Facts.{HaveFacts, last_of}
 use Rattle.pm_crash.specs.Fates.{EndsOpen, is_judged_kept}
 use Rattle.pm_crash.specs.Images.{MeansReplay}
 use Rattle.pm_crash.specs.Replayed.{HasFacts, Replay, kept_calls, kept_pending}
 use Rattle.pm_image.specs.Logs.{generation_word}
 use Rattle.pm_memory.specs.Changes.{AreUndrained}
 use Rattle.pm_memory.specs.Keep.{IsKeptImage}
+use Rattle.pm_model.specs.Inside.{wants_of}
+use Rattle.pm_objects.specs.declared.calls.Operation.{Operation}
+use Rattle.pm_objects.specs.declared.calls.Want.{Want}
+use Rattle.pm_objects.specs.declared.history.Value.TheVariants.{Refused}
 use Rattle.pm_objects.specs.declared.pool.PoolView.{PoolView}
+use Rattle.pm_objects.specs.declared.refusal.Refusal.TheVariants.{Busy}
 use Rattle.pm_shared.specs.Closings.{Closes}
 use Rattle.pm_shared.specs.declared.rule.Beginning.{Beginning}
 use Rattle.pm_shared.specs.Openings.{opening_of}
@@ -21,6 +26,7 @@ use Rattle.pm_view.specs.Steps.Step.{NumberSeen, StopSeen}
 use Rattle.pm_view.specs.declared.change.Change.{Change}
 use Rattle.pm_view.specs.Log.{is_early}
 use Rattle.pm_view.specs.View.{Numbered, View, entry_drawn}
+use Rattle.pm_world.specs.Causes.{BusyCause, drawn_by}
 use Rattle.pm_world.specs.Crash.{NoneTorn, Survives, is_kept}
 use Rattle.pm_world.specs.Runs.{Moment}
 use Rattle.pm_world.specs.World.{Past, is_header}
@@ -157,6 +163,26 @@ AnsweredCallsAreKept = (b : Beginning) (back : List View) (words image : List �
     → is_early v.log.phase ≡ true → (call : ℕ) → call < closed.last.past.length
     → (closed.last.past.drew call).fixed.lane ≡ v.fixed.lane
     → keeps_call b closed.last image call ≡ true
+
+-- ---- CALLS THAT ENDED AS Busy
+
+-- THE CAUSE OF Busy in call `call` of the history, whose last operation was this: it wants the lock
+-- of an object, that of the line before it; and another lane's call had this lock at the same time
+pub record HasBusyCause (b : Beginning) (last : Moment) (call : ℕ) (op : Operation) : Type 0 where
+  pub want : Want
+  pub among : Contains (wants_of op) want
+  pub line : ℕ
+  pub before : want.id.off ≡ 64 * line + 64
+  pub cause : BusyCause (opening_of b) last.views last.past (drawn_by last.past call) call line
+
+-- EACH CALL WHOSE LAST OPERATION WAS TOLD AS Busy has its cause
+abbrev pub BusyCallsHaveCauses : Type 0
+BusyCallsHaveCauses = (b : Beginning) (back : List View) (words : List ℕ) (call : ℕ)
+    (op : Operation) → (closed : Closes b back words) → AllAreBack b.lanes back
+    → AllHaveFacts back → call < closed.last.past.length
+    → last_of (closed.last.past.drew call).call
+    ≡ Some (record { operation = op; reply = Some (Refused Busy) })
+    → HasBusyCause b closed.last call op
 
 -- ---- THE FATES OF CALLS
 

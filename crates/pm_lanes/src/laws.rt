@@ -1,5 +1,5 @@
 ghost use Rattle.pm_lanes.specs.Closed.{AnsweredCallsAreKept, ClosedPoolsMeanTheirHistories};
-ghost use Rattle.pm_lanes.specs.Closed.{ClosedPoolsHaveFacts, ClosedPoolsReplay};
+ghost use Rattle.pm_lanes.specs.Closed.{BusyCallsHaveCauses, ClosedPoolsHaveFacts, ClosedPoolsReplay};
 ghost use Rattle.pm_lanes.specs.Closed.{HeadersAreKept, KeptImagesSurvive};
 ghost use Rattle.pm_lanes.specs.Closed.{EntriesAreCalls, OpenCallsAreJudged, OtherCallsAreKept};
 ghost use Rattle.pm_lanes.specs.Closed.{GenerationsAreKept, SeenNumbersAreDrawn};
@@ -51,4 +51,11 @@ pub fn headers_are_kept()
 pub fn numbers_are_shown()
     ensures drawn { SeenNumbersAreDrawn }
     ensures generation { GenerationsAreKept }
+{}
+
+/// A law: of a table that closed, whose lanes all came back, each with facts for its calls, a call
+/// whose last operation was told as `Busy` has its cause: this operation wants the lock of an object
+/// that a call of another lane had at the same time. No code runs.
+pub fn busy_calls_have_causes()
+    ensures { BusyCallsHaveCauses }
 {}

@@ -6,3 +6,6 @@ returns-clause-draws _ = entries.draws_keep_facts
 
 pub returns-clause-histories : goal.returns-clause-histories
 returns-clause-histories _ = entries.histories_have_facts
+
+pub returns-clause-tried : goal.returns-clause-tried
+returns-clause-tried _ = entries.histories_tried_locks
