@@ -55,6 +55,7 @@ module _ {M : Type 0} (at : M → View → Type 0) (old : Lane M) where
       (λ s works stands. (
         (leads_cancel s stands).unrefused,
         record {
+          working = stands.working;
           ready = (leads_cancel s stands).ready;
           stops = ran_err (at mid) s.view persists_all (tells Cancel None) stopped
               (leads_cancel s stands).ready

@@ -32,6 +32,9 @@ use Rattle.pm_call.proofs.StoppedLanes.{facts_on_the_way, may_open_facts, wait_i
 use Rattle.pm_call.proofs.StoppedNumbers.{ends_open, ends_untold, may_open_ends, publishes_unended}
 use Rattle.pm_call.proofs.SilentPlans.{told_then}
 use Rattle.pm_call.proofs.ToldLooks.{gives_told, looks_told, saw_history, taken_told, told_history, told_open, tried_told, wait_told}
+use Rattle.pm_call.specs.Unwritten.{WritesNoRecord}
+use Rattle.pm_call.proofs.UnwrittenRests.{may_open_unwritten, wait_unwritten}
+use Rattle.pm_call.proofs.UnwrittenStops.{cancels_unwritten}
 use Rattle.pm_call.proofs.ToldPlans.{cancels_tell, lone_calls_tell, publishes_tell, tells_history}
 use Rattle.pm_action.specs.Actions.{Asked, AskedAs, AskedSo}
 use Rattle.pm_action.specs.Calls.{ByLevel, IfOutside}
@@ -82,6 +85,7 @@ module _ {M : Type 0} (at : M → View → Type 0) (old new : Lane M) (h : LaneH
   cancel_turns s (Err refusal.Stopped) none same c = cut_stands at new h s Cancel cancels c.1 same
       (cancels_tell.on_the_way s.view c.1.stops.made none ∙ ap (λ (x : LaneHistory). x.done) same)
       (cancels_tell.unnumbered s.view c.1.stops.made none)
+      (λ _. cancels_unwritten s.view c.1.working c.1.stops.made)
   cancel_turns s (Err r) none same c = absurd c
 
   pub cancelled_turns : (result : Result (Unit {0}) Refusal) → StandsWith at old h
@@ -219,7 +223,7 @@ module _ {M : Type 0} (at : M → View → Type 0) (old new : Lane M) (h : LaneH
       ∙ λ i. (told_by (sym c.numbered.drawn i) Publish None (same i)).done)
       (ends_open new.drawn (after_all t.view (take c.stops.made plan)) c.numbered.drawn
       (publishes_unended (words_pending t) c.found c.number t.view none c.ready c.stops.made
-      c.stops.fewer))
+      c.stops.fewer)) (λ n e. refl) (λ _. c.unwritten)
 
   -- its locks were taken, and words looked at: the call is open as it was
   locked_open : (s : Standing) (P : Standing → Type 0) → s.view.number ≡ None
@@ -247,7 +251,8 @@ module _ {M : Type 0} (at : M → View → Type 0) (old new : Lane M) (h : LaneH
       (wait_is_stopped at new s (wants_to_set s) is.facts w) told.fixed same
       (ap (λ (x : LaneHistory). x.done) (told_history s.view _ h told same)
       ∙ sym (ap (λ d. (told_by d Publish None h).done) drawn))
-      (ends_untold new.drawn _ drawn (told_open s.view _ told is.number.none)))
+      (ends_untold new.drawn _ drawn (told_open s.view _ told is.number.none))
+      (λ n e. refl) (λ _. wait_unwritten at new s (wants_to_set s) is.working w))
       (λ (a : AfterLocks s (WordsSetAs at new (Err refusal.Stopped))).
       let l = locked_open s _ is.number.none same a in
       cut_publish_turns (moved (with_locks (locks_with s (wants_to_set s)) s) a.holds.view)
@@ -296,14 +301,17 @@ module _ {M : Type 0} (at : M → View → Type 0) (old new : Lane M) (h : LaneH
       → (old.stopped ≡ false → old.level ≡ 0) → Finished at old new result
       → (x : IsLaneStopped at new) × (calls_ended x.view ≡ h.done)
       × (x.view.fixed.lane ≡ h.lane) × EndsOpen old.drawn x.view
+      × (h.adding ≡ false → WritesNoRecord x.view)
   unfolding Finished
   finished_has_facts result stands outside finished = by old.stopped refl finished where
     by : (stopped : Bool) → old.stopped ≡ stopped → FinishedSo stopped at old new result
         → (x : IsLaneStopped at new) × (calls_ended x.view ≡ h.done)
         × (x.view.fixed.lane ≡ h.lane) × EndsOpen old.drawn x.view
+        × (h.adding ≡ false → WritesNoRecord x.view)
     by true is f = subst
         (λ (lane : Lane M). (x : IsLaneStopped at lane) × (calls_ended x.view ≡ h.done)
-        × (x.view.fixed.lane ≡ h.lane) × EndsOpen old.drawn x.view)
+        × (x.view.fixed.lane ≡ h.lane) × EndsOpen old.drawn x.view
+        × (h.adding ≡ false → WritesNoRecord x.view))
         (sym f.1) (stands.stopped is)
     by false is f =
         let here = stands.between is (outside is) in (
@@ -319,6 +327,7 @@ module _ {M : Type 0} (at : M → View → Type 0) (old new : Lane M) (h : LaneH
           subst (λ d. EndsOpen d here.0.standing.view)
               (sym (ap (λ (g : Fields). g.drawn) here.0.rests.fields))
               (may_open_ends here.0.standing here.0.between),
+          λ _. may_open_unwritten here.0.standing here.0.between,
         )
 
 -- ---- SO IT STANDS, with whatever history

@@ -1,5 +1,6 @@
 -- What adding a range makes of a lane, from how the snapshot and the telling leave its memory.
 use Rattle.std.proofs.Common.{◌≡◌, ℕ, ◌+◌, ◌^◌, ◌<◌, true, false, List, refl, sym, ap, ◌∙◌, subst, None, Result, Ok, Err}
+use Rattle.std.proofs.lemmas.Bool.{both_ways}
 use Rattle.pm_memory.specs.Runs.{Made, Stops}
 use Rattle.pm_memory.specs.declared.lane_mem.Stopped.{Stopped}
 use Rattle.pm_objects.specs.declared.calls.Operation.TheVariants.{AddRange}
@@ -114,12 +115,16 @@ module _ {M : Type 0} (at : M → View → Type 0) (old : Lane M) (id : Oid) (of
       by : (why : Refusal) → SnapshottedAs at (id.off + off) len s.view old mid (Err why) → Came at mid (AddRange id off len) (λ v. adds id off len) (HasCounted id off len) (Err why) s
       by refusal.Stopped t = let law = ranges_may_be_added s id off len stands holds t.0 in (
         law.unrefused,
-        record {
-          ready = law.ready;
-          stops = stops_told (at mid.memory) s.view id off len law.ready t.1;
-          fields = let e = t.2 ∙ works.fields in e ∙ λ i. record (at_work s) { generation = (sym e i).generation; records = (sym e i).records; stopped = false };
-          facts = law.stands.facts;
-        },
+        (
+          record {
+            working = stands.working;
+            ready = law.ready;
+            stops = stops_told (at mid.memory) s.view id off len law.ready t.1;
+            fields = let e = t.2 ∙ works.fields in e ∙ λ i. record (at_work s) { generation = (sym e i).generation; records = (sym e i).records; stopped = false };
+            facts = law.stands.facts;
+          },
+          λ e. absurd (both_ways true e refl),
+        ),
       )
       by refusal.LogFull t = (overfull s stands id off len holds t.0, subst (λ (lane : Lane M). Works at lane s) (sym t.1) works, stands)
       by r t = absurd t

@@ -13,9 +13,10 @@ use Rattle.pm_crash.specs.Looked.{items_seen, pool_seen}
 use Rattle.pm_crash.specs.Sim.{tx_with}
 use Rattle.pm_plan.specs.Plans.{Plan}
 use Rattle.pm_call.specs.At.{At}
-use Rattle.pm_call.specs.Did.{Acted, After, Came, Checked, Cut, Did, DidSo, Ends, Found, GaveUp, IsAt, IsAtSo, IsRefused, Tried, next, unseen, work_refusal}
+use Rattle.pm_call.specs.Did.{Acted, After, Came, Checked, Cut, Did, DidSo, Ends, Found, GaveUp, IsAt, IsAtSo, IsRefused, Tried, WasUnwritten, next, unseen, work_refusal}
 use Rattle.pm_call.specs.GivenUp.{GivesUp, GivesUpFor, IsAtBut, Refuses}
 use Rattle.pm_call.specs.Held.{Looks}
+use Rattle.pm_call.specs.Unwritten.{is_adding}
 use Rattle.pm_call.proofs.Ending.{refusal_traced}
 
 -- ---- looks, and then more of them
@@ -76,7 +77,7 @@ module _ {M : Type 0} (at : M → View → Type 0) (old mid new : Lane M) (op : 
 
   -- what was tried is refused
   gives_for : is_inside op ≡ true → is_action op ≡ false → (s : Standing) (r : Refusal) → IsRefused s op r → GivesUp s op (Some (Refused r))
-  gives_for inside plain s r refused = inl (record { inside = inside; plain = plain; seen = unseen; root = None; looks = refused.looks; refusal = r; first = refused.first; replied = refl })
+  gives_for inside plain s r refused = inl (record { inside = inside; plain = plain; seen = unseen; root = None; looks = refused.looks; refusal = r; first = refused.first; replied = refl; busy = λ e. absurd (both_ways false refl e) })
 
   refused_here : {T : Type 0} (plan : View → Plan) (Is : View → T → Type 0) (s : Standing) (r : Refusal) → is_inside op ≡ true → is_action op ≡ false → r ≢ refusal.Stopped
       → Came {T = T} at mid op plan Is (Err r) s → IsAtBut at mid (λ t. GivesUp t op (Some (Refused r)))
@@ -94,8 +95,12 @@ module _ {M : Type 0} (at : M → View → Type 0) (old mid new : Lane M) (op : 
   did_ok plan Is x none tried = subst (λ w. DidSo w at old new op plan Is (Ok x)) (sym none)
       (λ s works is. after_so s (Came at new op plan Is (Ok x)) (Ends at new op plan Is (Ok x)) (λ t c. c) (tried s works is))
 
-  cut_here : (s : Standing) (plan : Plan) → Cut at mid s plan false → new ≡ record mid { stopped = true } → Cut at new s plan true
-  cut_here s plan c same = subst (λ (lane : Lane M). Cut at lane s plan true) (sym same) (record { ready = c.ready; stops = c.stops; fields = ap (λ (f : Fields). record f { stopped = true }) c.fields; facts = c.facts })
+  cut_here : (s : Standing) (plan : Plan) → ((c : Cut at mid s plan false) × (is_adding op ≡ false → WasUnwritten c)) → new ≡ record mid { stopped = true }
+      → (c : Cut at new s plan true) × (is_adding op ≡ false → WasUnwritten c)
+  cut_here s plan cut same =
+      let c : Cut at mid s plan false = cut.0 in
+      subst (λ (lane : Lane M). (d : Cut at lane s plan true) × (is_adding op ≡ false → WasUnwritten d)) (sym same)
+      (record { working = c.working; ready = c.ready; stops = c.stops; fields = ap (λ (f : Fields). record f { stopped = true }) c.fields; facts = c.facts }, cut.1)
 
   ends_here : {T : Type 0} (plan : View → Plan) (Is : View → T → Type 0) (s : Standing) (why answer : Refusal) → IsRefused s op why → GivesUpFor at new op why answer s → Ends {T = T} at new op plan Is (Err answer) s
   ends_here plan Is s why refusal.Stopped refused gives = inr (why, gives.0, refused, gives.1)

@@ -1,5 +1,5 @@
 -- What committing the outermost level leaves of its lane, from how its parts leave it.
-use Rattle.std.proofs.Common.{◌≡◌, ℕ, suc, ◌+◌, false, List, [], refl, sym, ap, ◌∙◌, subst, arith, rules, None, Result, Ok, Err, IsErr}
+use Rattle.std.proofs.Common.{◌≡◌, ℕ, suc, ◌+◌, false, List, [], refl, sym, ap, ◌∙◌, subst, arith, rules, None, Result, Ok, Err, IsErr, take}
 use Rattle.pm_memory.specs.Runs.{Stops}
 use Rattle.pm_memory.specs.declared.lane_mem.Stopped.{Stopped}
 use Rattle.pm_model.specs.declared.stage.Stage.TheVariants as stage
@@ -26,6 +26,8 @@ use Rattle.pm_call.proofs.LoggedCommits.{can_finish, outermost_levels_may_be_com
 use Rattle.pm_call.proofs.OverCalls.{over_as}
 use Rattle.pm_call.proofs.RollbackLanes.{keeps_at, ran_err, ran_then}
 use Rattle.pm_call.proofs.SilentPlans.{silent_persists}
+use Rattle.pm_call.proofs.Slotless.{unslotted_unwritten}
+use Rattle.pm_call.proofs.SlotlessPlans.{commits_unslotted}
 use Rattle.pm_call.proofs.TakenBack.{persisted_log}
 
 -- the lane's fields after it, from those before it
@@ -113,6 +115,9 @@ module _ {M : Type 0} (at : M → View → Type 0) (old : Lane M) where
       numbered = cut.seen.1.numbered (tells s works is);
       fields = cut_fields new s works cut.seen.1.same;
       facts = law.over.facts;
+      unwritten = unslotted_unwritten
+          (after_all s.view (take cut.made (commits s.entries found n s.view)))
+          (commits_unslotted s.view s.entries found n cut.made is.working is.room law.ready);
     }
 
     pub persist_cut : (stopped : Stopped) (result : Result (Unit {0}) Stopped) → IsErr result → Runs {T = Unit {0}} (at old.memory) (at mem) persists_all (Err stopped) → Committed at old (record old { memory = mem }) result

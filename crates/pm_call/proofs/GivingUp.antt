@@ -9,7 +9,9 @@ use Rattle.pm_model.specs.Shown.{aborts, is_abort}
 use Rattle.pm_model.specs.Transaction.{is_working}
 use Rattle.pm_objects.specs.declared.calls.Operation.{Operation}
 use Rattle.pm_objects.specs.declared.history.Value.{Value}
+use Rattle.pm_objects.specs.declared.history.Value.TheVariants.{Refused}
 use Rattle.pm_objects.specs.declared.ids.Oid.{Oid}
+use Rattle.pm_objects.specs.declared.refusal.Refusal.TheVariants.{Busy}
 use Rattle.pm_view.specs.Claims.{class, header_in}
 use Rattle.pm_view.specs.Log.{Open, new_log}
 use Rattle.pm_view.specs.Places.{Place, InRun, InHuge, Descr, RootWord, Block, Small, Big, Root, word_of}
@@ -21,13 +23,13 @@ use Rattle.pm_world.specs.Lawful.{MayDraw}
 use Rattle.pm_world.specs.Sights.{is_pictured}
 use Rattle.pm_world.specs.declared.lane.HeldLock.{HeldLock}
 use Rattle.pm_crash.specs.Calls.{Fact, pending_with}
-use Rattle.pm_crash.specs.Facts.{HaveFacts}
+use Rattle.pm_crash.specs.Facts.{BusyWasTried, HaveFacts}
 use Rattle.pm_crash.specs.Looked.{word_place, words_in}
 use Rattle.pm_crash.specs.Sim.{Sim}
 use Rattle.pm_crash.specs.SimFacts.{IsOver}
 use Rattle.pm_model.specs.Refusals.{Seen}
 use Rattle.pm_crash.specs.SimOps.{RollsBack, IsAborted, IsRefusedBy}
-use Rattle.pm_crash.proofs.EntryFacts.{draws_keep_facts}
+use Rattle.pm_crash.proofs.EntryFacts.{draws_keep_facts, told_busy}
 use Rattle.pm_crash.proofs.Rollbacks.{sim_rolls_back}
 use Rattle.pm_crash.proofs.SimFacts.{calls_without_log, no_entries, without_entries_have_facts}
 use Rattle.pm_crash.proofs.Simulation.{no_turn}
@@ -39,6 +41,7 @@ use Rattle.pm_call.specs.Did as did
 use Rattle.pm_call.specs.Did.{unseen}
 use Rattle.pm_call.specs.GivenUp.{GivesUp, IsAbort, IsRefusedWith, LeavesOver, TransactionsMayBeGivenUp, with_locks}
 use Rattle.pm_call.specs.Plans.{gives_up, takes_back, tells}
+use Rattle.pm_call.proofs.BusyTests.{busy_was_seen, told_refusal}
 use Rattle.pm_call.proofs.Ending.{abort_unrefused, begun_still, refusal_traced, refused_actions, refused_pending}
 use Rattle.pm_call.proofs.Frames.{noting}
 use Rattle.pm_call.proofs.RolledBack.{is_changed, rolls_back}
@@ -152,8 +155,16 @@ module _ (s : Standing) (locks : List HeldLock) (is : IsAtWith s s.level locks) 
     entries = inl refl;
   }
 
+  -- a lock was tried in it, where it is told as Busy
+  tried : BusyWasTried told.call told.seen
+  tried = told_busy v.call (record { operation = op; reply = reply }) told.seen (λ e. ⊎_elim
+      (λ (r : IsRefusedWith s op reply). r.busy (busy_was_seen r.seen (Rattle.pm_crash.specs.Sim.tx_with v (Rattle.pm_crash.specs.Looked.pool_seen v r.root) (Rattle.pm_crash.specs.Looked.items_seen v)) op
+      (r.first ∙ ap (λ x. Some x) (told_refusal r.refusal Busy (sym r.replied ∙ e)))))
+      (λ (a : IsAbort op reply). absurd (let z : None ≡ Some (Refused Busy) = sym a.replied ∙ e in cc))
+      gives)
+
   facts : (n : ℕ) → HaveFacts (done n)
-  facts n = draws_keep_facts told n fact is.facts
+  facts n = draws_keep_facts told n fact tried is.facts
 
   -- ---- and the lane holds what it held
   pub actions_same : actions_told op reply v.actions ≡ v.actions

@@ -35,6 +35,7 @@ use Rattle.pm_call.proofs.RangeRefusals.{held_so, range_refusals, ranges_are_loo
 use Rattle.pm_call.proofs.RangeWords.{knows_range}
 use Rattle.pm_call.proofs.RangeWrites.{LeadsPut, SaysPut, leads_put}
 use Rattle.pm_call.proofs.Storing as storing
+use Rattle.pm_call.proofs.UnwrittenStops.{increments_unwritten}
 use Rattle.pm_call.proofs.WriteLanes.{put_cut, put_done, put_ready, put_tell}
 
 -- ---- the eight bytes of a number, as the code spells them and as the model does
@@ -263,13 +264,13 @@ module _ {M : Type 0} (at : M → View → Type 0) (old mid : Lane M) (id : Oid)
   has h = (read h.standing h.works h.stands h.holds).holds
 
   pub sum_ready : Here → IsReady (at mid.memory) (writes_words (id.off + off) bytes)
-  sum_ready h = put_ready at mid (then h) (has h).2 place bytes (Increment id off by)
+  sum_ready h = put_ready at mid (then h) (has h).2 (has h).3.working place bytes (Increment id off by)
       (Some (Number number)) (leads (then h) (has h))
 
   pub sum_tell : (memory : M) → Here
       → Runs {T = Unit {0}} (at mid.memory) (at memory) (writes_words (id.off + off) bytes) (Ok tt)
       → (v : View) × at memory v × Allowed v (Tell (Increment id off by) (Some (Number number)))
-  sum_tell memory h = put_tell at mid (then h) (has h).2 place bytes (Increment id off by)
+  sum_tell memory h = put_tell at mid (then h) (has h).2 (has h).3.working place bytes (Increment id off by)
       (Some (Number number)) (leads (then h) (has h)) memory
 
   abbrev Acts : Lane M → Result ℕ Refusal → Type 0
@@ -287,7 +288,7 @@ module _ {M : Type 0} (at : M → View → Type 0) (old mid : Lane M) (id : Oid)
       let t : Standing = moved s a.view in
       let l = leads_increment t a.holds.3 id off by a.holds.1 in
       let d = subst (λ p. Done at (record mid { memory = new }) t (Increment id off by) p)
-      (sym (plan_so t a.holds)) (put_done at mid t a.holds.2 place bytes
+      (sym (plan_so t a.holds)) (put_done at mid t a.holds.2 a.holds.3.working place bytes
       (Increment id off by) (Some (Number number)) (leads t a.holds) may grants memory new runs
       told l.unrefused) in
       record {
@@ -315,7 +316,7 @@ module _ {M : Type 0} (at : M → View → Type 0) (old mid : Lane M) (id : Oid)
       let t : Standing = moved s a.view in
       let l = leads_increment t a.holds.3 id off by a.holds.1 in
       let c = subst (λ p. Cut at (record mid { memory = memory }) t p false)
-      (sym (plan_so t a.holds)) (put_cut at mid t a.holds.2 place bytes
+      (sym (plan_so t a.holds)) (put_cut at mid t a.holds.2 a.holds.3.working place bytes
       (Increment id off by) (Some (Number number)) (leads t a.holds) memory stopped runs) in
       record {
         looks = a.looks;
@@ -323,6 +324,15 @@ module _ {M : Type 0} (at : M → View → Type 0) (old mid : Lane M) (id : Oid)
         looked = a.looked;
         holds = (
           l.unrefused,
-          record { ready = c.ready; stops = c.stops; fields = c.fields; facts = c.facts },
+          (
+            record {
+              working = c.working;
+              ready = c.ready;
+              stops = c.stops;
+              fields = c.fields;
+              facts = c.facts;
+            },
+            λ e. increments_unwritten t a.holds.3 id off by a.holds.1.range c.stops.made,
+          ),
         );
       }

@@ -4,6 +4,7 @@ pub mod FinishedLanes
 mod Frames
 pub mod RecordedWords
 pub mod TakenBack
+mod BusyTests
 pub mod Ending
 pub mod RolledBack
 pub mod GivingUp
@@ -77,6 +78,11 @@ pub mod LoggedEnds
 pub mod PublicationFacts
 pub mod LonePublications
 pub mod SilentPlans
+pub mod Slotless
+pub mod SlotlessPlans
+pub mod UnwrittenStops
+mod UnwrittenPublishes
+pub mod UnwrittenRests
 pub mod ToldPlans
 pub mod ToldLooks
 pub mod RefusedPublishes

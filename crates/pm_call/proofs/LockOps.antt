@@ -89,7 +89,7 @@ module _ {M : Type 0} (at : M → View → Type 0) (old : Lane M) where
       left_works = tried_locks_leave_work s wants why.all why.view is why.tried
 
       gives : GivesUp left op (Some (Refused r))
-      gives = refused_locks_give_up left why.all op wants level why.seen r left_works locks why.first
+      gives = refused_locks_give_up left why.all op wants level why.seen r left_works locks why.first why.busy
 
     pub may_refuse : (mid : Lane M) (r : Refusal) → Here → WantedTaken at old mid wants (Err r) → IsAtBut at mid (λ s. GivesUp s op (Some (Refused r)))
     unfolding WantedTaken

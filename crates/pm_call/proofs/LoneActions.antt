@@ -1,5 +1,5 @@
 -- AN ACTION IN A CALL OF ITS OWN has its fact, and its lane is between two calls then.
-use Rattle.std.proofs.Common.{◌≡◌, ℕ, ◌%◌, ◌^◌, ◌<◌, ◌==◌, nat_le, Bool, true, false, cond, not, List, [], ◌∷◌, ◌++◌, length, refl, sym, ap, ◌∙◌, subst, arith, eqb-true, Option, None, Some}
+use Rattle.std.proofs.Common.{◌≡◌, ◌≢◌, ℕ, ◌%◌, ◌^◌, ◌<◌, ◌==◌, nat_le, Bool, true, false, cond, not, List, [], ◌∷◌, ◌++◌, length, refl, sym, ap, ◌∙◌, subst, arith, eqb-true, Option, None, Some}
 use Rattle.std.specs.Prelude.{MatchOption}
 use Rattle.std.proofs.lemmas.Bool.{leb-false}
 use Rattle.pm_model.specs.Inside.{IsRefused, is_action}
@@ -10,7 +10,7 @@ use Rattle.pm_objects.specs.declared.calls.Operation.TheVariants.{SetValue, Canc
 use Rattle.pm_objects.specs.declared.history.Value.{Value}
 use Rattle.pm_objects.specs.declared.history.Value.TheVariants.{Refused}
 use Rattle.pm_objects.specs.declared.refusal.Refusal.{Refusal}
-use Rattle.pm_objects.specs.declared.refusal.Refusal.TheVariants.{ActionsFull, Unaligned}
+use Rattle.pm_objects.specs.declared.refusal.Refusal.TheVariants.{ActionsFull, Busy, Unaligned}
 use Rattle.pm_objects.specs.declared.ids.Oid.{Oid}
 use Rattle.pm_view.specs.Steps.Step.{Tell}
 use Rattle.pm_view.specs.View.{Told, View}
@@ -24,6 +24,7 @@ use Rattle.pm_call.specs.Locking.{IsOpened}
 use Rattle.pm_call.specs.Outside.{ActionsMayBeTold, EndsAction, IsWordAction, RepliesAlone}
 use Rattle.pm_call.specs.Waiting.{HasPending, pending_now}
 use Rattle.pm_call.proofs.AskedWords.{asked_pending, count_is, dropped_pending}
+use Rattle.pm_call.proofs.BusyTests.{told_refusal}
 use Rattle.pm_call.proofs.Ending.{refused_actions, refused_pending}
 use Rattle.pm_call.proofs.LoneCalls.{ends_number, ends_over, opened_is_open, steps_ready}
 use Rattle.pm_call.proofs.Staying.{pending_told}
@@ -75,6 +76,19 @@ replies_told v (SetValue id off value) reply is replies = replies
 replies_told v Cancel reply is replies = replies
 replies_told v op reply is replies = absurd is
 
+-- it is never told as Busy
+unbusy_set : (reply : Option Value) (aligned full : Bool)
+    → MatchOption (cond (not aligned) (Some Unaligned) (cond full (Some ActionsFull) None)) (reply ≡ None) (λ r. IsRefused r reply) → reply ≢ Some (Refused Busy)
+unbusy_set reply false full is e = absurd (let z : Unaligned ≡ Busy = told_refusal Unaligned Busy (sym is.replied ∙ e) in cc)
+unbusy_set reply true true is e = absurd (let z : ActionsFull ≡ Busy = told_refusal ActionsFull Busy (sym is.replied ∙ e) in cc)
+unbusy_set reply true false is e = absurd (let z : None ≡ Some (Refused Busy) = sym is ∙ e in cc)
+
+unbusy_action : (v : View) (op : Operation) (reply : Option Value) → IsWordAction op → MatchOption (refusal_alone unseen v op) (IsActionDone v op reply) (λ r. IsRefused r reply) → reply ≢ Some (Refused Busy)
+unfolding first_of
+unbusy_action v (SetValue id off value) reply is replies = unbusy_set reply (off % 8 == 0) (nat_le max_actions (pending_count (pending_of v.entries))) replies
+unbusy_action v Cancel reply is replies = λ e. absurd (let z : None ≡ Some (Refused Busy) = sym replies ∙ e in cc)
+unbusy_action v op reply is replies = absurd is
+
 module _ (s : Standing) (is : IsOpened s) (op : Operation) (reply : Option Value) (word : IsWordAction op) (replies : RepliesAlone s op reply) where
   fact : Fact (after s.view (Tell op reply))
   fact = actions_are_facts (after s.view (Tell op reply)) (record { operation = op; seen = unseen; reply = reply }) (record {
@@ -89,9 +103,9 @@ module _ (s : Standing) (is : IsOpened s) (op : Operation) (reply : Option Value
       let o = opened_is_open s is in
       let pending = asked_alone s.view is.call is.pending op reply word replies in
       record {
-        ready = steps_ready s s.locks o op reply fact pending n;
-        between = record { over = ends_over s s.locks o op reply fact pending n; unlocked = is.locks; unlisted = is.entries };
-        number = ends_number s s.locks o op reply fact pending n;
+        ready = steps_ready s s.locks o op reply fact (unbusy_action s.view op reply word replies) pending n;
+        between = record { over = ends_over s s.locks o op reply fact (unbusy_action s.view op reply word replies) pending n; unlocked = is.locks; unlisted = is.entries };
+        number = ends_number s s.locks o op reply fact (unbusy_action s.view op reply word replies) pending n;
       }
 
 pub actions_may_be_told : ActionsMayBeTold

@@ -1,8 +1,10 @@
 -- A CALL OF ONE OPERATION that is told ends: it takes its number, and is over.
-use Rattle.std.proofs.Common.{◌≡◌, inl, ℕ, suc, true, All, List, refl, sym, ap, ◌∙◌, subst, Option, None, Some}
+use Rattle.std.proofs.Common.{◌≡◌, ◌≢◌, inl, ℕ, suc, true, All, List, refl, sym, ap, ◌∙◌, subst, Option, None, Some}
 use Rattle.std.proofs.lemmas.List.Elements.{All-nil}
 use Rattle.pm_objects.specs.declared.calls.Operation.{Operation}
 use Rattle.pm_objects.specs.declared.history.Value.{Value}
+use Rattle.pm_objects.specs.declared.history.Value.TheVariants.{Refused}
+use Rattle.pm_objects.specs.declared.refusal.Refusal.TheVariants.{Busy}
 use Rattle.pm_view.specs.Entries.{Entry, latest, redos, turn}
 use Rattle.pm_view.specs.Log.{Idle, Log, Open, new_log, phase_drawn}
 use Rattle.pm_view.specs.Steps.Step.{Draw, Tell}
@@ -12,7 +14,7 @@ use Rattle.pm_world.specs.LaneFields.{Standing, last_number, moved}
 use Rattle.pm_world.specs.declared.lane.HeldLock.{HeldLock}
 use Rattle.pm_world.specs.Lawful.{KeepsRoot, MayDraw}
 use Rattle.pm_crash.specs.Calls.{Fact}
-use Rattle.pm_crash.proofs.EntryFacts.{draws_keep_facts}
+use Rattle.pm_crash.proofs.EntryFacts.{draws_keep_facts, told_busy}
 use Rattle.pm_crash.proofs.Simulation.{no_turn}
 use Rattle.pm_plan.specs.Plans.{Ready, in_turn, one}
 use Rattle.pm_call.specs.Did.{IsOver, next}
@@ -26,7 +28,7 @@ use Rattle.pm_call.proofs.OverCalls.{ClaimsStand, claims_ended, drawn_now, over_
 use Rattle.pm_call.proofs.Staying.{has_pending}
 
 -- ---- THE CALL ENDS, where it has its fact, and the lane lists what is pending then
-module _ (s : Standing) (all : List HeldLock) (o : IsOpenWith s all) (op : Operation) (reply : Option Value) (fact : Fact (after s.view (Tell op reply))) (pending : HasPending (after s.view (Tell op reply))) where
+module _ (s : Standing) (all : List HeldLock) (o : IsOpenWith s all) (op : Operation) (reply : Option Value) (fact : Fact (after s.view (Tell op reply))) (unbusy : reply ≢ Some (Refused Busy)) (pending : HasPending (after s.view (Tell op reply))) where
   abbrev v : View
   v = s.view
 
@@ -77,7 +79,7 @@ module _ (s : Standing) (all : List HeldLock) (o : IsOpenWith s all) (op : Opera
   }
 
   is_over : (n : ℕ) → IsOver (moved (with_locks all s) (done n))
-  is_over n = over_by (moved (with_locks all s) (done n)) (log_done n) o.drained o.can.working.known o.can.sealed (draws_keep_facts told n fact o.can.facts)
+  is_over n = over_by (moved (with_locks all s) (done n)) (log_done n) o.drained o.can.working.known o.can.sealed (draws_keep_facts told n fact (told_busy v.call (record { operation = op; reply = reply }) told.seen (λ e. absurd (unbusy e))) o.can.facts)
       (has_pending told (uncalled (done n)) (drawn_now v op reply n) refl pending)
       (claims_ended v op reply n all claims)
 

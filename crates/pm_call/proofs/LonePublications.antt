@@ -1,11 +1,13 @@
 -- A PUBLISH OUTSIDE A TRANSACTION MAY BE MADE, whatever number it takes and whatever its steps find;
 -- and one with a word past its object's end is refused.
-use Rattle.std.proofs.Common.{◌≡◌, ℕ, suc, ◌+◌, ◌/◌, ◌<◌, ◌≤◌, inl, true, Contains, List, [], ◌∷◌, ◌++◌, map, refl, sym, ap, ◌∙◌, subst, arith, None}
+use Rattle.std.proofs.Common.{◌≡◌, ◌≢◌, ℕ, suc, ◌+◌, ◌/◌, ◌<◌, ◌≤◌, inl, true, Contains, List, [], ◌∷◌, ◌++◌, map, refl, sym, ap, ◌∙◌, subst, arith, None, Some}
 use Rattle.std.specs.List.{AllByRecursion}
 use Rattle.std.proofs.lemmas.Bool.{both_ways}
 use Rattle.pm_model.specs.Pending.{SetWord}
 use Rattle.pm_model.specs.Transaction.{idle}
 use Rattle.pm_objects.specs.declared.calls.Operation.TheVariants.{Publish}
+use Rattle.pm_objects.specs.declared.history.Value.TheVariants.{Refused}
+use Rattle.pm_objects.specs.declared.refusal.Refusal.TheVariants.{Busy}
 use Rattle.pm_objects.specs.declared.calls.Want.{Want}
 use Rattle.pm_record.specs.declared.redo.Redo.{Redo}
 use Rattle.pm_view.specs.Steps.Step.{Tell}
@@ -234,12 +236,15 @@ module _ (t : Standing) (h : HoldsWords t) where
           pending_now (after (calling c t.view) (Tell Publish None))) (none_told t h)
           ∙ published_now t.view) refl
 
+      unbusy : None ≢ Some (Refused Busy)
+      unbusy e = absurd cc
+
       pub leaves_numbered : (found : ℕ → ℕ) → LeavesPublished t found n
       leaves_numbered found = leaves_by found n (subst (Leaves found n) (sym none) (
-        steps_ready (with_locks [] t) t.locks opens Publish None fact pending n,
-        ends_over (with_locks [] t) t.locks opens Publish None fact pending n,
-        ends_number (with_locks [] t) t.locks opens Publish None fact pending n,
-        ends_actions (with_locks [] t) t.locks opens Publish None fact pending n,
+        steps_ready (with_locks [] t) t.locks opens Publish None fact unbusy pending n,
+        ends_over (with_locks [] t) t.locks opens Publish None fact unbusy pending n,
+        ends_number (with_locks [] t) t.locks opens Publish None fact unbusy pending n,
+        ends_actions (with_locks [] t) t.locks opens Publish None fact unbusy pending n,
         ap (λ (v : View). v.fixed) (ended_so t.view Publish None n),
       ))
 

@@ -21,7 +21,7 @@ use Rattle.pm_crash.specs.Facts.{HaveFacts}
 use Rattle.pm_crash.specs.Looked.{IsChanged}
 use Rattle.pm_crash.specs.Sim.{lists_of}
 use Rattle.pm_crash.specs.SimCommits.{sets_at}
-use Rattle.pm_crash.proofs.EntryFacts.{draws_keep_facts}
+use Rattle.pm_crash.proofs.EntryFacts.{draws_keep_facts, told_plainly}
 use Rattle.pm_crash.proofs.Rollbacks.{committed_calls}
 use Rattle.pm_crash.proofs.Simulation.{no_turn}
 use Rattle.pm_crash.proofs.Telling.{tells_grow}
@@ -114,7 +114,7 @@ module _ (s : Standing) (at : At s) (one_ : s.level ≡ 1) (none : s.entries ≡
   }
 
   facts : (n : ℕ) → HaveFacts (done n)
-  facts n = draws_keep_facts told n fact here.facts
+  facts n = draws_keep_facts told n fact (told_plainly p.call Commit told.seen) here.facts
 
   -- ---- and then it holds what it held
   done_claims : (n : ℕ) → ClaimsStand (done n) s.locks

@@ -74,7 +74,7 @@ module _ {M : Type 0} (at : M → View → Type 0) (old new : Lane M) (h : LaneH
         → position_of new ≡ moved_by result (working s.level)
     ends_moves s (Ok x) ends = ap position_in ends.0.works.fields
     ends_moves s (Err refusal.Stopped) ends = ⊎_elim
-        (λ c. ap position_in c.1.fields)
+        (λ c. ap position_in c.1.0.fields)
         (λ c. ap position_in c.3.fields)
         ends
     ends_moves s (Err r) ends = ap position_in ends.sees.fields

@@ -12,6 +12,7 @@ use Rattle.pm_objects.specs.declared.history.Value.{Value}
 use Rattle.pm_objects.specs.declared.history.Value.TheVariants.{Refused}
 use Rattle.pm_objects.specs.declared.ids.Oid.{Oid}
 use Rattle.pm_objects.specs.declared.refusal.Refusal.{Refusal}
+use Rattle.pm_objects.specs.declared.refusal.Refusal.TheVariants.{Busy}
 use Rattle.pm_view.specs.Changes.{Undrained}
 use Rattle.pm_view.specs.Counts.{lines_up_to, unflushed_lines}
 use Rattle.pm_view.specs.Entries.{Entry, latest, redos, turn}
@@ -26,14 +27,14 @@ use Rattle.pm_world.specs.Lawful.{KeepsRoot, MayDraw}
 use Rattle.pm_world.specs.Sights.{is_recorded}
 use Rattle.pm_world.specs.declared.lane.HeldLock.{HeldLock}
 use Rattle.pm_crash.specs.Calls.{Fact, pending_of, told_by}
-use Rattle.pm_crash.specs.Facts.{HaveFacts}
-use Rattle.pm_crash.specs.Looked.{refusal_by}
+use Rattle.pm_crash.specs.Facts.{BusyWasTried, HaveFacts}
+use Rattle.pm_crash.specs.Looked.{items_seen, pool_seen, refusal_by}
 use Rattle.pm_crash.specs.OpenRuns.{after_told, no_pool}
-use Rattle.pm_crash.specs.Sim.{Sim, lists_of}
+use Rattle.pm_crash.specs.Sim.{Sim, lists_of, tx_with}
 use Rattle.pm_crash.specs.SimFacts as sims
 use Rattle.pm_crash.specs.SimFacts.{is_begun}
 use Rattle.pm_crash.specs.SimOps.{LookedAt}
-use Rattle.pm_crash.proofs.EntryFacts.{draws_keep_facts}
+use Rattle.pm_crash.proofs.EntryFacts.{draws_keep_facts, told_busy}
 use Rattle.pm_crash.proofs.SimFacts.{calls_without_log, no_entries, without_entries_have_facts}
 use Rattle.pm_crash.proofs.SimOps.{sim_refuses}
 use Rattle.pm_crash.proofs.Simulation.{no_turn}
@@ -46,6 +47,7 @@ use Rattle.pm_call.specs.GivenUp.{LeavesOver, generation_after, with_locks}
 use Rattle.pm_call.specs.LockRefusals.{TriedLocks, locking_tests}
 use Rattle.pm_call.specs.Locking.{CanLockWith, IsOpened}
 use Rattle.pm_call.specs.Plans.{ends_call, gives_up, takes_back}
+use Rattle.pm_call.proofs.BusyTests.{busy_was_seen, told_refusal}
 use Rattle.pm_call.proofs.Ending.{first_traced}
 use Rattle.pm_call.proofs.LockRefusals.{first_skip, tests_same}
 use Rattle.pm_call.proofs.OpenedCalls.{opened_lanes_may_lock}
@@ -102,7 +104,7 @@ module _ (s : Standing) (all : List HeldLock) (is : CanLockWith s all) (call : s
     (records : s.view.log.records ≡ []) (drained : s.view.changes ≡ [])
     (wants : List Want) (seen : Seen) (r : Refusal)
     (first : refusal_by seen s.view None (Begin wants) ≡ Some r)
-    (traced : is_untraced r ≡ false) where
+    (traced : is_untraced r ≡ false) (unbusy : seen.busy ≡ false) where
   abbrev v : View
   v = s.view
 
@@ -176,8 +178,15 @@ module _ (s : Standing) (all : List HeldLock) (is : CanLockWith s all) (call : s
     entries = inl is.working.unentered;
   }
 
+  -- it is not told as Busy
+  tried : BusyWasTried told.call told.seen
+  tried = told_busy v.call (record { operation = op; reply = reply }) told.seen
+      (λ e. absurd (both_ways seen.busy unbusy
+      (busy_was_seen seen (tx_with v (pool_seen v None) (items_seen v)) op
+      (first ∙ ap (λ x. Some x) (told_refusal r Busy e)))))
+
   facts : (n : ℕ) → HaveFacts (done n)
-  facts n = draws_keep_facts told n fact is.facts
+  facts n = draws_keep_facts told n fact tried is.facts
 
   log_is : v.log ≡ new_log Open v.log.generation
   log_is = λ i. record {
@@ -260,7 +269,7 @@ refused_begins_end s wants all x seen r n is tried spent busy first =
     ∙ is.records) (ap (λ (y : View). y.changes) same ∙ is.drained) wants seen r
     (refusals_with (moved s x) all may call wants seen spent busy
     ∙ (ap first_of (tests_at s wants seen x (fixed_on s wants all x tried)) ∙ first))
-    (locks_traced seen s wants r first) n
+    (locks_traced seen s wants r first) busy n
 
 pub refused_begins_are_past : {M : Type 0} (at : M → View → Type 0) → RefusedBeginsArePast at
 refused_begins_are_past at lane s wants r one up = record {

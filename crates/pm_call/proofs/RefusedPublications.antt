@@ -1,5 +1,5 @@
 -- A PUBLISH OUTSIDE A TRANSACTION THAT IS REFUSED is told so, and its call is over then.
-use Rattle.std.proofs.Common.{◌≡◌, inl, inr, ⊎_elim, ℕ, true, false, List, [], ◌∷◌, ◌++◌, refl, ap, ◌∙◌, Option, None, Some}
+use Rattle.std.proofs.Common.{◌≡◌, ◌≢◌, inl, inr, ⊎_elim, ℕ, true, false, List, [], ◌∷◌, ◌++◌, refl, ap, ◌∙◌, Option, None, Some}
 use Rattle.std.proofs.lemmas.Bool.{both_ways}
 use Rattle.std.proofs.lemmas.List.Elements.{All-weaker}
 use Rattle.pm_model.specs.Inside.{is_untraced}
@@ -11,7 +11,7 @@ use Rattle.pm_objects.specs.declared.history.Value.{Value}
 use Rattle.pm_objects.specs.declared.history.Value.TheVariants.{Refused}
 use Rattle.pm_objects.specs.declared.ids.Oid.{Oid}
 use Rattle.pm_objects.specs.declared.refusal.Refusal.{Refusal}
-use Rattle.pm_objects.specs.declared.refusal.Refusal.TheVariants.{Spent}
+use Rattle.pm_objects.specs.declared.refusal.Refusal.TheVariants.{Busy, Spent}
 use Rattle.pm_view.specs.Places.{Block, Small, Big, Root}
 use Rattle.pm_view.specs.Steps.Step.{Tell}
 use Rattle.pm_view.specs.View.{Told, View}
@@ -26,6 +26,7 @@ use Rattle.pm_crash.specs.SimPublish.{IsLateRefusal, LooksToPublish, early_refus
 use Rattle.pm_crash.proofs.SimPublish.{refused_publications_are_facts}
 use Rattle.pm_call.specs.Outside.{IsPublishRefusal, RefusedPublicationsEnd, TriedLocksLeaveOpen}
 use Rattle.pm_call.specs.Waiting.{HasPending}
+use Rattle.pm_call.proofs.BusyTests.{busy_applies, told_refusal}
 use Rattle.pm_call.proofs.Ending.{first_traced, refused_actions, refused_pending}
 use Rattle.pm_call.proofs.LoneCalls.{ends_actions, ends_number, ends_over, steps_ready}
 use Rattle.pm_call.proofs.OpenedCalls.{opened_lanes_may_lock}
@@ -84,10 +85,10 @@ module _ (v : View) (seen : Seen) (r : Refusal) (unspent : seen.spent ≡ false)
 -- THE LAWS
 pub refused_publications_end : RefusedPublicationsEnd
 refused_publications_end s all seen r n o unspent is = record {
-  ready = steps_ready s all o Publish reply fact pending n;
-  over = ends_over s all o Publish reply fact pending n;
-  number = ends_number s all o Publish reply fact pending n;
-  pending = ends_actions s all o Publish reply fact pending n;
+  ready = steps_ready s all o Publish reply fact unbusy pending n;
+  over = ends_over s all o Publish reply fact unbusy pending n;
+  number = ends_number s all o Publish reply fact unbusy pending n;
+  pending = ends_actions s all o Publish reply fact unbusy pending n;
 }
   where
     reply : Option Value
@@ -102,6 +103,16 @@ refused_publications_end s all seen r n o unspent is = record {
       refused = record { traced = traced s.view seen r unspent is; replied = refl };
       looked = refusal_told s.view r seen is;
     })
+
+    unbusy : reply ≢ Some (Refused Busy)
+    unbusy e =
+        let same : r ≡ Busy = told_refusal r Busy e in
+        ⊎_elim
+        (λ (x : early_refusal seen s.view ≡ Some r). both_ways false refl
+        (busy_applies ((Spent, seen.spent) ∷ found_tests seen (pool_seen s.view None) (wants_pending (pending_before s.view))) (x ∙ ap (λ z. Some z) same)))
+        (λ (l : IsLateRefusal s.view seen r). both_ways false refl
+        (busy_applies (tests_outside seen (outside_before s.view (record (pool_seen s.view (root_told l.value)) { items = items_seen s.view })) Publish) (l.first ∙ ap (λ z. Some z) same)))
+        is
 
     pending : HasPending (after s.view (Tell Publish (Some (Refused r))))
     pending = pending_told s.view Publish (Some (Refused r)) (λ p. refused_pending Publish r p) (refused_actions Publish r s.view.actions) o.can.pending

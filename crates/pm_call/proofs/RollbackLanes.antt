@@ -207,6 +207,7 @@ module _ {M : Type 0} (at : M → View → Type 0) (old : Lane M) where
         let f : fields_of new ≡ fields_at stage.Work (with_locks locks s) = b.1 ∙ works.fields in (
           0,
           record {
+            working = is.working;
             ready = l.ready;
             stops = ran_err (at new.memory) v takes_back (ends_call op reply 0) stopped l.ready b.0;
             fields = (λ i. record (fields_of new) { stopped = (f i).stopped }) ∙ ap (λ (g : Fields). record g { generation = new.log.generation; records = new.log.records.items; stopped = false }) f;
@@ -243,5 +244,5 @@ module _ {M : Type 0} (at : M → View → Type 0) (old : Lane M) (op : Operatio
       let c : (n : ℕ) × Cut at mid (with_locks locks s) (gives_up op (Some (Refused why)) n) false = gave s locks works is refused in (
         c.0,
         subst (λ (lane : Lane M). Cut at lane (with_locks locks s) (gives_up op (Some (Refused why)) c.0) true) (sym says)
-            (record { ready = c.1.ready; stops = c.1.stops; fields = ap (λ (f : Fields). record f { stopped = true }) c.1.fields; facts = c.1.facts }),
+            (record { working = c.1.working; ready = c.1.ready; stops = c.1.stops; fields = ap (λ (f : Fields). record f { stopped = true }) c.1.fields; facts = c.1.facts }),
       )))

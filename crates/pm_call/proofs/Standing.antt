@@ -23,16 +23,19 @@ use Rattle.pm_plan.specs.Plans.{Plan}
 use Rattle.pm_call.specs.At.{At}
 use Rattle.pm_call.specs.Between.{IsLaneBetween, MayOpen, saw_number}
 use Rattle.pm_call.specs.Commits.{CommitCut, WasCommitted}
-use Rattle.pm_call.specs.Did.{Cut, Did, DidSo, Ends, GaveUp, IsAt, IsOver, next, stage_refusal, work_refusal}
+use Rattle.pm_call.specs.Did.{Cut, Did, DidSo, Ends, GaveUp, IsAt, IsOver, WasUnwritten, next, stage_refusal, work_refusal}
 use Rattle.pm_call.specs.GivenUp.{WasGivenUp}
 use Rattle.pm_call.specs.Histories.{LaneHistory, PlanTellsMore, calls_ended, ended_of, history_of, last_ended, told_by, told_last, told_more, turned, unless}
 use Rattle.pm_call.specs.Opening.{NoneIsLeft}
 use Rattle.pm_call.specs.Plans.{commits, gives_up}
 use Rattle.pm_call.specs.Stages.{Ended, EndedAs, EndedBy, EndedSo, IsLanePast, IsPastAt, Leaves, at_level, closed, end_refusal, fields_past, stage_end_refusal, unlisted}
+use Rattle.pm_call.specs.Unwritten.{WritesNoRecord, is_adding}
 use Rattle.pm_crash.specs.Fates.{EndsOpen}
 use Rattle.pm_call.specs.Standing.{IsLaneStopped, IsOverFor, Stands, StandsWith}
 use Rattle.pm_call.proofs.OpenedCalls.{between_may_open, look_may_open}
 use Rattle.pm_call.proofs.SilentPlans.{silent_step}
+use Rattle.pm_call.proofs.Slotless.{slotless_so_far, unslotted_unwritten, working_unslotted}
+use Rattle.pm_call.proofs.SlotlessPlans.{slotless_gives_up}
 use Rattle.pm_call.proofs.StoppedLanes.{commit_is_stopped, cut_is_stopped}
 use Rattle.pm_call.proofs.StoppedNumbers.{commits_unended, ends_open, ends_untold, gives_up_unnumbered}
 use Rattle.pm_call.proofs.ToldLooks.{gives_told, looks_told, saw_history, told_history, told_open}
@@ -109,12 +112,12 @@ module _ {M : Type 0} (at : M → View → Type 0) (lane : Lane M) where
 
   pub stopped_stands : (h : LaneHistory) → lane.stopped ≡ true → (x : IsLaneStopped at lane)
       → calls_ended x.view ≡ h.done → x.view.fixed.lane ≡ h.lane → EndsOpen lane.drawn x.view
-      → StandsWith at lane h
-  stopped_stands h is stopped calls of ends = record {
+      → (h.adding ≡ false → WritesNoRecord x.view) → StandsWith at lane h
+  stopped_stands h is stopped calls of ends unwritten = record {
     work = λ e. absurd (let s = stops stage_refusal in cc);
     past = λ e. absurd (let s = stops stage_end_refusal in cc);
     between = λ e low. absurd (cc);
-    stopped = λ e. (stopped, calls, of, ends);
+    stopped = λ e. (stopped, calls, of, ends, unwritten);
     last = λ e. absurd (cc);
   }
     where
@@ -173,12 +176,19 @@ module _ {M : Type 0} (at : M → View → Type 0) (lane : Lane M) where
   pub stopped_in : (h : LaneHistory) (v : View) (op : Operation) → lane.stopped ≡ true
       → (x : IsLaneStopped at lane) → x.view.fixed ≡ v.fixed → history_of v ≡ h
       → calls_ended x.view ≡ (told_by lane.drawn op None h).done → EndsOpen lane.drawn x.view
+      → ((n : ℕ) → lane.drawn ≡ Some n → is_adding op ≡ false)
+      → (is_adding op ≡ false → WritesNoRecord x.view)
       → StandsWith at lane (told_by lane.drawn op None h)
-  stopped_in h v op is x fixed same calls ends =
+  stopped_in h v op is x fixed same calls ends plain unwritten =
       stopped_stands (told_by lane.drawn op None h) is x calls
       (ap (λ (f : Constants). f.lane) fixed ∙ ap (λ (y : LaneHistory). y.lane) same
-      ∙ of_lane lane.drawn) ends
+      ∙ of_lane lane.drawn) ends (adds lane.drawn refl)
     where
+      adds : (d : Option ℕ) → lane.drawn ≡ d → (told_by d op None h).adding ≡ false
+          → WritesNoRecord x.view
+      adds None e = unwritten
+      adds (Some n) e = λ added. unwritten (plain n e)
+
       of_lane : (d : Option ℕ) → h.lane ≡ (told_by d op None h).lane
       of_lane None = refl
       of_lane (Some n) = refl
@@ -188,8 +198,9 @@ module _ {M : Type 0} (at : M → View → Type 0) (lane : Lane M) where
       → (cut : Cut at lane s plan true) → history_of s.view ≡ h
       → calls_ended (after_all s.view (take cut.stops.made (plan s.view))) ≡ h.done
       → (after_all s.view (take cut.stops.made (plan s.view))).number ≡ None
+      → (is_adding op ≡ false → WasUnwritten cut)
       → StandsWith at lane (told_by lane.drawn op None h)
-  cut_stands h s op plan cut same calls none =
+  cut_stands h s op plan cut same calls none unwritten =
       let w : View = after_all s.view (take cut.stops.made (plan s.view)) in
       let drawn : lane.drawn ≡ None = ap (λ (f : Fields). f.drawn) cut.fields in
       stopped_in h s.view op (ap (λ (f : Fields). f.stopped) cut.fields)
@@ -197,6 +208,7 @@ module _ {M : Type 0} (at : M → View → Type 0) (lane : Lane M) where
       (all_fixed s.view (take cut.stops.made (plan s.view))) same
       (calls ∙ sym (ap (λ d. (told_by d op None h).done) drawn))
       (ends_untold lane.drawn w drawn none)
+      (λ n e. absurd (let clash : None ≡ Some n = sym drawn ∙ e in cc)) unwritten
 
   -- as it gave its call up
   pub cut_rollback_stands : (h : LaneHistory) (s : Standing) (op : Operation)
@@ -208,6 +220,9 @@ module _ {M : Type 0} (at : M → View → Type 0) (lane : Lane M) where
       cut_stands h s op (gives_up op reply n) cut same
       (ap (λ (x : LaneHistory). x.done) (told_history s.view w h told same))
       (told_open s.view w told none)
+      (λ _. unslotted_unwritten w (slotless_so_far s.view (gives_up op reply n s.view)
+      cut.stops.made (working_unslotted s.view cut.working)
+      (slotless_gives_up s.view op reply n cut.working)))
 
   pub cut_commit_stands : (h : LaneHistory) (s : Standing) → s.view.number ≡ None
       → history_of s.view ≡ h → CommitCut at lane s true
@@ -220,7 +235,7 @@ module _ {M : Type 0} (at : M → View → Type 0) (lane : Lane M) where
       (ends_open lane.drawn
       (after_all s.view (take cut.stops.made (commits s.entries cut.found cut.number s.view)))
       cut.numbered.drawn (commits_unended s.entries cut.found cut.number s.view none cut.ready
-      cut.stops.made cut.stops.fewer))
+      cut.stops.made cut.stops.fewer)) (λ n e. refl) (λ _. cut.unwritten)
 
   -- ---- its call is over, and its locks are held still
 
@@ -342,10 +357,10 @@ module _ {M : Type 0} (at : M → View → Type 0) (old new : Lane M) (h : LaneH
         ends.0.stands ((tells s.view).whole s.view none
         ∙ λ i. told_more op (replies s.view x ends.1 i) (same i))
     ends_stands s some most none same (Err refusal.Stopped) ends = ⊎_elim
-        (λ c. cut_stands at new h s op (plan s.view) c.1 same
-        ((tells s.view).on_the_way s.view c.1.stops.made none
+        (λ c. cut_stands at new h s op (plan s.view) c.1.0 same
+        ((tells s.view).on_the_way s.view c.1.0.stops.made none
         ∙ ap (λ (x : LaneHistory). x.done) same)
-        ((tells s.view).unnumbered s.view c.1.stops.made none))
+        ((tells s.view).unnumbered s.view c.1.0.stops.made none) c.1.1)
         (λ c. cut_rollback_stands at new h s op (Some (Refused c.0)) c.1 none same c.3)
         ends
     ends_stands s some most none same (Err r) ends =

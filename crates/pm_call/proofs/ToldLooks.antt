@@ -40,6 +40,7 @@ begun_history Idle v none = λ i. record {
   lane = v.fixed.lane;
   done = (history_of v).done;
   call = (sym none) i;
+  adding = false;
 }
 begun_history Open v none = refl
 begun_history (Drawn n) v none = refl

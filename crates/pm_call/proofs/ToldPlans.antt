@@ -1,7 +1,7 @@
 -- WHAT THE PLANS OF OPERATIONS TELL: each is of silent steps, and of the one that tells it; and
 -- where
 -- it ends its call the number is taken at once then.
-use Rattle.std.proofs.Common.{◌≡◌, ◌⊎◌, ℕ, zero, suc, ◌+◌, inl, inr, ⊎_elim, List, [], ◌∷◌, ◌++◌, map, take, refl, sym, ap, ◌∙◌, subst, Option, None, Some}
+use Rattle.std.proofs.Common.{◌≡◌, ◌⊎◌, ℕ, zero, suc, ◌+◌, inl, inr, ⊎_elim, List, [], ◌∷◌, ◌++◌, map, take, refl, sym, ap, ◌∙◌, subst, Option, None, Some, false}
 use Rattle.pm_model.specs.Items.{number_bytes}
 use Rattle.pm_objects.specs.declared.calls.Operation.{Operation}
 use Rattle.pm_objects.specs.declared.calls.Operation.TheVariants.{AddRange, Cancel, Commit, Increment, Publish, Read, Write}
@@ -30,6 +30,7 @@ silent_history v w s = λ i. record {
   lane = (s.fixed i).lane;
   done = calls_same v w s i;
   call = open_call (s.number i) (s.call i);
+  adding = false;
 }
 
 pub after_append : (v : View) (first last : List Step)
@@ -68,6 +69,7 @@ module _ (op : Operation) (reply : Option Value) where
             lane = (m.fixed i).lane;
             done = m.calls i;
             call = (opens ∙ ap (λ (call : List Told). call ++ told op reply ∷ []) (sym before)) i;
+            adding = false;
           }
 
   after_one : (v : View) (steps : List Step)
@@ -136,6 +138,7 @@ module _ (op : Operation) (reply : Option Value) (n : ℕ) where
             record { number = suc n; call = call ++ told op reply ∷ [] } ∷ calls_ended v)
             (sym before)) i;
         call = open_call (l.number i) w.call;
+        adding = false;
       }
 
   way_history : (v w : View) → v.number ≡ None → ToldOnTheWay v w

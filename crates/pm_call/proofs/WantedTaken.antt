@@ -15,6 +15,8 @@ use Rattle.pm_world.specs.Causes.{times_missed, was_refused}
 use Rattle.pm_world.specs.LaneFields.{Fields, Standing, Works, at_work, fields_of, moved}
 use Rattle.pm_world.specs.declared.lane.HeldLock.{HeldLock}
 use Rattle.pm_world.specs.declared.lane.Lane.{Lane}
+use Rattle.pm_crash.specs.Facts.{WasTried}
+use Rattle.pm_crash.proofs.NoHeapFault.{passing_member}
 use Rattle.pm_lock.specs.Acquiring.{FindsAll, FindsNone}
 use Rattle.pm_lock.specs.Held.{HoldsEach}
 use Rattle.pm_lock.specs.Holding.{AreOnce, IsTaken, took}
@@ -35,6 +37,7 @@ use Rattle.pm_call.specs.LockRefusals.{TriedLocks, locking_tests}
 use Rattle.pm_call.specs.Locking.{locks_with, to_take, to_write}
 use Rattle.pm_call.specs.WantedTaken.{TriesOnce, WantedTaken, WantedTakenAs, WantsRefused}
 use Rattle.pm_call.specs.WantedTried.{AreFew, IsPlaced, WantedTried, WantedTriedAs, WorksWith, got_all}
+use Rattle.pm_call.proofs.LockLists.{wants_off}
 use Rattle.pm_call.proofs.LocksGot.{busy_locks_are_tried, busy_once, last_is, missed_locks_are_tried, missed_once, none_looked, none_once, raise_once, refused_raises_are_tried, some_raised, taken_once}
 use Rattle.pm_call.proofs.RefusedWants.{all_at, busy_first, full_first, is_missing, is_tried, is_wanted, missing_first, none_writes, not_in, tests_at, unlisted, unplaced_first, written_wanted}
 use Rattle.pm_call.proofs.TakenLocks.{can_lock, locks_may_be_wanted}
@@ -58,6 +61,18 @@ try_refused v got line write = subst (λ (y : View). was_refused line y.seen ≡
 raise_refused : (v : View) (writes : ℕ → Bool) (locks : List HeldLock) (line : ℕ) → was_refused line (after_all v (raises writes locks ++ Raise line false ∷ [])).seen ≡ true
 raise_refused v writes locks line = subst (λ (y : View). was_refused line y.seen ≡ true) (sym (last_is v writes locks line))
     (or_left (line == line && true) (was_refused line (after_all v (raises writes locks)).seen) (and_from (line == line) true (eq-eqb line line refl) refl))
+
+-- so the lock was tried that is wanted
+was_tried : (wants : List Want) (line : ℕ) (write : Bool) (v : View) → wants_off wants (64 * line + 64) write ≡ true → was_refused line v.seen ≡ true → WasTried wants v.seen
+was_tried wants line write v wanted refused =
+    let m = passing_member (λ (want : Want). want.id.off == 64 * line + 64 && (want.write || not write)) wants wanted in
+    record {
+      want = m.0;
+      among = m.1.0;
+      line = line;
+      before = eqb-true m.0.id.off (64 * line + 64) (and_parts (m.0.id.off == 64 * line + 64) (m.0.write || not write) m.1.1).0;
+      refused = refused;
+    }
 
 -- none is missed as locks are taken
 pub missed_before : (v u : View) (plan : List HeldLock) → IsTaken v plan u → (line : ℕ) (w : View) → MissesAt u line w → MissesAt v line w
@@ -125,7 +140,7 @@ module _ (s : Standing) (wants : List Want) (at : At s) where
             first = first_at saw_busy (s.locks ++ got) x refusal.Busy tried (busy_first s wants saw_busy refl few placed
                 (is_tried s wants (64 * l.line + 64) false (λ w _. unlisted s wants (can_lock s at).lists placed once_all k low (high k low) w) (is_wanted s wants (can_lock s at).lists placed once_all k low (high k low))));
             unstopped = other;
-            busy = λ _. (l.line, try_refused s.view got l.line l.write);
+            busy = λ _. was_tried wants l.line false x (is_wanted s wants (can_lock s at).lists placed once_all k low (high k low)) (try_refused s.view got l.line l.write);
             missing = λ off e. absurd (both_ways false refl e);
           },
           works,
@@ -193,7 +208,7 @@ module _ (s : Standing) (wants : List Want) (at : At s) where
                 (is_tried s wants (64 * l.line + 64) true (to_read l.line (not_in s.locks l.line true (none_writes s.locks (to_take s wants) k once_all low (reader l.write t.0))))
                 (written_wanted s.view.fixed.shape s.view.fixed.pool wants l.line t.1)));
             unstopped = other;
-            busy = λ _. (l.line, raise_refused y (to_write s wants) (take k all) l.line);
+            busy = λ _. was_tried wants l.line true x (written_wanted s.view.fixed.shape s.view.fixed.pool wants l.line t.1) (raise_refused y (to_write s wants) (take k all) l.line);
             missing = λ off e. absurd (both_ways false refl e);
           },
           works,

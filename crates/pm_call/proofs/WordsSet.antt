@@ -33,6 +33,7 @@ use Rattle.pm_call.proofs.HeldWords.{as_begun, begun_at, none_entered}
 use Rattle.pm_call.proofs.LonePublications.{can, can_log, publications_may_be_made}
 use Rattle.pm_call.proofs.PendingLooks.{begun_words}
 use Rattle.pm_call.specs.PublicationParts.{IsHolding, PublishWasCut, WasPublishedOutside, WordsSet}
+use Rattle.pm_call.proofs.UnwrittenPublishes.{publishes_unwritten}
 use Rattle.pm_call.proofs.RefusedPublishes.{between, may_unlock, unlocks}
 
 none_mapped : (ws : List SetWord) → length (map set_entry ws) ≡ 0 → ws ≡ []
@@ -221,6 +222,8 @@ module _ {M : Type 0} (at : M → View → Type 0) (old : Lane M) where
                     stopped = true;
                   });
               facts = l.over.facts;
+              unwritten = publishes_unwritten s (begun_at s h).working words found n f.made
+                  (can_log s h sees).logs.few l.ready;
             }
 
       -- ---- the locks are given back

@@ -21,12 +21,14 @@ use Rattle.pm_crash.specs.Writes.{written_word}
 use Rattle.pm_crash.proofs.Covered.{covered_has_byte}
 use Rattle.pm_plan.specs.Plans.{IsMade, IsReady, Ready, Runs, in_turn, known_word, looks, one, stores}
 use Rattle.pm_plan.proofs.Plans.{after_all-append, ready_left, ready_right, runs_err, runs_then}
+use Rattle.pm_undo.specs.Working.{IsWorking}
 use Rattle.pm_call.specs.At.{At}
 use Rattle.pm_call.specs.Did.{Acted, Came, Cut, Done, IsAtSo, IsUnrefused}
 use Rattle.pm_call.specs.Plans.{puts, tells, writes_word, writes_words}
 use Rattle.pm_call.specs.Writing.{MayPut}
 use Rattle.pm_call.proofs.AddedLanes.{at_once}
 use Rattle.pm_call.proofs.LockedRanges.{range_low}
+use Rattle.pm_call.proofs.UnwrittenStops.{puts_unwritten}
 use Rattle.pm_call.proofs.RangeWrites.{LeadsPut, leads_write, one_covered}
 
 -- ---- one word
@@ -57,7 +59,7 @@ covered_bounds place len k low = let b = covered_has_byte place len (place / 8 +
 
 -- ---- BYTES ARE PUT, AND IT IS TOLD, by a lane at work that may carry out the plan
 module _ {M : Type 0} (at : M → View → Type 0) (old : Lane M) (s : Standing)
-    (works : Works at old s) (place : ℕ) (bytes : List ℕ) (op : Operation) (reply : Option Value)
+    (works : Works at old s) (working : IsWorking s.view) (place : ℕ) (bytes : List ℕ) (op : Operation) (reply : Option Value)
     (l : LeadsPut s (in_turn (writes_words place bytes) (tells op reply))) where
   abbrev words : View → List Step
   words = writes_words place bytes
@@ -108,6 +110,7 @@ module _ {M : Type 0} (at : M → View → Type 0) (old : Lane M) (s : Standing)
       (in_turn (writes_words place bytes) (tells op reply)) false
   unfolding Runs
   put_cut mid stopped runs = record {
+    working = working;
     ready = l.ready;
     stops = runs_err {U = Unit {0}} (Unit {0}) (at old.memory) (at mid) (writes_words place bytes)
         (tells op reply) stopped (Err stopped) (search rules) runs s.view works.memory l.ready;
@@ -132,11 +135,11 @@ module _ {M : Type 0} (at : M → View → Type 0) (old : Lane M) (id : Oid) (of
       record { ready = l.ready; stands = l.stands; fields = l.fields }
 
   pub words_ready : Here → IsReady (at old.memory) (writes_words (id.off + off) bytes)
-  words_ready h = put_ready at old h.standing h.works (id.off + off) bytes (Write id off bytes) None
+  words_ready h = put_ready at old h.standing h.works h.stands.working (id.off + off) bytes (Write id off bytes) None
       (leads h.standing h.stands h.holds)
 
   pub tell_may : (mid : M) → Here → Runs {T = Unit {0}} (at old.memory) (at mid) (writes_words (id.off + off) bytes) (Ok tt) → (v : View) × at mid v × Allowed v (Tell (Write id off bytes) None)
-  tell_may mid h = put_tell at old h.standing h.works (id.off + off) bytes (Write id off bytes) None
+  tell_may mid h = put_tell at old h.standing h.works h.stands.working (id.off + off) bytes (Write id off bytes) None
       (leads h.standing h.stands h.holds) mid
 
   pub wrote_ok : (may : View → Step → Type 0) → ((v : View) (s : Step) → Allowed v s → may v s)
@@ -149,7 +152,7 @@ module _ {M : Type 0} (at : M → View → Type 0) (old : Lane M) (id : Oid) (of
       let l = leads s is can in
       at_once s (Came {T = Unit {0}} at (record old { memory = new }) (Write id off bytes)
       (λ v. puts id off bytes) (λ v x. Unit {0}) (Ok tt)) (
-        put_done at old s works (id.off + off) bytes (Write id off bytes) None l may grants mid new
+        put_done at old s works is.working (id.off + off) bytes (Write id off bytes) None l may grants mid new
             runs told (leads_write s is id off bytes can).unrefused,
         tt,
       )
@@ -161,5 +164,6 @@ module _ {M : Type 0} (at : M → View → Type 0) (old : Lane M) (id : Oid) (of
       at_once s (Came {T = Unit {0}} at (record old { memory = mid }) (Write id off bytes)
       (λ v. puts id off bytes) (λ v x. Unit {0}) (Err refusal.Stopped)) (
         (leads_write s is id off bytes can).unrefused,
-        put_cut at old s works (id.off + off) bytes (Write id off bytes) None l mid stopped runs,
+        let cut = put_cut at old s works is.working (id.off + off) bytes (Write id off bytes) None l mid stopped runs in
+            (cut, λ e. puts_unwritten s is id off bytes can.range cut.stops.made),
       )

@@ -21,6 +21,7 @@ use Rattle.pm_call.specs.GivenUp.{generation_after}
 use Rattle.pm_call.specs.Plans.{commits, commits_inner}
 use Rattle.pm_call.specs.Ranges.{KnowsWord}
 use Rattle.pm_call.specs.Stages.{IsPastAt, unlisted}
+use Rattle.pm_call.specs.Unwritten.{WritesNoRecord}
 
 -- ---- AN INNER LEVEL: nothing is stored, and the outer one is at work
 pub record LeavesLevel (s : Standing) : Type 0 where
@@ -81,6 +82,8 @@ pub record CommitCut {M : Type 0} (at : M → View → Type 0) (lane : Lane M) (
       (after_all s.view (take stops.made (commits s.entries found number s.view)))
   pub fields : fields_of lane ≡ record (fields_at stage.Work s) { generation = lane.log.generation; records = lane.log.records.items; entries = lane.entries.items; drawn = lane.drawn; last = lane.last; stopped = stopped }
   pub facts : HaveFacts (next s (commits s.entries found number)).view
+  pub unwritten : WritesNoRecord
+      (after_all s.view (take stops.made (commits s.entries found number s.view)))
 
 abbrev pub CommittedAs : {M : Type 0} → (M → View → Type 0) → Lane M → Result (Unit {0}) Stopped → Standing → Type 0
 CommittedAs at lane (Ok done) s = WasCommitted at lane s

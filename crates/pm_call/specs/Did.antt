@@ -1,5 +1,5 @@
 -- WHAT AN OPERATION OF A TRANSACTION DID to a lane, in one word for each kind of function, by cases of what it answers.
-use Rattle.std.specs.Prelude.{◌≡◌, ◌⊎◌, ℕ, ◌==◌, ◌<◌, ◌≤◌, Bool, true, false, if◌then◌else◌, [], Option, Some, None, Result, Ok, Err}
+use Rattle.std.specs.Prelude.{◌≡◌, ◌⊎◌, ℕ, ◌==◌, ◌<◌, ◌≤◌, Bool, true, false, if◌then◌else◌, [], take, Option, Some, None, Result, Ok, Err}
 use Rattle.pm_memory.specs.Runs.{Stops}
 use Rattle.pm_model.specs.Refusals.{Seen}
 use Rattle.pm_model.specs.declared.stage.Stage.{Stage}
@@ -26,6 +26,8 @@ use Rattle.pm_call.specs.At.{At, entries_so_far}
 use Rattle.pm_call.specs.Held.{HoldsAll, KnowsOwn, Looks}
 use Rattle.pm_call.specs.Waiting.{HasPending, uncalled}
 use Rattle.pm_call.specs.Plans.{gives_up}
+use Rattle.pm_call.specs.Unwritten.{WritesNoRecord, is_adding}
+use Rattle.pm_undo.specs.Working.{IsWorking}
 
 -- ---- STAGES OF A LANE
 
@@ -86,10 +88,15 @@ pub record Done {M : Type 0} (at : M → View → Type 0) (lane : Lane M) (s : S
 -- the first of its steps were, up to the lane's stop; of the fields only the log and the flag of the stop may be another.
 -- After all of the plan the entries would have their facts; so those have that are there by now
 pub record Cut {M : Type 0} (at : M → View → Type 0) (lane : Lane M) (s : Standing) (plan : Plan) (stopped : Bool) : Type 0 where
+  pub working : IsWorking s.view
   pub ready : Ready s.view (plan s.view)
   pub stops : Stops (at lane.memory) s.view (plan s.view)
   pub fields : fields_of lane ≡ record (fields_at stage.Work s) { generation = lane.log.generation; records = lane.log.records.items; stopped = stopped }
   pub facts : HaveFacts (next s plan).view
+
+-- it was writing no record of its log then
+abbrev pub WasUnwritten : {M : Type 0} {at : M → View → Type 0} {lane : Lane M} {s : Standing} {plan : Plan} {stopped : Bool} → Cut at lane s plan stopped → Type 0
+WasUnwritten {s = s} {plan = plan} cut = WritesNoRecord (after_all s.view (take cut.stops.made (plan s.view)))
 
 -- THE CALL IS OVER: it has its number, its log is retired, and nothing is undrained; its locks are held still
 pub record IsOver (s : Standing) : Type 0 where
@@ -123,12 +130,12 @@ pub record GaveUp {M : Type 0} (at : M → View → Type 0) (lane : Lane M) (s :
 -- what an operation that is tried comes to: it is done, with this answer; the lane stopped in its steps; or it is refused, and nothing was done
 abbrev pub Came : {M T : Type 0} → (M → View → Type 0) → Lane M → Operation → (View → Plan) → (View → T → Type 0) → Result T Refusal → Standing → Type 0
 Came at lane op plan Is (Ok x) s = Done at lane s op (plan s.view) × Is s.view x
-Came at lane op plan Is (Err refusal.Stopped) s = IsUnrefused s op × Cut at lane s (plan s.view) false
+Came at lane op plan Is (Err refusal.Stopped) s = IsUnrefused s op × ((cut : Cut at lane s (plan s.view) false) × (is_adding op ≡ false → WasUnwritten cut))
 Came at lane op plan Is (Err r) s = IsRefused s op r × Works at lane s × At s
 
 -- and one that is given up where it is refused
 abbrev pub Stopped : {M : Type 0} → (M → View → Type 0) → Lane M → Standing → Operation → Plan → Type 0
-Stopped at lane s op plan = (IsUnrefused s op × Cut at lane s plan true)
+Stopped at lane s op plan = (IsUnrefused s op × ((cut : Cut at lane s plan true) × (is_adding op ≡ false → WasUnwritten cut)))
     ⊎ ((r : Refusal) × (n : ℕ) × IsRefused s op r × Cut at lane s (gives_up op (Some (Refused r)) n) true)
 
 abbrev pub Ends : {M T : Type 0} → (M → View → Type 0) → Lane M → Operation → (View → Plan) → (View → T → Type 0) → Result T Refusal → Standing → Type 0

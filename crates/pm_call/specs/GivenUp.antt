@@ -3,7 +3,7 @@ use Rattle.std.specs.Prelude.{◌≡◌, ◌⊎◌, ℕ, suc, ◌+◌, true, fal
 use Rattle.pm_memory.specs.Runs.{Stops}
 use Rattle.pm_memory.specs.declared.lane_mem.Stopped.{Stopped}
 use Rattle.pm_model.specs.Refusals.{Seen}
-use Rattle.pm_model.specs.Inside.{is_action, is_inside}
+use Rattle.pm_model.specs.Inside.{is_action, is_inside, wants_of}
 use Rattle.pm_objects.specs.declared.calls.Operation.{Operation}
 use Rattle.pm_objects.specs.declared.calls.Operation.TheVariants.{Abort}
 use Rattle.pm_objects.specs.declared.history.TxErr.{TxErr}
@@ -21,6 +21,7 @@ use Rattle.pm_world.specs.declared.lane.Lane.{Lane}
 use Rattle.pm_plan.specs.Plans.{Plan, Ready}
 use Rattle.pm_undo.specs.Undoing.{KeepsLog, LogMoves}
 use Rattle.pm_undo.specs.Working.{IsWorking}
+use Rattle.pm_crash.specs.Facts.{WasTried}
 use Rattle.pm_crash.specs.Looked.{refusal_by}
 use Rattle.pm_crash.specs.SimOps.{LookedAt}
 use Rattle.pm_call.specs.At.{IsAtWith, entries_so_far}
@@ -39,6 +40,8 @@ pub record IsRefusedWith (s : Standing) (op : Operation) (reply : Option Value) 
   pub refusal : Refusal
   pub first : refusal_by seen s.view root op ≡ Some refusal
   pub replied : reply ≡ Some (Refused refusal)
+  -- a lock that was seen to be another lane's was tried in the call, and is wanted
+  pub busy : seen.busy ≡ true → WasTried (wants_of op) s.view.seen
 
 -- an abort
 pub record IsAbort (op : Operation) (reply : Option Value) : Type 0 where

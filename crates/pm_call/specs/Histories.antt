@@ -1,6 +1,6 @@
 -- THE HISTORY OF A LANE, by its view; and what the plans of operations make of it, as laws of data.
 -- All else of a plan leaves it as it is.
-use Rattle.std.specs.Prelude.{◌≡◌, ℕ, zero, suc, List, [], ◌∷◌, ◌++◌, map, take, Option, None, Some, Result, Ok, Err}
+use Rattle.std.specs.Prelude.{◌≡◌, ℕ, zero, suc, Bool, false, List, [], ◌∷◌, ◌++◌, map, take, Option, None, Some, Result, Ok, Err}
 use Rattle.pm_model.specs.Pending.{SetWord}
 use Rattle.pm_objects.specs.declared.calls.Operation.{Operation}
 use Rattle.pm_objects.specs.declared.calls.Operation.TheVariants.{AddRange, Cancel, Commit, Increment, Publish, Read, Write}
@@ -16,6 +16,7 @@ use Rattle.pm_world.specs.declared.lane.Lane.{Lane}
 use Rattle.pm_crash.specs.Looked.{bytes_seen}
 use Rattle.pm_plan.specs.Plans.{Plan, known_word}
 use Rattle.pm_call.specs.Publications.{publishes}
+use Rattle.pm_call.specs.Unwritten.{is_adding}
 use Rattle.pm_call.specs.Plans.{adds, cancels, commits, commits_inner, ends_call, gets, gives_up, increments, known_sum, logs_entries, puts}
 
 -- ---- WHAT A LANE TOLD
@@ -25,11 +26,13 @@ pub record Ended : Type 0 where
   pub number : ℕ
   pub call : List Told
 
--- which lane it is; its calls that have their numbers, the last first; and the open call so far
+-- which lane it is; its calls that have their numbers, the last first; the open call so far; and
+-- whether the lane stopped as it added a range
 pub record LaneHistory : Type 0 where
   pub lane : ℕ
   pub done : List Ended
   pub call : List Told
+  pub adding : Bool
 
 abbrev pub ended_of : Numbered → Ended
 ended_of e = record { number = e.number; call = e.call }
@@ -47,11 +50,12 @@ history_of v = record {
   lane = v.fixed.lane;
   done = calls_ended v;
   call = open_call v.number v.call;
+  adding = false;
 }
 
 -- of a lane that made no call
 abbrev pub nothing_told : ℕ → LaneHistory
-nothing_told lane = record { lane = lane; done = []; call = [] }
+nothing_told lane = record { lane = lane; done = []; call = []; adding = false }
 
 -- the last number
 abbrev pub last_ended : List Ended → ℕ
@@ -77,7 +81,7 @@ told_last n op reply h = record h {
 
 -- on the way of its last operation: it told that once it has a number
 abbrev pub told_by : Option ℕ → Operation → Option Value → LaneHistory → LaneHistory
-told_by None op reply h = h
+told_by None op reply h = record h { adding = is_adding op }
 told_by (Some n) op reply h = told_last n op reply h
 
 -- ---- HOW A CALL TURNS IT, by what the call returned, and by the lane's numbers then

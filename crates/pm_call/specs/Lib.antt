@@ -3,6 +3,7 @@ pub mod Waiting
 pub mod At
 pub mod Ranges
 pub mod Plans
+pub mod Unwritten
 pub mod Did
 pub mod GivenUp
 pub mod Stages

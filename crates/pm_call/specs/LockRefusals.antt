@@ -1,7 +1,7 @@
 -- WHY A LOCK, OR A BEGIN OF AN INNER LEVEL, IS REFUSED, as laws: by the lane's list of locks and
 -- by what its tries and looks told, the plain model's first refusal is found; and such an
 -- operation gives the transaction up.
-use Rattle.std.specs.Prelude.{◌≡◌, ◌⊎◌, ℕ, ◌+◌, ◌≤◌, ◌&&◌, nat_lt, not, false, Contains, List, [], ◌∷◌, ◌++◌, length, take, drop, Some, None}
+use Rattle.std.specs.Prelude.{◌≡◌, ◌⊎◌, ℕ, ◌+◌, ◌≤◌, ◌&&◌, nat_lt, not, true, false, Contains, List, [], ◌∷◌, ◌++◌, length, take, drop, Some, None}
 use Rattle.std.specs.List.{list_any}
 use Rattle.pm_objects.specs.declared.calls.Operation.{Operation}
 use Rattle.pm_objects.specs.declared.calls.Operation.TheVariants.{Begin}
@@ -16,6 +16,7 @@ use Rattle.pm_view.specs.View.{View}
 use Rattle.pm_view.specs.Views.{after_all}
 use Rattle.pm_world.specs.LaneFields.{Standing, moved}
 use Rattle.pm_world.specs.declared.lane.HeldLock.{HeldLock}
+use Rattle.pm_crash.specs.Facts.{WasTried}
 use Rattle.pm_crash.specs.Looked.{refusal_by}
 use Rattle.pm_lock.specs.Acquiring.{AreFinds}
 use Rattle.pm_lock.specs.Holding.{IsTaken}
@@ -53,12 +54,14 @@ LockRefusals = (s : Standing) (all : List HeldLock) (op : Operation) (wants : Li
     → IsAtWith s s.level all → IsLocking op wants s.level level
     → refusal_by seen s.view None op ≡ first_of (locking_tests seen s wants)
 
--- SO A REFUSED ONE gives the transaction up
+-- SO A REFUSED ONE gives the transaction up, where a lock that is wanted was tried if it was seen to
+-- be another lane's
 abbrev pub RefusedLocksGiveUp : Type 0
 RefusedLocksGiveUp = (s : Standing) (all : List HeldLock) (op : Operation) (wants : List Want)
     (level : ℕ) (seen : Seen) (r : Refusal)
     → IsAtWith s s.level all → IsLocking op wants s.level level
-    → first_of (locking_tests seen s wants) ≡ Some r → GivesUp s op (Some (Refused r))
+    → first_of (locking_tests seen s wants) ≡ Some r
+    → (seen.busy ≡ true → WasTried wants s.view.seen) → GivesUp s op (Some (Refused r))
 
 -- and so does a begin at the deepest level
 abbrev pub DeepBeginsGiveUp : Type 0

@@ -26,6 +26,7 @@ use Rattle.pm_call.specs.Plans.{ends_call}
 use Rattle.pm_call.specs.Publications.{EndsPast, FindsPast, HoldsWords, PassesTests, SeesWord, SeesWords, publishes, unlocked}
 use Rattle.pm_call.specs.Publishing.{words_pending}
 use Rattle.pm_call.specs.Stages.{IsBetween}
+use Rattle.pm_call.specs.Unwritten.{WritesNoRecord}
 use Rattle.pm_call.specs.Waiting.{listed_set}
 
 -- ---- DONE, from where the lane holds the objects and looked at the words
@@ -61,6 +62,8 @@ pub record PublishWasCut {M : Type 0} (at : M → View → Type 0) (lane : Lane 
   }
   -- all facts that the lane owes hold at its calls, this one among them
   pub facts : HaveFacts (next s (publishes (words_pending s) found number)).view
+  pub unwritten : WritesNoRecord
+      (after_all s.view (take stops.made (publishes (words_pending s) found number s.view)))
 
 abbrev pub WordsSetAs : {M : Type 0} → (M → View → Type 0) → Lane M → Result (Unit {0}) Refusal
     → Standing → Type 0

@@ -15,6 +15,7 @@ use Rattle.pm_call.specs.Between.{IsLaneBetween}
 use Rattle.pm_call.specs.Did.{IsAt, work_refusal}
 use Rattle.pm_call.specs.Histories.{LaneHistory, calls_ended, history_of, last_ended, turned, unless}
 use Rattle.pm_call.specs.Stages.{IsLanePast, end_refusal}
+use Rattle.pm_call.specs.Unwritten.{WritesNoRecord}
 
 -- A STOP IS DUE: the lane made as many counted calls as its stop number says, or it found the stop
 -- word set as it waited for a lock
@@ -46,6 +47,7 @@ pub record StandsWith {M : Type 0} (at : M → View → Type 0) (lane : Lane M) 
       × (history_of b.standing.view ≡ h) × (h.call ≡ [])
   pub stopped : lane.stopped ≡ true → (x : IsLaneStopped at lane)
       × (calls_ended x.view ≡ h.done) × (x.view.fixed.lane ≡ h.lane) × EndsOpen lane.drawn x.view
+      × (h.adding ≡ false → WritesNoRecord x.view)
   -- the lane's field tells its last number
   pub last : lane.stopped ≡ false → lane.last ≡ last_ended h.done
 

@@ -9,10 +9,10 @@ use Rattle.pm_view.specs.Steps.{Step}
 use Rattle.pm_view.specs.Steps.Step.{Raise}
 use Rattle.pm_view.specs.View.{View}
 use Rattle.pm_view.specs.Views.{after_all}
-use Rattle.pm_world.specs.Causes.{was_refused}
 use Rattle.pm_world.specs.LaneFields.{Standing, Works, moved}
 use Rattle.pm_world.specs.declared.lane.HeldLock.{HeldLock}
 use Rattle.pm_world.specs.declared.lane.Lane.{Lane}
+use Rattle.pm_crash.specs.Facts.{WasTried}
 use Rattle.pm_lock.specs.Locking.{lock_at}
 use Rattle.pm_lock.specs.Objects.{MissesAt, ToldNoRun}
 use Rattle.pm_lock.specs.Raising.{raises}
@@ -60,7 +60,7 @@ pub record RefusesWants (s : Standing) (wants : List Want) (r : Refusal) : Type 
   pub seen : Seen
   pub first : first_of (locking_tests seen (moved s view) wants) ≡ Some r
   pub unstopped : r ≢ refusal.Stopped
-  pub busy : seen.busy ≡ true → (line : ℕ) × (was_refused line view.seen ≡ true)
+  pub busy : seen.busy ≡ true → WasTried wants view.seen
   pub missing : (off : ℕ) → is_among seen.missing off ≡ true
       → (line : ℕ) × (off ≡ 64 * line + 64) × IsMissed s.view line view
 

@@ -49,6 +49,7 @@ use Rattle.pm_call.proofs.Staying.{has_pending}
 use Rattle.pm_call.proofs.StoppedLanes.{stop_was_seen, stops_have}
 use Rattle.pm_call.proofs.StoppedNumbers.{ends_untold}
 use Rattle.pm_call.proofs.ToldLooks.{told_open, saw_history, stops_silent, told_history}
+use Rattle.pm_call.proofs.UnwrittenRests.{all_unwritten, stopped}
 use Rattle.pm_root.specs.Root.{FieldsStay, FoundAs, FoundBy, KnowsRoot, RootFound, id_of, FoundOpenAs, looked}
 
 -- ---- THE CLAIMS THEN
@@ -433,6 +434,8 @@ module _ {M : Type 0} (at : M → View → Type 0) (old new : Lane M) (h : LaneH
       (ap (λ (x : LaneHistory). x.done) history) (ap (λ (x : LaneHistory). x.lane) history)
       (ends_untold new.drawn w (ap (λ (x : Fields). x.drawn) f.fields)
       (told_open s.view w told is.number.none))
+      (λ _. all_unwritten s.view is.working (stops f.refused 0 false)
+      (stopped s.view.fixed.shape s.view.fixed.lane f.refused 0 false))
   open_turns s is outside same none (Err r) f = absurd f
 
   found_turns : (s : Standing) → s.level ≡ 0 → MayOpen s → history_of s.view ≡ h → h.call ≡ []

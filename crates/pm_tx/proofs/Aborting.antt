@@ -42,5 +42,5 @@ module _ {M : Type 0} (at : M → View → Type 0) (old : Lane M) (errnum : ℕ)
       let c : (n : ℕ) × Cut at mid s (gives_up (Abort errnum) None n) false = gave s s.locks works is (gives_it_up s) in (
         c.0,
         subst (λ (lane : Lane M). Cut at lane s (gives_up (Abort errnum) None c.0) true) (sym says)
-            (record { ready = c.1.ready; stops = c.1.stops; fields = ap (λ (f : Fields). record f { stopped = true }) c.1.fields; facts = c.1.facts }),
+            (record { working = c.1.working; ready = c.1.ready; stops = c.1.stops; fields = ap (λ (f : Fields). record f { stopped = true }) c.1.fields; facts = c.1.facts }),
       )))

@@ -76,6 +76,7 @@ module _ {M : Type 0} (at : M → View → Type 0) (old : Lane M) where
         numbered = record { drawn = c.numbered.drawn; last = c.numbered.last };
         fields = ap (λ (f : Fields). record f { stopped = true }) c.fields;
         facts = c.facts;
+        unwritten = c.unwritten;
       })) (committed s works is one))))
 
   -- ---- stage by stage

@@ -26,6 +26,7 @@ use Rattle.pm_call.proofs.StoppedLanes.{wait_is_stopped}
 use Rattle.pm_call.proofs.StoppedNumbers.{ends_untold}
 use Rattle.pm_call.proofs.ToldLooks.{saw_history, taken_told, told_history, told_open, tried_told, wait_told}
 use Rattle.pm_call.proofs.ToldPlans.{tells_history}
+use Rattle.pm_call.proofs.UnwrittenRests.{wait_unwritten}
 use Rattle.pm_tx.specs.Begins.{LevelBegun, LevelBegunSo}
 use Rattle.pm_tx.specs.Locks.{DidLock, DidLockSo}
 use Rattle.pm_tx.specs.Standing.{turned_begin}
@@ -117,6 +118,7 @@ module _ {M : Type 0} (at : M → View → Type 0) (old new : Lane M) (h : LaneH
         (ap (λ (x : LaneHistory). x.done) (told_history s.view _ h told same)
         ∙ sym (ap (λ d. (told_by d (Begin wants) None h).done) drawn))
         (ends_untold new.drawn _ drawn (told_open s.view _ told opened.number.none))
+        (λ n e. refl) (λ _. wait_unwritten at new s wants opened.working b)
     begun_turns s opened same (Err r) b =
         let tried = tried_told s wants b.all b.view b.tried in
         aborted_call_stands at new h (at_level 1 (with_locks b.all (moved s b.view))) (Begin wants)

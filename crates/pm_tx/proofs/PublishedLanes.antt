@@ -2,7 +2,7 @@
 use Rattle.std.proofs.Common.{◌≡◌, ℕ, zero, suc, ◌+◌, ◌<◌, ◌≤◌, inl, Bool, true, false, nat_lt, Contains, List, [], ◌∷◌, ◌++◌, length, refl, sym, ap, ◌∙◌, subst, arith, None, Some, Result, Ok, Err}
 use Rattle.std.specs.List.{AllByRecursion, list_any}
 use Rattle.std.specs.Option.{option_map_or}
-use Rattle.std.proofs.lemmas.Bool.{lt-ltb, or_left, or_right}
+use Rattle.std.proofs.lemmas.Bool.{both_ways, lt-ltb, or_left, or_right}
 use Rattle.pm_memory.specs.Runs.{Made}
 use Rattle.pm_model.specs.Pending.{SetWord}
 use Rattle.pm_model.specs.Refusals.{first_of, max_entries}
@@ -201,6 +201,7 @@ module _ {M : Type 0} (at : M → View → Type 0) (old mid new : Lane M) where
     refusal = r;
     first = refused.first;
     replied = refl;
+    busy = λ e. absurd (both_ways false refl e);
   })
 
   pub refusal_stands : (r : Refusal) → IsAt at old → Checked at old mid Publishes Publish (Err r)
