@@ -42,6 +42,10 @@ no_level l = omega (arith, l)
 pub nothing_open : {M : Type 0} (at : M → View → Type 0) (lane : Lane M) (h : LaneHistory) → RestsWith at lane h → h.call ≡ []
 nothing_open at lane h rests = (rests.0.between (ap (λ (p : Position). p.stopped) rests.1) (ap (λ (p : Position). p.level) rests.1)).2
 
+-- nor did it stop
+pub rests_plain : {M : Type 0} (at : M → View → Type 0) (lane : Lane M) (h : LaneHistory) → RestsWith at lane h → h.adding ≡ false
+rests_plain at lane h rests = sym (ap (λ (x : LaneHistory). x.adding) (rests.0.between (ap (λ (p : Position). p.stopped) rests.1) (ap (λ (p : Position). p.level) rests.1)).1)
+
 -- ---- LEVELS
 
 at_work : (n : ℕ) → 1 ≤ n → working n ≡ at_level n

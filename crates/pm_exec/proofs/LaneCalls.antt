@@ -1,5 +1,5 @@
 -- THE CALLS OF A LANE, one after another: what one call more leaves, and how they end.
-use Rattle.std.proofs.Common.{◌≡◌, ◌≢◌, ℕ, Bool, true, false, All, List, [], ◌∷◌, ◌++◌, length, map, reverse, take, ◌%◌, ◌^◌, Result, Ok, Err, append_assoc, Option, Some, None, refl, sym, ap, ap₂, ◌∙◌, subst, append-nil}
+use Rattle.std.proofs.Common.{◌≡◌, ◌≢◌, ℕ, zero, suc, Bool, true, false, All, List, [], ◌∷◌, ◌++◌, length, map, reverse, take, ◌%◌, ◌^◌, Result, Ok, Err, append_assoc, Option, Some, None, refl, sym, ap, ap₂, ◌∙◌, subst, append-nil, arith, get_or}
 use Rattle.std.proofs.lemmas.Bool.{both_ways}
 use Rattle.std.proofs.lemmas.List.{length-map, map-append, reverse-append}
 use Rattle.std.proofs.lemmas.List.Elements.{All-nil, All-push}
@@ -23,7 +23,7 @@ use Rattle.pm_call.specs.Standing.{StandsWith}
 use Rattle.pm_calls.specs.declared.names.Names.{Names}
 use Rattle.pm_action.specs.Outside.{Finished, FinishedSo}
 use Rattle.pm_action.specs.Standing.{FinishedLanesHaveFacts}
-use Rattle.pm_exec.specs.Answers.{IsAnswer, IsSpent, MayBeKeptOrLost, lines_of, rans_of}
+use Rattle.pm_exec.specs.Answers.{AddsRange, IsAnswer, IsSpent, MayBeKeptOrLost, lines_of, rans_of}
 use Rattle.pm_exec.specs.Running.{CallCame, CallsCame, Closed, RestsWith, with_ended}
 use Rattle.pm_exec.specs.declared.answer.Answer.{Answer}
 use Rattle.pm_exec.specs.declared.call_end.CallEnd.TheVariants as ends
@@ -33,7 +33,8 @@ use Rattle.pm_exec.proofs.Spent.{rest_closed}
 pub record CallsMade {M : Type 0} (at : M → View → Type 0) (lane : Lane M) (names : Names)
     (number : ℕ) (calls : List (List ScriptLine)) (answers : List Answer) : Type 0 where
   pub done : List Ended
-  pub rests : RestsWith at lane (record { lane = number; done = reverse done; call = [] })
+  pub rests : RestsWith at lane
+      (record { lane = number; done = reverse done; call = []; adding = false })
   pub lines : map lines_of answers ≡ calls
   pub shown : AllZip (IsAnswer names number) answers done
   pub answered : All (λ (a : Answer). is_answered a.fate ≡ true) answers
@@ -52,6 +53,19 @@ taken all calls more is =
     sym (take-append_seam (map lines_of all) more)
     ∙ (ap (λ (k : ℕ). take k (map lines_of all ++ more)) (length-map all lines_of)
     ∙ ap (λ (l : List (List ScriptLine)). take (length all) l) is)
+
+-- what follows those that were answered
+item_after : {X : Type 0} (xs ys : List X) (y d : X) (n : ℕ) → n ≡ length xs → get_or (xs ++ y ∷ ys) n d ≡ y
+item_after [] ys y d zero is = refl
+item_after [] ys y d (suc n) is = absurd (omega (arith, is))
+item_after (x ∷ xs) ys y d zero is = absurd (omega (arith, is))
+item_after (x ∷ xs) ys y d (suc n) is = item_after xs ys y d n (omega (arith, is))
+
+next_is : (answers : List Answer) (lines : List (List ScriptLine)) (line : List ScriptLine) (more : List (List ScriptLine)) → map lines_of answers ≡ lines
+    → (calls : List (List ScriptLine)) → lines ++ line ∷ more ≡ calls → get_or calls (length answers) [] ≡ line
+next_is answers lines line more are calls parts =
+    ap (λ (cs : List (List ScriptLine)). get_or cs (length answers) []) (sym parts)
+    ∙ item_after lines more line [] (length answers) (sym (length-map answers lines_of) ∙ ap (λ (l : List (List ScriptLine)). length l) are)
 
 -- a call that may be lost may be kept
 kept_too : (single : Bool) (rans : List Ran) → IsFate single rans fate.Lost → IsFate single rans fate.Kept
@@ -72,7 +86,7 @@ some_is a b is = ap (λ (o : Option Answer). MatchOr o) is where
   MatchOr (Some x) = x
 
 abbrev between : ℕ → List Ended → LaneHistory
-between n done = record { lane = n; done = done; call = [] }
+between n done = record { lane = n; done = done; call = []; adding = false }
 
 module _ {M : Type 0} (at : M → View → Type 0) (names : Names) where
   pub none_made : (lane : Lane M) (n : ℕ) (answers : List Answer) → answers ≡ []
@@ -86,8 +100,8 @@ module _ {M : Type 0} (at : M → View → Type 0) (names : Names) where
         (All-nil (λ (a : Answer). is_answered a.fate ≡ true));
   }
 
-  pushed : (n : ℕ) (done : List Ended) (d : Ended) → with_ended d (record { lane = n; done = reverse done; call = [] })
-      ≡ record { lane = n; done = reverse (done ++ d ∷ []); call = [] }
+  pushed : (n : ℕ) (done : List Ended) (d : Ended) → with_ended d (between n (reverse done))
+      ≡ between n (reverse (done ++ d ∷ []))
   pushed n done d = ap (between n) (sym (reverse-append done (d ∷ [])))
 
   module _ (old new : Lane M) (lines : List ScriptLine) where
@@ -113,18 +127,21 @@ module _ {M : Type 0} (at : M → View → Type 0) (names : Names) where
       let clash : true ≡ false = sym is ∙ ap (λ (p : Position). p.stopped) here in cc
 
   -- no answer is missing
-  all_told : (lane : Lane M) (n : ℕ) (calls lines more : List (List ScriptLine)) (answers : List Answer) (done : List Ended) (call : List Told) (e : LaneEnd)
-      → StandsWith at lane (record { lane = n; done = reverse done; call = call })
+  all_told : (lane : Lane M) (n : ℕ) (calls lines more : List (List ScriptLine)) (answers : List Answer) (done : List Ended) (call : List Told) (adding : Bool) (e : LaneEnd)
+      → StandsWith at lane (record { lane = n; done = reverse done; call = call; adding = adding })
+      → (adding ≡ true → AddsRange names (get_or calls (length answers) []))
       → map lines_of answers ≡ lines → lines ++ more ≡ calls → AllZip (IsAnswer names n) answers done
       → All (λ (a : Answer). is_answered a.fate ≡ true) answers
       → (lane.stopped ≡ true → lane.drawn ≡ None) → (lane.stopped ≡ false → position_of lane ≡ resting)
       → (e ≡ end.Ended → more ≡ []) → (lane.stopped ≡ false → (k : ℕ) → e ≢ end.Stopped k)
-      → ((line : ℕ) → e ≡ end.Spent line → IsSpent at lane (record { lane = n; done = reverse done; call = call }))
+      → ((line : ℕ) → e ≡ end.Spent line → IsSpent at lane (record { lane = n; done = reverse done; call = call; adding = adding }))
       → CallsCame at lane names n calls answers None e
-  all_told lane n calls lines more answers done call e stands are parts shown answered stopped going whole unstopped spent = record {
+  all_told lane n calls lines more answers done call adding e stands adds are parts shown answered stopped going whole unstopped spent = record {
     done = done;
     call = call;
+    adding = adding;
     stands = stands;
+    adds = λ is. (refl, adds is);
     of_calls = taken (answers ++ []) calls more
         (ap (λ (said : List Answer). map lines_of said ++ more) (append-nil answers) ∙ (ap (λ (l : List (List ScriptLine)). l ++ more) are ∙ parts));
     shown = subst (λ (said : List Answer). AllZip (IsAnswer names n) said done) (sym (append-nil answers)) shown;
@@ -143,10 +160,10 @@ module _ {M : Type 0} (at : M → View → Type 0) (names : Names) where
   pub rests_after : (lane : Lane M) (n : ℕ) (calls lines more : List (List ScriptLine)) (answers : List Answer) (e : LaneEnd)
       → (made : CallsMade at lane names n lines answers) → lines ++ more ≡ calls
       → (e ≡ end.Ended → more ≡ []) → ((k : ℕ) → e ≢ end.Stopped k)
-      → ((line : ℕ) → e ≡ end.Spent line → IsSpent at lane (record { lane = n; done = reverse made.done; call = [] }))
+      → ((line : ℕ) → e ≡ end.Spent line → IsSpent at lane (between n (reverse made.done)))
       → CallsCame at lane names n calls answers None e
   rests_after lane n calls lines more answers e made parts whole unstopped spent =
-      all_told lane n calls lines more answers made.done [] e made.rests.0 made.lines parts made.shown made.answered
+      all_told lane n calls lines more answers made.done [] false e made.rests.0 (λ is. absurd (both_ways false refl is)) made.lines parts made.shown made.answered
       (λ is. absurd (stopped_not lane made.rests.1 is)) (λ g. made.rests.1) whole (λ g. unstopped) spent
 
   module _ (old new : Lane M) (line : List ScriptLine) (n : ℕ) (calls lines more : List (List ScriptLine)) (answers : List Answer)
@@ -166,10 +183,11 @@ module _ {M : Type 0} (at : M → View → Type 0) (names : Names) where
         → lines ++ line ∷ more ≡ calls → CallsCame at new names n calls answers u (end.Stopped k)
     stopped_after None k came parts =
         let c = came _ made.rests in
-        all_told new n calls lines (line ∷ more) answers made.done c.0 (end.Stopped k) c.1 made.lines parts made.shown made.answered
-        (λ is. c.3) (λ g. absurd (let clash : true ≡ false = sym c.2 ∙ g in cc))
+        all_told new n calls lines (line ∷ more) answers made.done c.0 c.1 (end.Stopped k) c.2
+        (λ is. subst (AddsRange names) (sym (next_is answers lines line more made.lines calls parts)) (c.5 is)) made.lines parts made.shown made.answered
+        (λ is. c.4) (λ g. absurd (let clash : true ≡ false = sym c.3 ∙ g in cc))
         (λ is. absurd (let clash : end.Stopped k ≡ end.Ended = is in cc))
-        (λ g. absurd (let clash : true ≡ false = sym c.2 ∙ g in cc))
+        (λ g. absurd (let clash : true ≡ false = sym c.3 ∙ g in cc))
         (λ line is. absurd (let clash : end.Stopped k ≡ end.Spent line = is in cc))
     stopped_after (Some a) k came parts =
         let c = came _ made.rests in
@@ -177,7 +195,9 @@ module _ {M : Type 0} (at : M → View → Type 0) (names : Names) where
         record {
           done = made.done ++ c.0 ∷ [];
           call = [];
+          adding = false;
           stands = subst (λ (h : LaneHistory). StandsWith at new h) (pushed n made.done c.0) c.1;
+          adds = λ is. absurd (both_ways false refl is);
           of_calls = taken (answers ++ a ∷ []) calls more
               (ap (λ (l : List (List ScriptLine)). l ++ more) is_lines ∙ (append_assoc lines (line ∷ []) more ∙ parts));
           shown = zip_push (IsAnswer names n) answers made.done a c.0 made.shown c.5;
@@ -227,7 +247,7 @@ module _ {M : Type 0} (at : M → View → Type 0) (old new : Lane M) (result : 
           going = going;
           stopped = λ is. stopped is x.0.view x.0.seen;
           due = λ is. x.0.due (ap (λ (lane : Lane M). lane.stopped) (same_lane is) ∙ is);
-          unwritten = λ g. absurd (both_ways old.stopped g s);
+          unwritten = x.4;
         }
     by false g =
         let b = stands.between g (level g) in

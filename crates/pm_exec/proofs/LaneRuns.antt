@@ -1,5 +1,7 @@
 -- THE WORK OF A LANE: its calls, and then its end.
-use Rattle.std.proofs.Common.{◌≡◌, ◌≢◌, ℕ, Bool, true, false, List, [], length, map, reverse, take, ◌%◌, ◌^◌, option_map, Option, Some, None, Vec, refl, sym, ap, ◌∙◌, subst}
+use Rattle.std.proofs.Common.{◌≡◌, ◌≢◌, ◌⊎◌, inl, inr, ℕ, Bool, true, false, List, [], length, map, reverse, take, ◌%◌, ◌^◌, option_map, Option, Some, None, Vec, refl, sym, ap, ◌∙◌, subst}
+use Rattle.std.specs.Prelude.{slice_index_or}
+use Rattle.std.proofs.lemmas.Bool.{both_ways}
 use Rattle.std.proofs.lemmas.List.{reverse-reverse}
 use Rattle.std.specs.Global.{Global}
 use Rattle.std.specs.List.{AllZip}
@@ -16,11 +18,13 @@ use Rattle.pm_call.specs.Standing.{IsLaneStopped, IsStopDue, StandsWith}
 use Rattle.pm_calls.specs.LaneRooms.{lines_to_run}
 use Rattle.pm_calls.specs.declared.names.Names.{Names}
 use Rattle.pm_calls.specs.declared.room.CallRoom.{CallRoom}
-use Rattle.pm_exec.specs.Answers.{IsAnswer, IsSpent, IsSpentView, WritesNoRecord, lines_of}
+use Rattle.pm_call.specs.Unwritten.{WritesNoRecord}
+use Rattle.pm_exec.specs.Answers.{AddsRange, IsAnswer, IsSpent, IsSpentView, lines_of}
 use Rattle.pm_exec.specs.Running.{CallsCame, Closed, RestsWith, SpentClosed}
-use Rattle.pm_exec.specs.Works.{DidCalls, WorkLeft, all_answers, lines_left}
+use Rattle.pm_exec.specs.Works.{AddedNext, DidCalls, WorkLeft, all_answers, lines_left}
 use Rattle.pm_exec.specs.declared.answer.Answer.{Answer}
 use Rattle.pm_exec.specs.declared.work.LaneWork.{LaneWork}
+use Rattle.pm_exec.proofs.CallLines.{rests_plain}
 use Rattle.pm_exec.proofs.RootLooks.{rests_undrawn}
 
 same_count : (k n : ℕ) → end.Stopped k ≡ end.Stopped n → k ≡ n
@@ -34,7 +38,7 @@ module _ {G M : Type 0} (at : M → View → Type 0) (before after : LaneWork G)
     (calls : Vec CallRoom Global) (has : before.calls ≡ Some calls) (e : LaneEnd)
     (same : (after.number ≡ before.number) × (after.names ≡ before.names))
     (came : CallsCame at ran before.names n (map lines_to_run calls.items) after.answers.items after.unanswered e)
-    (ends : Closed at ran closed (record { lane = n; done = reverse came.done; call = came.call }) e after.end)
+    (ends : Closed at ran closed (record { lane = n; done = reverse came.done; call = came.call; adding = came.adding }) e after.end)
     (spent : (line : ℕ) → after.end ≡ end.Spent line → IsSpentView ends.stops.view) where
   left_are : map lines_to_run calls.items ≡ lines_left before
   left_are = ap (λ (c : Option (Vec CallRoom Global)). option_map_or (λ (room : Vec CallRoom Global). map lines_to_run room.items) c []) (sym has)
@@ -45,7 +49,7 @@ module _ {G M : Type 0} (at : M → View → Type 0) (before after : LaneWork G)
   drawn_is : (b : Bool) → ran.stopped ≡ b → ran.drawn ≡ number_of
   drawn_is true s = came.stopped s
   drawn_is false g =
-      rests_undrawn at ran (record { lane = n; done = reverse came.done; call = came.call }) (came.stands, (came.going g).0)
+      rests_undrawn at ran (record { lane = n; done = reverse came.done; call = came.call; adding = came.adding }) (came.stands, (came.going g).0)
       ∙ ap (λ (o : Option Answer). option_map (λ (a : Answer). a.number) o) (sym (came.going g).1)
 
   whole_when : (b : Bool) → ran.stopped ≡ b → after.end ≡ end.Ended → length after.answers.items ≡ length (map lines_to_run calls.items)
@@ -64,10 +68,22 @@ module _ {G M : Type 0} (at : M → View → Type 0) (before after : LaneWork G)
   due_when true s k is = ends.due s
   due_when false g k is = absurd (came.unstopped g k (sym (ends.going g) ∙ is))
 
-  unwritten_when : (b : Bool) → ran.stopped ≡ b → ((k : ℕ) → after.end ≢ end.Stopped k)
-      → WritesNoRecord ends.stops.view
-  unwritten_when true s not = absurd (not (ends.stops.view.calls % 2 ^ 64) (ends.stopped s))
-  unwritten_when false g not = ends.unwritten g
+  added_when : (b : Bool) → ran.stopped ≡ b → came.adding ≡ true → AddedNext before after
+  added_when true s is = record {
+    calls = ends.stops.view.calls % 2 ^ 64;
+    stopped = ends.stopped s;
+    none = (came.adds is).0;
+    adds = subst (λ (l : List (List ScriptLine)). AddsRange before.names
+        (slice_index_or l (length after.answers.items) [])) left_are (came.adds is).1;
+  }
+  added_when false g is = absurd (both_ways came.adding (rests_plain at ran
+      (record { lane = n; done = reverse came.done; call = came.call; adding = came.adding })
+      (came.stands, (came.going g).0)) is)
+
+  unwritten_by : (b : Bool) → came.adding ≡ b
+      → WritesNoRecord ends.stops.view ⊎ AddedNext before after
+  unwritten_by true is = inr (added_when ran.stopped refl is)
+  unwritten_by false is = inl (ends.unwritten is)
 
   pub work_did : DidCalls before after ends.stops.view
   work_did = record {
@@ -84,7 +100,7 @@ module _ {G M : Type 0} (at : M → View → Type 0) (before after : LaneWork G)
     counted = counted_when ran.stopped refl;
     due = due_when ran.stopped refl;
     spent = spent;
-    unwritten = unwritten_when ran.stopped refl;
+    unwritten = unwritten_by came.adding refl;
   }
 
 module _ {G M : Type 0} (at : M → View → Type 0) (before self : LaneWork G) (lane closed : Lane M) (n : ℕ) (result : LaneEnd)
@@ -142,7 +158,8 @@ module _ {G M : Type 0} (at : M → View → Type 0) (before self : LaneWork G) 
   lane_ran calls has left answers unanswered e ran self_is lane_is came =
       let here = subst (λ (l : Lane M). CallsCame at l before.names n (map lines_to_run calls.items) answers.items unanswered e) (sym lane_is) came in
       let came_so = subst (λ (w : LaneWork G). CallsCame at lane before.names n (map lines_to_run calls.items) w.answers.items w.unanswered w.end) (sym self_is) here in
-      let ends = closed_so (record { lane = n; done = reverse came_so.done; call = came_so.call }) self.end refl
+      let ends = closed_so
+      (record { lane = n; done = reverse came_so.done; call = came_so.call; adding = came_so.adding }) self.end refl
       came_so.stands (λ g. (came_so.going g).0) came_so.spent in (
         ends.0.stops,
         ends.0.lane,
@@ -165,7 +182,7 @@ pub came_closes : {M : Type 0} (at : M → View → Type 0) (lane ran : Lane M) 
     → (h : LaneHistory) × StandsWith at lane h × (lane.stopped ≡ false → position_of lane ≡ resting)
 came_closes {M} at lane ran names n calls answers unanswered e is came =
     let here = subst (λ (l : Lane M). CallsCame at l names n calls answers unanswered e) (sym is) came in
-    (record { lane = n; done = reverse here.done; call = here.call }, here.stands, λ g. (here.going g).0)
+    (record { lane = n; done = reverse here.done; call = here.call; adding = here.adding }, here.stands, λ g. (here.going g).0)
 
 pub rests_closes : {M : Type 0} (at : M → View → Type 0) (lane ran : Lane M) (n : ℕ) → lane ≡ ran
     → RestsWith at ran (nothing_told n)

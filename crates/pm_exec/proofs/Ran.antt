@@ -1,7 +1,7 @@
 -- WHAT THE LANES OF A RUN REPORT is a history: it is the plain model's, each lane's part is the first
 -- of its calls in the script, and the image that is left means it; so does each other that may
 -- survive, with the fates that it gives to the calls that were not answered.
-use Rattle.std.proofs.Common.{◌≡◌, ◌≢◌, ℕ, ◌+◌, ◌<◌, ◌≤◌, ◌==◌, if◌then◌else◌, Bool, true, false, All, Contains, List, [], ◌∷◌, ◌++◌, length, map, get_or, reverse, take, option_to_list, Option, Some, None, refl, sym, ap, ◌∙◌, subst, arith}
+use Rattle.std.proofs.Common.{◌≡◌, ⊎_elim, ℕ, ◌+◌, ◌<◌, ◌≤◌, ◌==◌, if◌then◌else◌, Bool, true, false, All, Contains, List, [], ◌∷◌, ◌++◌, length, map, get_or, reverse, take, option_to_list, Option, Some, None, refl, sym, ap, ◌∙◌, subst, arith}
 use Rattle.std.specs.List.{AllZip}
 use Rattle.std.proofs.lemmas.List.{append-nil, get_or-map, get_or_default, length-map}
 use Rattle.std.proofs.lemmas.List.Elements.{All-cons, All-nil, All-tail}
@@ -12,9 +12,12 @@ use Rattle.pm_image.specs.Logs.{recovered_at}
 use Rattle.pm_lanes.specs.Closed.{AllAreBack, ClosedPoolsMeanTheirHistories, ClosedPoolsReplay, MaySurvive, NoRecordTorn, OpenCallsAreJudged, OtherCallsAreKept, keeps_call}
 use Rattle.pm_lanes.specs.Opens.{IsOpened}
 use Rattle.pm_objects.specs.declared.history.Entry.{Entry}
+use Rattle.pm_objects.specs.declared.history.Fate.TheVariants as fate
+use Rattle.pm_objects.specs.declared.history.TxErr.TheVariants as error
+use Rattle.pm_objects.specs.declared.refusal.Refusal.TheVariants.{Busy}
 use Rattle.pm_model.specs.History.{IsHistory, is_answered}
 use Rattle.pm_run.specs.Fates.{AreJudged}
-use Rattle.pm_run.specs.Runs.{HaveRun}
+use Rattle.pm_run.specs.Runs.{HaveRun, LaneRan}
 use Rattle.pm_script.specs.declared.script.ScriptLine.{ScriptLine}
 use Rattle.pm_shared.specs.declared.rule.Beginning.{Beginning}
 use Rattle.pm_text.specs.declared.report.LaneEnd.{LaneEnd}
@@ -23,24 +26,25 @@ use Rattle.pm_view.specs.View.{View}
 use Rattle.pm_world.specs.World.{Past}
 use Rattle.pm_call.specs.Histories.{Ended, calls_ended}
 use Rattle.pm_crash.specs.Fates.{is_judged_kept}
-use Rattle.pm_exec.specs.Answers.{IsAnswer, lines_of}
+use Rattle.pm_exec.specs.Answers.{AddsRange, IsAnswer, lines_of}
 use Rattle.pm_calls.specs.Calls.{call_of, calls_from, calls_of_lane, level_behind, line_of, with_line}
 use Rattle.pm_calls.specs.declared.names.Names.{Names}
 use Rattle.pm_exec.specs.Entries.{HasNumber, HaveAllNumbers}
 use Rattle.pm_script.specs.Scripts.{of_lane}
 use Rattle.pm_exec.specs.Reports.{AreInOrder, AreWorksFor, HaveLines, IsLaneHistory, IsLined, IsWorkFor, all_entries, ends_of, entries_of, entries_of_lane}
-use Rattle.pm_world.specs.Crash.{IsBeingWritten, IsWhole}
-use Rattle.pm_exec.specs.Runs.{RanOnLanes, Replayed, StandsFor, StoppedTearNone, SurvivesAs, names_of}
+use Rattle.pm_world.specs.Crash.{IsBeingWritten}
+use Rattle.pm_exec.specs.Runs.{AddedTearNone, AddsNext, RanOnLanes, Replayed, StandsFor, SurvivesAs, names_of}
 use Rattle.pm_exec.specs.declared.outcome.Outcome.{Outcome}
 use Rattle.pm_script.specs.declared.script.Script.{Script}
-use Rattle.pm_exec.specs.Works.{DidCalls, all_answers}
+use Rattle.pm_call.specs.Unwritten.{WritesNoRecord}
+use Rattle.pm_exec.specs.Works.{AddedNext, DidCalls, all_answers, lines_left}
 use Rattle.pm_exec.specs.declared.answer.Answer.{Answer}
 use Rattle.pm_exec.specs.declared.work.LaneWork.{LaneWork}
 use Rattle.pm_exec.proofs.Choices.{IsAnsweredWork, are_judged, but_fates, judged_flags, refated, still_in_order}
-use Rattle.pm_exec.proofs.Reported.{InOrder, LaneSays, NumberOf, OfSome, are_entries, are_history, are_of_lane, as_long, least_number, number_below}
+use Rattle.pm_exec.proofs.Reported.{EndedAt, InOrder, LaneSays, NumberOf, OfSome, are_entries, are_history, are_of_lane, as_long, busy_at, least_number, number_below}
 use Rattle.pm_exec.proofs.Reports.{LaneLeft, all_answered, as_many, entries_with, first_calls, lane_says}
 use Rattle.pm_exec.proofs.Entries.{all_in, in_all}
-use Rattle.pm_exec.proofs.Stopped.{LaneLaws, has_stopped, lanes_ran, may_survive, none_left}
+use Rattle.pm_exec.proofs.Stopped.{LaneLaws, has_stopped, none_left}
 use Rattle.pm_exec.proofs.Rising.{Has, all_has, has_all, has_at, place_of}
 
 abbrev IsSomeLine : List ScriptLine → Type 0
@@ -100,30 +104,33 @@ module _ {G : Type 0} {names : Names} (laws : PoolLaws) (b : Beginning) (keep_nu
       each_lined all (calls_of_lane k script)
       (did.calls ∙ ap (λ (ls : List (List ScriptLine)). take (length all) ls) for_.lines) (calls_are_lined 0 (of_lane k script))
 
-  -- ---- NO RECORD IS TORN, where none is that a stopped lane was writing
+  -- ---- NO RECORD IS TORN, where none is that a lane was writing which stopped in a call that adds a range
 
-  pub none_torn : (image : List ℕ) → StoppedTearNone ran.closed.last (ends_of after) image
-      → NoRecordTorn b ran.closed.last image
-  none_torn image none k j u low inside writing valid = by (work_of k).end refl where
-    end_is : get_or (ends_of after) k end.Ended ≡ (work_of k).end
-    end_is = get_or-map (λ (x : LaneWork G). x.end) after k w end.Ended
-        (let count = ran.works in omega (arith, count, low))
+  pub none_torn : (image : List ℕ) (entries : List Entry)
+      → ((k : ℕ) → k < b.lanes → (work_of k).unanswered ≡ None → length (entries_of_lane k entries) ≡ length (work_of k).answers.items)
+      → AddedTearNone ran.closed.last names script entries (ends_of after) image → NoRecordTorn b ran.closed.last image
+  none_torn image entries count none k j u low inside writing valid = ⊎_elim
+      (λ (w : WritesNoRecord lane.view). absurd (w j inside (subst (λ (v : View). IsBeingWritten v j) same writing)))
+      (λ (a : AddedNext (get_or before k w) (work_of k)). none k a.calls j (end_is ∙ a.stopped) (adds a) inside writing
+      (λ reads. let clash : None ≡ Some u = sym reads ∙ valid in cc))
+      (dids k low).unwritten
+    where
+      lane : LaneRan left ran.back k (get_or before k w) (work_of k)
+      lane = ran.each k w low
 
-    unwritten : ((calls : ℕ) → (work_of k).end ≢ end.Stopped calls) → ⊥
-    unwritten not =
-        let lane = ran.each k w low in
-        let own = ran.closed.lanes k lane.view lane.there in
-        let same : ran.closed.last.views k ≡ lane.view =
-        ap ran.closed.last.views (sym lane.lane_is) ∙ own.1 in
-        (dids k low).unwritten not j (subst (λ (v : View). IsBeingWritten v j) same writing)
+      same : ran.closed.last.views k ≡ lane.view
+      same = ap ran.closed.last.views (sym lane.lane_is) ∙ (ran.closed.lanes k lane.view lane.there).1
 
-    by : (e : LaneEnd) → (work_of k).end ≡ e → IsWhole (ran.closed.last.views k) image j
-    by (end.Stopped calls) is = none k calls j (end_is ∙ is) inside writing
-        (λ reads. let clash : None ≡ Some u = sym reads ∙ valid in cc)
-    by end.Ended is = absurd (unwritten (λ calls so.
-        let clash : end.Ended ≡ end.Stopped calls = sym is ∙ so in cc))
-    by (end.Spent line) is = absurd (unwritten (λ calls so.
-        let clash : end.Spent line ≡ end.Stopped calls = sym is ∙ so in cc))
+      end_is : get_or (ends_of after) k end.Ended ≡ (work_of k).end
+      end_is = get_or-map (λ (x : LaneWork G). x.end) after k w end.Ended (let count = ran.works in omega (arith, count, low))
+
+      for_ : IsWorkFor names script k (get_or before k w)
+      for_ = works k w low
+
+      adds : AddedNext (get_or before k w) (work_of k) → AddsNext names script entries k
+      adds a = subst (λ n. AddsRange names (get_or (calls_of_lane k script) n [])) (sym (count k low a.none))
+          (subst (λ (ls : List (List ScriptLine)). AddsRange names (get_or ls (length (work_of k).answers.items) [])) for_.lines
+          (subst (λ (ns : Names). AddsRange ns (get_or (lines_left (get_or before k w)) (length (work_of k).answers.items) [])) for_.names_are a.adds))
 
   -- ---- AN IMAGE THAT MAY SURVIVE, with the flags that judge it
 
@@ -249,6 +256,18 @@ module _ {G : Type 0} {names : Names} (laws : PoolLaws) (b : Beginning) (keep_nu
       pub all_are_there : length entries ≡ g.length
       all_are_there = as_long g keep b.lanes in_history entries_at says entries in_order
 
+      -- a call that was aborted as Busy ended so
+      pub ends_busy : (i : ℕ) (d : Entry) → i < length entries → (get_or entries i d).fate ≡ fate.Aborted (error.Refused Busy) → EndedAt g i (get_or entries i d)
+      ends_busy = busy_at g keep b.lanes in_history entries_at says entries in_order
+
+      -- a lane without an unanswered call has as many entries as answers
+      pub as_answered : (k : ℕ) → k < b.lanes → (work_of k).unanswered ≡ None → length (entries_of_lane k entries) ≡ length (work_of k).answers.items
+      as_answered k low none =
+          ap (λ (es : List Entry). length es) (are_of_lane g keep b.lanes in_history entries_at says entries in_order k low)
+          ∙ as_many names k (flag_of k) (work_of k).answers.items (work_of k).unanswered
+          ∙ ap (λ (u : Option Answer). length ((work_of k).answers.items ++ option_to_list u)) none
+          ∙ ap (λ (xs : List Answer). length xs) (append-nil (work_of k).answers.items)
+
       -- ---- A LANE'S PART
 
       end_at : (k : ℕ) → k < b.lanes → get_or (ends_of after) k end.Ended ≡ (work_of k).end
@@ -337,8 +356,8 @@ module _ {G : Type 0} {names : Names} (laws : PoolLaws) (b : Beginning) (keep_nu
 
   pub survives_as : (entries : List Entry) → AreInOrder after flags_written entries → (origin layout : List ℕ) (opened : IsOpened origin layout b.words.items b.shape b.pool)
       (other : List ℕ) → MaySurvive b ran.closed.last other
-      → SurvivesAs ran.closed.last (ends_of after) opened.pool entries other
-  survives_as entries order origin layout opened other survives =
+      → names_of opened.pool ≡ names → SurvivesAs ran.closed.last script (ends_of after) opened.pool entries other
+  survives_as entries order origin layout opened other survives named =
       let flags = judged_flags b.shape ran.words ran.undrained other in
       let judged = are_judged b.shape ran.words ran.undrained other in
       let fates = map (refated flags) entries in
@@ -349,7 +368,9 @@ module _ {G : Type 0} {names : Names} (laws : PoolLaws) (b : Beginning) (keep_nu
         is_history = is_history other flags survives judged fates ordered;
         replayed = replayed other flags survives judged fates ordered origin layout opened;
         stands = λ none.
-            stands other flags survives judged fates ordered origin layout opened (none_torn other none);
+            stands other flags survives judged fates ordered origin layout opened
+            (none_torn other entries (as_answered written flags_written ran.survives ran.judged entries order)
+            (subst (λ (ns : Names). AddedTearNone ran.closed.last ns script entries (ends_of after) other) named none));
       }
 
 -- ---- THE RUN, from the opening to the report
@@ -379,7 +400,7 @@ ran_on_lanes {G} laws more origin layout script stops keep out b before after fl
       stops_are = stops_are;
       back = ran.back;
       words = ran.words;
-      made = lanes_ran b ran.back ran.words ran.closed;
+      closed = ran.closed;
       all = subst (λ n. AllAreBack n ran.back) lanes ran.all;
       undrained = ran.undrained;
       back_with = ran.back_with;
@@ -396,6 +417,15 @@ ran_on_lanes {G} laws more origin layout script stops keep out b before after fl
           has_stopped more b ran.back ran.words ran.closed ran.all k high
           (record { place = k; view = lane.view; there = lane.there; lane_is = lane.lane_is }) calls
           ((did k high).counted calls ended) ((did k high).due calls ended);
+      busy = λ call d low is.
+          let ended = ends_busy laws b keep script.lines before after out.image.items flags ran works w did out.image.items flags ran.survives ran.judged entries order call d low is in
+          record {
+            of_lane = ended.of_lane;
+            operation = ended.ended.operation;
+            among = ended.among;
+            cause = more.busy b ran.back ran.words call ended.ended.operation ran.closed ran.all ran.facts
+                (subst (λ n. call < n) (all_are_there laws b keep script.lines before after out.image.items flags ran works w did out.image.items flags ran.survives ran.judged entries order) low) ended.ended.last;
+          };
       spent = λ k line low is.
           let high : k < b.lanes = subst (λ n. k < n) (sym lanes) low in
           let lane = ran.each k w high in
@@ -406,12 +436,12 @@ ran_on_lanes {G} laws more origin layout script stops keep out b before after fl
           (all_are_there laws b keep script.lines before after out.image.items flags ran works w did out.image.items flags ran.survives ran.judged entries order);
       replayed = replayed laws b keep script.lines before after out.image.items flags ran works w did out.image.items flags ran.survives ran.judged entries order origin layout opened;
       stands = λ none. stands laws b keep script.lines before after out.image.items flags ran works w did out.image.items flags ran.survives ran.judged entries order origin layout opened
-          (none_torn laws b keep script.lines before after out.image.items flags ran works w did out.image.items
-          (subst (λ (l : List LaneEnd). StoppedTearNone ran.closed.last l out.image.items) ends none));
+          (none_torn laws b keep script.lines before after out.image.items flags ran works w did out.image.items entries
+          (as_answered laws b keep script.lines before after out.image.items flags ran works w did out.image.items flags ran.survives ran.judged entries order)
+          (subst (λ (l : List LaneEnd). AddedTearNone ran.closed.last (names_of opened.pool) script.lines entries l out.image.items) ends none));
       header = λ w is. more.headers origin layout ran.words out.image.items b ran.back opened ran.closed ran.survives w is;
-      each_choice = λ other left.
-          subst (λ (l : List LaneEnd). SurvivesAs ran.closed.last l opened.pool entries other) (sym ends)
-          (survives_as laws b keep script.lines before after out.image.items flags ran works w did entries order origin layout opened
-          other (may_survive b ran.back ran.words ran.closed ran.undrained ran.back_with
-          (let count = ran.count in omega (arith, count)) other left));
+      survives = ran.survives;
+      each_choice = subst (λ (l : List LaneEnd). (other : List ℕ) → MaySurvive b ran.closed.last other
+          → SurvivesAs ran.closed.last script.lines l opened.pool entries other) (sym ends)
+          (λ other survives. survives_as laws b keep script.lines before after out.image.items flags ran works w did entries order origin layout opened other survives refl);
     }

@@ -1,5 +1,6 @@
 -- A CALL OF A LANE, by what its lines came to: the answer shows it, and the lane stands with it.
-use Rattle.std.proofs.Common.{◌≡◌, ◌≢◌, ◌⊎◌, inl, inr, ℕ, zero, suc, ◌≤◌, ◌<◌, true, false, List, [], ◌∷◌, ◌++◌, length, map, Option, Some, None, option_map, Err, Vec, refl, sym, ap, ◌∙◌, subst, arith}
+use Rattle.std.proofs.Common.{◌≡◌, ◌≢◌, ◌⊎◌, inl, inr, ℕ, zero, suc, ◌≤◌, ◌<◌, ◌==◌, if◌then◌else◌, Bool, true, false, Contains, List, [], ◌∷◌, ◌++◌, length, map, Option, Some, None, option_map, Err, Vec, refl, sym, ap, ◌∙◌, subst, arith}
+use Rattle.std.proofs.lemmas.Bool.{both_ways}
 use Rattle.std.specs.Borrow.{Bor}
 use Rattle.std.specs.Global.{Global}
 use Rattle.std.specs.List.Sorted.{IsStrictlyIncreasing}
@@ -18,18 +19,21 @@ use Rattle.pm_model.specs.Shown.{IsShown, is_single, values_of}
 use Rattle.pm_script.specs.declared.script.ScriptLine.{ScriptLine}
 use Rattle.pm_view.specs.View.{Told, View}
 use Rattle.pm_world.specs.declared.lane.Lane.{Lane}
+use Rattle.pm_crash.proofs.EntryFacts.{last_told}
 use Rattle.pm_call.specs.Histories.{Ended, LaneHistory, told, told_by}
 use Rattle.pm_call.specs.Positions.{Position, aborted_at, position_of}
 use Rattle.pm_call.specs.Standing.{StandsWith}
 use Rattle.pm_calls.specs.Calls.{IsWhole, call_of, line_of, line_operation, numbers_of}
 use Rattle.pm_calls.specs.declared.names.Names.{Names}
-use Rattle.pm_exec.specs.Answers.{EndsSo, GivesUpSo, IsSpent, MayHaveFate, rans_of, run_of}
+use Rattle.pm_exec.specs.Answers.{EndedBusy, EndsSo, GivesUpSo, IsSpent, MayHaveFate, rans_of, run_of}
 use Rattle.pm_exec.specs.Lines.{Awaits}
 use Rattle.pm_exec.specs.Running.{CallCame, LinesRan, OpensWith, RestsWith, RootCame, lost_call, with_ended}
 use Rattle.pm_exec.specs.Shown.{GoesOn, fate_of}
 use Rattle.pm_exec.specs.declared.call_end.CallEnd.TheVariants as call_ends
 use Rattle.pm_exec.specs.declared.line_end.LineEnd.{LineEnd}
 use Rattle.pm_exec.specs.declared.line_end.LineEnd.TheVariants as ends
+use Rattle.pm_call.specs.Unwritten.{is_adding}
+use Rattle.pm_exec.proofs.Rising.{has_right, place_of}
 use Rattle.pm_exec.proofs.CallLines.{none_left, nothing_open}
 use Rattle.pm_exec.proofs.Shown.{aborted_fate, aborted_shown, begin_is_inside, commit_is_plain, committed_fates, committed_shown, opened_not_single, single_fate, single_kept_or_lost, single_shown, so_aborts}
 
@@ -130,6 +134,34 @@ module _ {names : Names} {lines : List ScriptLine} {values : List (ℕ × Value)
   given_up_fate : (reply : Option Value) (e : TxErr) → GivesUpSo op reply e → (level ≡ 0 → is_begin op ≡ true) → MayHaveFate (all reply) (fate.Aborted e)
   given_up_fate reply e up begins = aborted_fate b.goes said (told op reply) refl lane (not_single reply begins) e up
 
+-- ---- A CALL THAT WAS ABORTED AS Busy
+
+not_aborted : (why : Option Refusal) → fate_of why ≡ fate.Aborted (error.Refused refusal.Busy) → ⊥
+not_aborted None same = cc
+not_aborted (Some r) same = cc
+
+abbrev aborted_for : TxErr → Fate → TxErr
+aborted_for e (fate.Aborted other) = other
+aborted_for e f = e
+
+error_in : {e f : TxErr} → fate.Aborted e ≡ fate.Aborted f → e ≡ f
+error_in {e} same = ap (aborted_for e) same
+
+abbrev refused_for : Refusal → TxErr → Refusal
+refused_for r (error.Refused other) = other
+refused_for r e = r
+
+not_refused : (canceled : Bool) (errnum : ℕ) → (if canceled then error.Canceled else error.User errnum) ≡ error.Refused refusal.Busy → ⊥
+not_refused true errnum same = cc
+not_refused false errnum same = cc
+
+-- its last operation was told so
+ended_busy : (before : List Told) (asked : Operation) (reply : Option Value) (e : TxErr) → GivesUpSo asked reply e → e ≡ error.Refused refusal.Busy → EndedBusy (before ++ told asked reply ∷ [])
+ended_busy before asked reply e (inl (r, plain, replied, is)) busy =
+    let same : r ≡ refusal.Busy = ap (refused_for r) (sym is ∙ busy) in
+    record { operation = asked; last = last_told before (told asked reply) ∙ ap (λ x. Some (told asked x)) (replied ∙ ap (λ x. Some (Refused x)) same) }
+ended_busy before asked reply e (inr (errnum, aborts, none, is)) busy = absurd (not_refused (errnum == 0) errnum (sym is ∙ busy))
+
 -- ---- THE LANE
 
 module _ {M : Type 0} (at : M → View → Type 0) (h : LaneHistory) where
@@ -143,10 +175,11 @@ module _ {M : Type 0} (at : M → View → Type 0) (h : LaneHistory) where
   stopped_so lane r came not = came
 
   pub root_stopped : (lane : Lane M) (names : Names) (lines : List ScriptLine) (r : Refusal)
-      → RootCame at lane h (Err r) → (r ≡ refusal.Spent → ⊥)
+      → h.adding ≡ false → RootCame at lane h (Err r) → (r ≡ refusal.Spent → ⊥)
       → CallCame at lane names h lines (call_ends.Stopped None)
-  root_stopped lane names lines r came not =
-      let s = stopped_so lane r came not in (h.call, s.0, s.1, s.2)
+  root_stopped lane names lines r plain came not =
+      let s = stopped_so lane r came not in
+      (h.call, h.adding, s.0, s.1, s.2, λ e. absurd (both_ways h.adding plain e))
 
   -- what its lines came to, by what they are
   pub ran_so : (names : Names) (lines : Vec (Bor ScriptLine) Global)
@@ -182,6 +215,7 @@ module _ {M : Type 0} (at : M → View → Type 0) (h : LaneHistory) where
             number = refl;
             shown = ended_shown h.lane b rising why came.2 came.3;
             fate = subst (MayHaveFate (ran.told ++ told (line_operation names ran.said) (option_map Refused why) ∷ [])) (sym is) (ended_fate h.lane b rising why came.3);
+            busy = λ same. absurd (not_aborted why (sym is ∙ same));
           },
           ap is_answered is ∙ answers why,
         )
@@ -207,6 +241,7 @@ module _ {M : Type 0} (at : M → View → Type 0) (h : LaneHistory) where
             shown = subst (λ n. IsShown (call_of names h.lane of_call) (record { values = values.items; at = n }) (run_of h.lane d.call)) ran.of_line
                 (given_up_shown h.lane b rising came.0 e came.2 came.5);
             fate = given_up_fate h.lane b rising came.0 e came.2 came.5;
+            busy = λ same. ended_busy ran.told op came.0 e came.2 (error_in same);
           },
           refl,
         )
@@ -217,7 +252,14 @@ module _ {M : Type 0} (at : M → View → Type 0) (h : LaneHistory) where
         (call_ends.Stopped (option_map (lost_call lines values) drawn))
     stopped_by lane line ran None is =
         let came = ran.came in
-        (ran.told, subst (λ n. StandsWith at lane (told_by n (line_operation names ran.said) None (record h { call = ran.told }))) is came.0, came.1, is)
+        let p = place_of (ran.front ++ ran.said ∷ ran.passed) ran.said (has_right ran.front (ran.said ∷ ran.passed) ran.said (inl refl)) in (
+          ran.told,
+          is_adding (line_operation names ran.said),
+          subst (λ n. StandsWith at lane (told_by n (line_operation names ran.said) None (record h { call = ran.told }))) is came.0,
+          came.1,
+          is,
+          λ e. record { line = ran.said; among = subst (λ (ls : List ScriptLine). Contains ls ran.said) (sym ran.are) (p.at, p.low, p.is _); adds = e },
+        )
     stopped_by lane line ran (Some n) is =
         let came = ran.came in
         let op = line_operation names ran.said in
@@ -233,6 +275,7 @@ module _ {M : Type 0} (at : M → View → Type 0) (h : LaneHistory) where
             number = refl;
             shown = ended_shown h.lane b rising None ends_so.0 ends_so.1;
             fate = fates.1;
+            busy = λ same. absurd cc;
           },
           refl,
         )

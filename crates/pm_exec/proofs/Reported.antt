@@ -1,23 +1,32 @@
 -- THE ENTRIES THAT LANES REPORT are a history, and those that are not lost are the calls that are
 -- kept: from what each lane told, and from the entries' numbers.
-use Rattle.std.proofs.Common.{◌≡◌, inl, inr, ℕ, zero, suc, ◌+◌, ◌<◌, ◌≤◌, ◌==◌, not, Bool, true, false, cond, List, [], ◌∷◌, ◌++◌, length, map, reverse, get_or, take, refl, sym, ap, ◌∙◌, subst, arith}
+use Rattle.std.proofs.Common.{◌≡◌, inl, inr, ℕ, zero, suc, ◌+◌, ◌<◌, ◌≤◌, ◌==◌, not, Bool, true, false, cond, Contains, List, [], ◌∷◌, ◌++◌, length, map, reverse, get_or, take, refl, sym, ap, ◌∙◌, subst, arith, Option, None, Some}
 use Rattle.std.specs.List.{AllZip, filter}
 use Rattle.std.proofs.lemmas.Bool.{eqb-true, eq-eqb, ltb-true, ltb-false}
 use Rattle.std.proofs.lemmas.List.{append-nil, take_all}
 use Rattle.std.proofs.lemmas.List.Elements.{filter_more}
 use lib.Dec.{ltb}
+use Rattle.pm_objects.specs.declared.calls.Call.{Call}
+use Rattle.pm_objects.specs.declared.calls.Operation.{Operation}
 use Rattle.pm_objects.specs.declared.history.Entry.{Entry}
+use Rattle.pm_objects.specs.declared.history.Fate.TheVariants as fate
+use Rattle.pm_objects.specs.declared.history.Reply.{Reply}
+use Rattle.pm_objects.specs.declared.history.TxErr.TheVariants as error
+use Rattle.pm_objects.specs.declared.history.Value.TheVariants.{Refused}
+use Rattle.pm_objects.specs.declared.refusal.Refusal.TheVariants.{Busy}
+use Rattle.pm_model.specs.Inside.{Ran}
 use Rattle.pm_model.specs.CallStep.{CallRun}
 use Rattle.pm_model.specs.History.{IsHistory, is_answered, is_lost, without_lost}
 use Rattle.pm_model.specs.Shown.{IsEntry, IsShown}
-use Rattle.pm_view.specs.View.{Numbered, View, entry_drawn}
+use Rattle.pm_view.specs.View.{Numbered, Told, View, entry_drawn}
 use Rattle.pm_world.specs.World.{Past, numbered_by}
 use Rattle.pm_call.specs.Histories.{Ended, ended_of}
 use Rattle.pm_crash.specs.Calls.{IsRunOf}
+use Rattle.pm_crash.specs.Facts.{last_of, last_or}
 use Rattle.pm_crash.specs.Replayed.{kept_calls}
-use Rattle.pm_exec.specs.Answers.{MayHaveFate, run_of}
+use Rattle.pm_exec.specs.Answers.{EndedBusy, EndsAsTold, MayHaveFate, ran_of, run_of}
 use Rattle.pm_exec.specs.Reports.{entries_of_lane}
-use Rattle.pm_exec.proofs.Rising.{Falls, Has, Rises, filter_has, filter_rises, has_at, in_filter, in_map, in_reverse, map_falls, map_has, more_passes, one_of_number, place_of, reverse_has, reverse_rises, same_rising, zip_left, zip_push, zip_right, zip_rises, zip_through}
+use Rattle.pm_exec.proofs.Rising.{Falls, Has, Rises, filter_has, filter_rises, has_at, has_left, in_filter, in_map, in_reverse, map_falls, map_has, more_passes, one_of_number, place_of, reverse_has, reverse_rises, same_rising, zip_left, zip_push, zip_right, zip_rises, zip_through}
 use Rattle.pm_exec.proofs.Shown.{run_fate, run_shown}
 
 abbrev pub number_of : Entry → ℕ
@@ -84,6 +93,7 @@ pub record Shows (lane : ℕ) (e : Entry) (d : Ended) : Type 0 where
   pub lane_is : e.call.lane ≡ lane
   pub shown : IsShown e.call e.reply (run_of lane d.call)
   pub fate : MayHaveFate d.call e.fate
+  pub busy : EndsAsTold d.call e.fate
 
 abbrev pub told_by_lane : ℕ → Past → List Ended
 told_by_lane lane g = reverse (map ended_of (numbered_by lane g.drew g.length))
@@ -130,6 +140,32 @@ is_entry e v run shows of = record {
   shown = run_shown e.call e.reply v.fixed.lane v.call run of.lane of.told shows.shown;
   fate = run_fate v.call run e.fate of.told shows.fate;
 }
+
+-- ---- CALLS THAT WERE ABORTED AS Busy
+
+-- a call of the history ended so, with an operation of its entry
+pub record EndedAt (g : Past) (call : ℕ) (e : Entry) : Type 0 where
+  pub of_lane : (g.drew call).fixed.lane ≡ e.call.lane
+  pub ended : EndedBusy (g.drew call).call
+  pub among : Contains e.call.operations ended.operation
+
+last_has : (told : List Told) (t : Told) → last_of told ≡ Some t → Has told t
+last_has [] t is = absurd cc
+last_has (s ∷ told) t is = by (last_of told) refl is (last_has told t)
+  where
+    by : (o : Option Told) → last_of told ≡ o → last_or s o ≡ Some t
+        → (last_of told ≡ Some t → Has told t) → Has (s ∷ told) t
+    by None same here rest = inl (let e : Some s ≡ Some t = here in cc)
+    by (Some u) same here rest = inr (rest (same ∙ here))
+
+shown_has : (call : Call) (reply : Reply) (lane : ℕ) (told : List Told) (t : Told) → IsShown call reply (run_of lane told) → Has told t → Contains call.operations t.operation
+shown_has call reply lane told t shown there =
+    let ran : Has (run_of lane told).operations (ran_of t) = map_has ran_of told t there in
+    let among : Has call.operations t.operation = subst (λ (ops : List Operation). Has ops t.operation) shown.operations
+    (has_left (map (λ (r : Ran). r.operation) (run_of lane told).operations) shown.passed_over t.operation
+    (map_has (λ (r : Ran). r.operation) (run_of lane told).operations (ran_of t) ran)) in
+    let p = place_of call.operations t.operation among in
+    (p.at, p.low, p.is _)
 
 -- ---- NUMBERS AND PLACES
 
@@ -260,6 +296,18 @@ module _ (g : Past) (keep : ℕ → Bool) (lanes : ℕ) (of_lanes : (n : ℕ) �
         let is : r.entry.number ≡ suc n = r.number in
         omega (arith, fits, is)) in
         omega (arith, most, least)
+
+    -- ---- CALLS THAT WERE ABORTED AS Busy
+
+    pub busy_at : (i : ℕ) (d : Entry) → i < length entries → (get_or entries i d).fate ≡ fate.Aborted (error.Refused Busy) → EndedAt g i (get_or entries i d)
+    busy_at i d low is =
+        let s = stands_at i d low in
+        let ended = s.shows.busy is in
+        record {
+          of_lane = s.of_lane ∙ sym s.shows.lane_is;
+          ended = ended;
+          among = shown_has (get_or entries i d).call (get_or entries i d).reply s.lane (g.drew i).call (record { operation = ended.operation; reply = Some (Refused Busy) }) s.shows.shown (last_has (g.drew i).call (record { operation = ended.operation; reply = Some (Refused Busy) }) ended.last);
+        }
 
     -- ---- THE HISTORY
 

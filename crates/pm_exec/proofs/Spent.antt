@@ -1,20 +1,17 @@
 -- A LANE FOR WHOSE NEXT CALL NO NUMBER IS LEFT, from what the call says that it did.
-use Rattle.std.proofs.Common.{◌≡◌, inl, inr, ⊎_elim, ℕ, zero, ◌<◌, Bool, true, false, Contains, List, [], ◌∷◌}
-use Rattle.std.proofs.Common.{Option, Some, Result, Ok, Err, refl, sym, ap, ◌∙◌, subst, arith}
+use Rattle.std.proofs.Common.{◌≡◌, inl, inr, ⊎_elim, Bool, true, false, Contains, List, ◌∷◌}
+use Rattle.std.proofs.Common.{Some, Result, Err, refl, sym, ap, ◌∙◌, subst, arith}
 use Rattle.std.proofs.lemmas.Bool.{both_ways}
 use Rattle.pm_objects.specs.declared.calls.Operation.{Operation}
 use Rattle.pm_objects.specs.declared.calls.Want.{Want}
 use Rattle.pm_objects.specs.declared.refusal.Refusal.{Refusal}
 use Rattle.pm_objects.specs.declared.refusal.Refusal.TheVariants as refusal
-use Rattle.pm_view.specs.Changes.{Undrained}
-use Rattle.pm_view.specs.Log.{Idle, Log, Open, Phase, is_early, new_log}
+use Rattle.pm_view.specs.Log.{Log, is_early}
 use Rattle.pm_view.specs.Steps.{Step}
 use Rattle.pm_view.specs.View.{View}
 use Rattle.pm_world.specs.LaneFields.{Fields, Rests, Standing}
-use Rattle.pm_world.specs.Logs.{used_slots}
-use Rattle.pm_world.specs.Sights.{is_slot_drained}
 use Rattle.pm_world.specs.declared.lane.Lane.{Lane}
-use Rattle.pm_call.specs.Between.{MayOpen, opened_with, saw_number}
+use Rattle.pm_call.specs.Between.{MayOpen, saw_number}
 use Rattle.pm_call.specs.Did.{work_refusal}
 use Rattle.pm_call.specs.Histories.{LaneHistory, calls_ended, history_of}
 use Rattle.pm_call.specs.Opening.{NoneIsLeft, OutermostBegun}
@@ -30,7 +27,9 @@ use Rattle.pm_tx.specs.Begins.{LevelBegun, LevelBegunSo}
 use Rattle.pm_action.specs.Calls.{ByLevel, IfOutside}
 use Rattle.pm_action.specs.Outside.{AskedOutside, Finished, FinishedSo}
 use Rattle.pm_action.specs.Publications.{PublishedBy, PublishedOutside}
-use Rattle.pm_exec.specs.Answers.{IsSpent, IsSpentView, WritesNoRecord}
+use Rattle.pm_call.specs.Unwritten.{WritesNoRecord}
+use Rattle.pm_call.proofs.UnwrittenRests.{may_open_unwritten}
+use Rattle.pm_exec.specs.Answers.{IsSpent, IsSpentView}
 use Rattle.pm_exec.specs.Running.{SpentClosed}
 
 first : (s : Step) (rest : List Step) → Contains (s ∷ rest) s
@@ -119,29 +118,6 @@ may_open_early s may = ⊎_elim
     (λ e. ap (λ (t : Standing). is_early t.view.log.phase) e
     ∙ ap (λ (l : Log). is_early l.phase) may.between.over.log)
     (λ z. ap (λ (t : Standing). is_early t.view.log.phase) z.1) may.since
-
--- nor is it writing a record: it has nothing undrained, and its log is new
-new_used : (phase : Phase) (generation j : ℕ) → j < used_slots (new_log phase generation) → ⊥
-new_used phase generation j low = omega (arith, low)
-
-new_unwritten : (v : View) (phase : Phase) (generation : ℕ) → v.log ≡ new_log phase generation
-    → v.changes ≡ [] → WritesNoRecord v
-new_unwritten v phase generation log none j writing = ⊎_elim
-    (λ (d : is_slot_drained v.fixed.shape v.fixed.lane v.changes j ≡ false).
-    let clash : true ≡ false =
-    sym (ap (λ (cs : List Undrained). is_slot_drained v.fixed.shape v.fixed.lane cs j) none) ∙ d in
-    cc)
-    (λ z. new_used phase generation j (subst (λ (l : Log). j < used_slots l) log z.1)) writing
-
-may_open_unwritten : (s : Standing) → MayOpen s → WritesNoRecord s.view
-may_open_unwritten s may =
-    let b : Standing = may.before in
-    let none : b.view.changes ≡ [] = may.between.over.drained in ⊎_elim
-    (λ e. subst (λ (t : Standing). WritesNoRecord t.view) (sym e)
-    (new_unwritten b.view Idle b.view.log.generation may.between.over.log none))
-    (λ z. subst (λ (t : Standing). WritesNoRecord t.view) (sym z.1)
-    (new_unwritten (opened_with b z.0).view Open b.view.log.generation refl none))
-    may.since
 
 -- the lane that was between two calls makes none any more, with the view that it had
 pub record RestClosed {M : Type 0} (at : M → View → Type 0) (old new : Lane M) (h : LaneHistory)

@@ -40,7 +40,7 @@ module _ {M : Type 0} (at : M → View → Type 0) (old new : Lane M) (h : LaneH
         let d : DidSo None at old new op plan Is (Err refusal.Stopped) =
         subst (λ w. DidSo w at old new op plan Is (Err refusal.Stopped)) none did in
         ⊎_elim
-        (λ c. ap drawn_in c.1.fields)
+        (λ c. ap drawn_in c.1.0.fields)
         (λ c. ap drawn_in c.3.fields)
         (d here.standing here.works here.stands).holds
 

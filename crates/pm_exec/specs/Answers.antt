@@ -12,6 +12,7 @@ use Rattle.pm_objects.specs.declared.history.TxErr.TheVariants as error
 use Rattle.pm_objects.specs.declared.history.Value.{Value}
 use Rattle.pm_objects.specs.declared.history.Value.TheVariants.{Refused}
 use Rattle.pm_objects.specs.declared.refusal.Refusal.{Refusal}
+use Rattle.pm_objects.specs.declared.refusal.Refusal.TheVariants.{Busy}
 use Rattle.pm_model.specs.CallStep.{CallRun}
 use Rattle.pm_model.specs.Inside.{Ran, error_for, is_action, is_begin}
 use Rattle.pm_model.specs.Outside.{is_outside}
@@ -22,15 +23,16 @@ use Rattle.pm_layout.specs.Areas.{greatest_generation}
 use Rattle.pm_view.specs.Log.{is_early}
 use Rattle.pm_view.specs.Steps.Step.{NumberSeen}
 use Rattle.pm_view.specs.View.{Told, View}
-use Rattle.pm_world.specs.Crash.{IsBeingWritten}
 use Rattle.pm_world.specs.LaneFields.{Rests, Standing}
+use Rattle.pm_crash.specs.Facts.{last_of}
 use Rattle.pm_call.specs.Between.{MayOpen}
 use Rattle.pm_call.specs.Did.{unseen}
 use Rattle.pm_call.specs.Histories.{Ended, LaneHistory, history_of, told_by, told_last, told_more}
 use Rattle.pm_call.specs.Positions.{aborted_at, position_of, resting, working}
 use Rattle.pm_call.specs.Standing.{StandsWith}
 use Rattle.pm_world.specs.declared.lane.Lane.{Lane}
-use Rattle.pm_calls.specs.Calls.{call_of, line_of}
+use Rattle.pm_call.specs.Unwritten.{is_adding}
+use Rattle.pm_calls.specs.Calls.{call_of, line_of, line_operation}
 use Rattle.pm_exec.specs.declared.answer.Answer.{Answer}
 use Rattle.pm_calls.specs.declared.names.Names.{Names}
 use Rattle.pm_exec.specs.declared.line_end.LineEnd.{LineEnd}
@@ -60,12 +62,21 @@ reply_of a = record { values = a.values.items; at = a.at }
 abbrev pub MayHaveFate : List Told → Fate → Type 0
 MayHaveFate told f = IsFate (is_single (rans_of told)) (rans_of told) f
 
+-- a call that was aborted as Busy ended with the operation that was told so
+pub record EndedBusy (told : List Told) : Type 0 where
+  pub operation : Operation
+  pub last : last_of told ≡ Some (record { operation = operation; reply = Some (Refused Busy) })
+
+abbrev pub EndsAsTold : List Told → Fate → Type 0
+EndsAsTold told f = f ≡ fate.Aborted (error.Refused Busy) → EndedBusy told
+
 -- THE ANSWER SHOWS THE CALL of a lane, in lines with these names: its number, its lines with what
 -- they gave, and its fate
 pub record IsAnswer (names : Names) (lane : ℕ) (a : Answer) (d : Ended) : Type 0 where
   pub number : a.number ≡ d.number
   pub shown : IsShown (call_of names lane (lines_of a)) (reply_of a) (run_of lane d.call)
   pub fate : MayHaveFate d.call a.fate
+  pub busy : EndsAsTold d.call a.fate
 
 -- of a call that was not answered either is so: an image may keep it or lose it
 abbrev pub MayBeKeptOrLost : Ended → Type 0
@@ -104,11 +115,13 @@ pub record IsSpent {M : Type 0} (at : M → View → Type 0) (lane : Lane M) (h 
   pub same : history_of standing.view ≡ h
   pub none : HasNoNumber standing.view
 
--- a lane with this view is writing no record of its log
-abbrev pub WritesNoRecord : View → Type 0
-WritesNoRecord v = (slot : ℕ) → ¬ IsBeingWritten v slot
-
 -- ---- A LINE, and what it came to
+
+-- A LINE ADDS A RANGE, of a call's lines with these names
+pub record AddsRange (names : Names) (lines : List ScriptLine) : Type 0 where
+  pub line : ScriptLine
+  pub among : Contains lines line
+  pub adds : is_adding (line_operation names line) ≡ true
 
 -- the operation with its reply aborts nothing
 abbrev pub GoesOnSo : Operation → Option Value → Type 0

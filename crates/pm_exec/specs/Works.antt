@@ -1,5 +1,5 @@
 -- WHAT A LANE DID with its calls, beside the view in which it was left.
-use Rattle.std.specs.Prelude.{◌≡◌, ◌≢◌, ℕ, ◌%◌, ◌^◌, All, List, [], ◌++◌, length, map, reverse, take, option_map, option_to_list, Some, None, true}
+use Rattle.std.specs.Prelude.{◌≡◌, ◌≢◌, ◌⊎◌, ℕ, ◌%◌, ◌^◌, All, List, [], ◌++◌, length, map, reverse, take, option_map, option_to_list, slice_index_or, Some, None, true}
 use Rattle.std.specs.List.{AllZip}
 use Rattle.std.specs.Option.{option_map_or}
 use Rattle.pm_model.specs.History.{is_answered}
@@ -8,9 +8,10 @@ use Rattle.pm_text.specs.declared.report.LaneEnd.TheVariants as end
 use Rattle.pm_view.specs.View.{View}
 use Rattle.pm_call.specs.Histories.{Ended, calls_ended}
 use Rattle.pm_call.specs.Standing.{IsStopDue}
+use Rattle.pm_call.specs.Unwritten.{WritesNoRecord}
 use Rattle.pm_crash.specs.Fates.{EndsOpen}
 use Rattle.pm_exec.specs.Made.{AreToBeMade}
-use Rattle.pm_exec.specs.Answers.{IsAnswer, IsSpentView, MayBeKeptOrLost, WritesNoRecord, lines_of}
+use Rattle.pm_exec.specs.Answers.{AddsRange, IsAnswer, IsSpentView, MayBeKeptOrLost, lines_of}
 use Rattle.pm_exec.specs.declared.answer.Answer.{Answer}
 use Rattle.pm_calls.specs.LaneRooms.{lines_to_run}
 use Rattle.pm_exec.specs.declared.work.LaneWork.{LaneWork}
@@ -22,6 +23,14 @@ lines_left work = option_map_or (λ calls. map lines_to_run calls.items) work.ca
 -- the answers of a work, that of the call in which the lane stopped the last
 abbrev pub all_answers : {G : Type 0} → LaneWork G → List Answer
 all_answers work = work.answers.items ++ option_to_list work.unanswered
+
+-- the lane stopped in the call after those that were answered, and that adds a range
+pub record AddedNext {G : Type 0} (before after : LaneWork G) : Type 0 where
+  pub calls : ℕ
+  pub stopped : after.end ≡ end.Stopped calls
+  pub none : after.unanswered ≡ None
+  pub adds : AddsRange before.names
+      (slice_index_or (lines_left before) (length after.answers.items) [])
 
 -- THE LANE DID ITS CALLS: the first so many of them, each as its answer shows; all of them where it
 -- ended; and one of them may be unanswered, in which the lane stopped
@@ -40,7 +49,8 @@ pub record DidCalls {G : Type 0} (before after : LaneWork G) (v : View) : Type 0
   pub counted : (calls : ℕ) → after.end ≡ end.Stopped calls → calls ≡ v.calls % 2 ^ 64
   pub due : (calls : ℕ) → after.end ≡ end.Stopped calls → IsStopDue v
   pub spent : (line : ℕ) → after.end ≡ end.Spent line → IsSpentView v
-  pub unwritten : ((calls : ℕ) → after.end ≢ end.Stopped calls) → WritesNoRecord v
+  -- it is writing no record, or stopped in its next call, which adds a range
+  pub unwritten : WritesNoRecord v ⊎ AddedNext before after
 
 -- a work can run whose calls may be made
 abbrev pub CanRunWork : {G : Type 0} → LaneWork G → Type 0
