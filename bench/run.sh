@@ -2,7 +2,8 @@
 # Times of the program on the least and the largest pool beside `cp` of the same file: the least of five runs, in milliseconds, and how many
 # times `cp` each takes; the times of ten million stores, and of ten thousand blocks reserved, by one lane alone; and those of 51,200,000 steps of
 # a lane on shared words, 153,600 where they are ORs, and how many times a raw step of the kit's table each takes; and those of 100,000 transactions,
-# and how many times PMDK's each takes. All are rows of bench/times.csv, which a run makes anew.
+# and how many times PMDK's each takes; and those of scripts of 8,000 transactions on one lane, two and four, beside as many threads of PMDK's. All
+# are rows of bench/times.csv, which a run makes anew.
 # `check` and `info` have limits: of the largest pool 20 times `cp`, and of the least one 1.5 times `/bin/true` and `cp` together. A lane's step is to
 # take at most three times the raw one, and a transaction at most PMDK's time, on the largest pool as on the least. A run that passes a limit says
 # so, and ends with status 1. Run it by `make bench`; it is no part of the gate.
@@ -155,7 +156,7 @@ row '' '51200000 locks and releases of a lane, beside raw stores' "$lock" "$raw_
 echo '100,000 transfers'
 (cd crates/pm_transfers && rt run -- 1 1 1 1) >> build/bench.log 2>&1
 pmdk=yes
-if ! cc -O2 -o build/pmdk_transfers bench/pmdk_transfers.c -lpmemobj 2>> build/bench.log; then
+if ! cc -O2 -o build/pmdk_transfers bench/pmdk_transfers.c -lpmemobj -lpthread 2>> build/bench.log; then
   pmdk=''
   echo "PMDK's libpmemobj is not there (on Debian: apt-get install libpmemobj-dev), and has no row"
 fi
@@ -196,6 +197,41 @@ if [ "$largest" -gt $((least * 11 / 10)) ]; then
   echo 'transfers on the largest pool take more than 1.1 times as long as on the least'
   passed=1
 fi
+
+# Transfers through scripts, each a transaction under the root's lock: 8,000 on one lane, on two and on four, and the same ones by as many threads
+# of PMDK's; by the clock. What `exec` of no transfer takes is taken off, so the time is that of reading the script, of the run and of its report.
+echo '8,000 transfers through scripts'
+pool="$folder/pool-transfers"
+"$program" create "$pool" --lanes 4 --zones 1 --id 7 --layout bench --root 512 > /dev/null
+many=8000
+for lanes in 1 2 4; do
+  bench/transfers.py script 1 $many $lanes > "$folder/many"
+  for lane in $(seq 0 $((lanes - 1))); do printf 'lane %s\nbegin root\ncommit\n' "$lane"; done > "$folder/none"
+  none=$(least "$program" exec "$pool" --script "$folder/none" --out "$folder/new" --layout bench)
+  took=$(least "$program" exec "$pool" --script "$folder/many" --out "$folder/new" --layout bench)
+  [ "$(grep -c ' done$' "$folder/out")" = $many ]
+  left=$("$program" dump "$folder/new" | bench/transfers.py digest $many)
+  took=$((took - none))
+  name="$many transfers by scripts on $lanes lane(s)"
+  if [ -n "$pmdk" ]; then
+    for _ in 1 2 3 4 5 6 7 8 9 10; do
+      rm -f "$shared/pool"
+      transfer "pmdk-$lanes" env PMEM_IS_PMEM_FORCE=1 build/pmdk_transfers "$shared/pool" 1 $many $lanes
+    done
+    [ "${digest[pmdk-$lanes]}" = "$left" ]
+    base=$((best[pmdk-$lanes] / 1000))
+    row '' "$many transfers by PMDK on $lanes thread(s)" "$base" "$base" '' "PMDK's time"
+    row '' "$name, beside PMDK" "$took" "$base" '' "PMDK's time"
+  else
+    row '' "$name" "$took"
+  fi
+done
+
+# A script of almost a mebibyte, on two lanes, is run in a second.
+bench/transfers.py script 1 17000 2 > "$folder/all"
+head -c 1048576 "$folder/all" | tac | sed -n '/^commit$/,$p' | tac > "$folder/many"
+took=$(least "$program" exec "$pool" --script "$folder/many" --out "$folder/new" --layout bench)
+row '' "exec of a script of $(stat -c %s "$folder/many") bytes on two lanes" "$took" '' 1000000
 
 cp "$folder/table" "$table"
 exit $passed
