@@ -209,7 +209,7 @@ for lanes in 1 2 4; do
   for lane in $(seq 0 $((lanes - 1))); do printf 'lane %s\nbegin root\ncommit\n' "$lane"; done > "$folder/none"
   none=$(least "$program" exec "$pool" --script "$folder/none" --out "$folder/new" --layout bench)
   took=$(least "$program" exec "$pool" --script "$folder/many" --out "$folder/new" --layout bench)
-  [ "$(grep -c ' done$' "$folder/out")" = $many ]
+  [ "$(grep -c ' done ' "$folder/out")" = $many ]
   left=$("$program" dump "$folder/new" | bench/transfers.py digest $many)
   took=$((took - none))
   name="$many transfers by scripts on $lanes lane(s)"
