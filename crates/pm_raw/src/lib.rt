@@ -53,6 +53,20 @@ impl RawImage {
         })
     }
 
+    /// The image of these words, in the memory that they have.
+    pub fn from_vec(words: Vec<u64>) -> RawImage
+        ensures { result ≡ words.items }
+    {
+        RawImage { words }
+    }
+
+    /// The words of the image, in the memory that they have.
+    pub fn into_vec(self) -> Vec<u64>
+        ensures { result.items ≡ self }
+    {
+        self.words
+    }
+
     /// A further image with the same words. The error says that memory is lacking, and leaves nothing behind.
     pub fn copy(&self, alloc: Global) -> Result<RawImage, AllocError>
         ensures { IfOk result (λ image. image ≡ self.now) }
