@@ -45,7 +45,7 @@ pub at_once : (s : Standing) (P : Standing → Type 0) → P s → After s P
 at_once s P p = record { looks = 0; view = s.view; looked = no_looks s.view; holds = p }
 
 -- what was noted and told moves the lane's log alone
-fields_told : (s : Standing) (id : Oid) (off len : ℕ) (w : View) (claims : List Claim) (changes : List Undrained) (calls : ℕ) (log : Log) → w ≡ record s.view { claims = claims; changes = changes; calls = calls; log = log }
+fields_told : (s : Standing) (id : Oid) (off len : ℕ) (w : View) (claims : List Claim) (changes : List Undrained) (calls : List Step) (log : Log) → w ≡ record s.view { claims = claims; changes = changes; calls = calls; log = log }
     → with_log w (at_work s) ≡ at_work (moved s (after w (Tell (AddRange id off len) None)))
 fields_told s id off len w claims changes calls log is = subst (λ (y : View). with_log y (at_work s) ≡ at_work (moved s (after y (Tell (AddRange id off len) None)))) (sym is) refl
 

@@ -48,7 +48,7 @@ header_line v s off k f = let a = k.at in let h = header_high v k.block k.object
 pub offset_line : (v : View) → IsSound v → (off : ℕ) (k : KnowsSize v [] off) → has_found v k.block ≡ true → has_line off ≡ true
 offset_line v s off k f = let a = k.at in let h = header_high v k.block k.object.inside in and_from (off % 64 == 0) (nat_le 128 off) (eq-eqb (off % 64) 0 (omega (arith, a))) (le-leb 128 off (omega (arith, a, h)))
 
-module _ (v : View) (ns : List Note) (changes : List Undrained) (calls : ℕ) (log : Log) (are : AreNotes v.fixed.shape v.claims ns) (none : (c : ℕ) → making v.fixed.shape v.claims c ≡ false) where
+module _ (v : View) (ns : List Note) (changes : List Undrained) (calls : List Step) (log : Log) (are : AreNotes v.fixed.shape v.claims ns) (none : (c : ℕ) → making v.fixed.shape v.claims c ≡ false) where
   abbrev next : View
   next = noting v ns changes calls log
 
@@ -128,7 +128,7 @@ module _ (v : View) (ns : List Note) (changes : List Undrained) (calls : ℕ) (l
   }
 
 -- what such a step owes, but for the bits as the call has made them
-pub record KeepsHeld (s : Standing) (ns : List Note) (changes : List Undrained) (calls : ℕ) (log : Log) : Type 0 where
+pub record KeepsHeld (s : Standing) (ns : List Note) (changes : List Undrained) (calls : List Step) (log : Log) : Type 0 where
   pub each : AreNotes s.view.fixed.shape s.view.claims ns
   pub working : IsWorking (noting s.view ns changes calls log)
   pub unbumped : log.bumped ≡ false
@@ -139,7 +139,7 @@ pub record KeepsHeld (s : Standing) (ns : List Note) (changes : List Undrained) 
   pub knows : (p : Place) (b : ℕ) (y : Bool) → sees_at s.view p b ≡ true → bit_before s.view p b ≡ Some y → bit_before (noting s.view ns changes calls log) p b ≡ Some y
 
 -- what such a step owes
-pub record Keeps (s : Standing) (ns : List Note) (changes : List Undrained) (calls : ℕ) (log : Log) : Type 0 where
+pub record Keeps (s : Standing) (ns : List Note) (changes : List Undrained) (calls : List Step) (log : Log) : Type 0 where
   pub each : AreNotes s.view.fixed.shape s.view.claims ns
   pub working : IsWorking (noting s.view ns changes calls log)
   pub unbumped : log.bumped ≡ false
@@ -225,7 +225,7 @@ module _ (v : View) (call actions published : List Told) where
   }
 
 -- AT WORK AGAIN after such a step that may change the bits, and one more operation told
-module _ (s : Standing) (level : ℕ) (at : IsAt s level) (ns : List Note) (changes : List Undrained) (calls : ℕ) (log : Log) (k : KeepsHeld s ns changes calls log) where
+module _ (s : Standing) (level : ℕ) (at : IsAt s level) (ns : List Note) (changes : List Undrained) (calls : List Step) (log : Log) (k : KeepsHeld s ns changes calls log) where
   abbrev next_view : View
   next_view = noting s.view ns changes calls log
 
@@ -261,7 +261,7 @@ module _ (s : Standing) (level : ℕ) (at : IsAt s level) (ns : List Note) (chan
   }
 
 -- AT WORK AGAIN after such a step, and one more operation told or none
-module _ (s : Standing) (level : ℕ) (at : IsAt s level) (ns : List Note) (changes : List Undrained) (calls : ℕ) (log : Log) (k : Keeps s ns changes calls log) where
+module _ (s : Standing) (level : ℕ) (at : IsAt s level) (ns : List Note) (changes : List Undrained) (calls : List Step) (log : Log) (k : Keeps s ns changes calls log) where
   abbrev noted_view : View
   noted_view = noting s.view ns changes calls log
 

@@ -145,7 +145,7 @@ module _ (v : View) (op : Operation) (reply : Option Value) (n : ℕ) where
 abbrev size_in : View → Block → ℕ
 size_in v B = 8 * header_in v.fixed.shape v.claims B + 1
 
-module _ (v : View) (ns : List Note) (changes : List Undrained) (calls : ℕ) (log : Log) (are : AreNotes v.fixed.shape v.claims ns) where
+module _ (v : View) (ns : List Note) (changes : List Undrained) (calls : List Step) (log : Log) (are : AreNotes v.fixed.shape v.claims ns) where
   abbrev next : View
   next = noting v ns changes calls log
 

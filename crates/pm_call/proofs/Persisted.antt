@@ -32,7 +32,7 @@ open_log generation records = record (new_log Open generation) { records = recor
 pub record IsDrained (v w : View) (records : List Recorded) : Type 0 where
   pub notes : List Note
   pub each : AreNotes v.fixed.shape v.claims notes
-  pub calls : ℕ
+  pub calls : List Step
   pub same : w ≡ noting v notes [] calls (open_log v.log.generation records)
   pub stays : (u : ℕ) → pictured v.fixed.shape (noted notes v.claims) u ≡ value_in v u
 

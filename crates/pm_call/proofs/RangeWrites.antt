@@ -168,7 +168,7 @@ module _ (s : Standing) (at : At s) (id : Oid) (off : ℕ) (bytes : List ℕ)
   size_at offset C f o e = subst (λ n. ¬ IsIn n) e (not_size C f o)
 
   -- ---- all covered words are stored
-  module _ (n : ℕ) (ns : List Note) (changes : List Undrained) (calls : ℕ) (st : Stored s at id off bytes can n ns changes) (all : (i : ℕ) → IsIn i → i < n) where
+  module _ (n : ℕ) (ns : List Note) (changes : List Undrained) (calls : List Step) (st : Stored s at id off bytes can n ns changes) (all : (i : ℕ) → IsIn i → i < n) where
     abbrev u : View
     u = noting s.view ns changes calls s.view.log
 

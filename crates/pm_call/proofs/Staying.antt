@@ -29,7 +29,7 @@ holds_noted : (ns : List Note) (t : List Claim) (line : ℕ) → holds (noted ns
 holds_noted ns t line i = notes.locked_same ns t i line || notes.reads_same ns t i line
 
 -- through notes
-module _ (v : View) (ns : List Note) (changes : List Undrained) (calls : ℕ) (log : Log) where
+module _ (v : View) (ns : List Note) (changes : List Undrained) (calls : List Step) (log : Log) where
   abbrev next : View
   next = noting v ns changes calls log
 

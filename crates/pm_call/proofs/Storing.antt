@@ -168,7 +168,7 @@ module _ (s : Standing) (at : At s) (id : Oid) (off : ℕ) (bytes : List ℕ) (c
   pub record Storing (n : ℕ) (u : View) : Type 0 where
     pub notes : List Note
     pub changes : List Undrained
-    pub calls : ℕ
+    pub calls : List Step
     pub is : u ≡ noting s.view notes changes calls s.view.log
     pub stored : Stored n notes changes
 
@@ -203,7 +203,7 @@ module _ (s : Standing) (at : At s) (id : Oid) (off : ℕ) (bytes : List ℕ) (c
     low : n < words_of s.view.fixed.shape
     low = subst (λ w. w < words_of sh) (number_is n c) (in_pool sh (range_place n) (place_is n c).data_ (place_is n c).there)
 
-    module _ (ns : List Note) (changes : List Undrained) (calls : ℕ) (st : Stored n ns changes) where
+    module _ (ns : List Note) (changes : List Undrained) (calls : List Step) (st : Stored n ns changes) where
       abbrev u : View
       u = noting s.view ns changes calls s.view.log
 
@@ -266,15 +266,15 @@ module _ (s : Standing) (at : At s) (id : Oid) (off : ℕ) (bytes : List ℕ) (c
       abbrev change : Undrained
       change = record { word = n; mask = all_bits; old = option_map (λ old. bit_and old all_bits) (value_in u n); flushed = false }
 
-      stored_is : after u (Store n (new_word n)) ≡ noting s.view (Valued n (new_word n) ∷ ns) (change ∷ changes) (calls + 1) s.view.log
-      stored_is = ap (λ ph. changed_from u n all_bits (was_of ph (part_in v n) (value_in u n)) (new_word n) (marked_by ph (part_in v n) (new_word n) u.claims) (log_stored sh (class u.claims) ph (part_in v n) (new_word n) v.log)) at.working.is_open
-          ∙ ap (λ y. changed_from u n all_bits (was_of Open y (value_in u n)) (new_word n) (marked_by Open y (new_word n) u.claims) (log_stored sh (class u.claims) Open y (new_word n) v.log)) chunk.part
+      stored_is : after u (Store n (new_word n)) ≡ noting s.view (Valued n (new_word n) ∷ ns) (change ∷ changes) (Store n (new_word n) ∷ calls) s.view.log
+      stored_is = ap (λ ph. changed_from (Store n (new_word n)) u n all_bits (was_of ph (part_in v n) (value_in u n)) (new_word n) (marked_by ph (part_in v n) (new_word n) u.claims) (log_stored sh (class u.claims) ph (part_in v n) (new_word n) v.log)) at.working.is_open
+          ∙ ap (λ y. changed_from (Store n (new_word n)) u n all_bits (was_of Open y (value_in u n)) (new_word n) (marked_by Open y (new_word n) u.claims) (log_stored sh (class u.claims) Open y (new_word n) v.log)) chunk.part
 
       store_on : Storing (n + 1) (after u (Store n (new_word n)))
       store_on = record {
         notes = Valued n (new_word n) ∷ ns;
         changes = change ∷ changes;
-        calls = calls + 1;
+        calls = Store n (new_word n) ∷ calls;
         is = stored_is;
         stored = record {
           each = (tt, st.each);

@@ -33,7 +33,7 @@ use Rattle.pm_call.proofs.Frames.{noting}
 pub record IsTakenBack (v w : View) : Type 0 where
   pub notes : List Note
   pub each : AreNotes v.fixed.shape v.claims notes
-  pub calls : ℕ
+  pub calls : List Step
   pub generation : ℕ
   pub same : w ≡ noting v notes [] calls (new_log Open generation)
   pub next : generation ≡ generation_after v.log.records v.log.generation

@@ -77,7 +77,7 @@ same_settled o g v (Tell operation reply) e u = absurd (both_ways false refl u)
 
 -- ---- STEPS THAT TEACH NOTHING
 
-pub still : (v : View) (kept : Bool) (changes : List Undrained) (calls : ℕ) (occupancy : List Seen) (zones : List ℕ) (seen : List Step)
+pub still : (v : View) (kept : Bool) (changes : List Undrained) (calls : List Step) (occupancy : List Seen) (zones : List ℕ) (seen : List Step)
     → Grows v kept (record v { changes = changes; calls = calls; occupancy = occupancy; zones = zones; seen = seen }) kept
 still v kept changes calls occupancy zones seen = record {
   found = λ B t. t;
@@ -271,7 +271,7 @@ module _ (o : Opening) (old mem : Memory) (views new : Views) (g : Past) (k : �
 
   -- ---- DRAINS
 
-  drained_ : (left : List Undrained) (calls : ℕ) (log : Log) → log.records ≡ (views k).log.records
+  drained_ : (left : List Undrained) (calls : List Step) (log : Log) → log.records ≡ (views k).log.records
       → after (views k) s ≡ record (views k) { claims = Drained left ∷ (views k).claims; changes = left; calls = calls; log = log }
       → ((c : ℕ) → is_kept_block (views k) kept (Big c) ≡ true → making (views k).fixed.shape (views k).claims c ≡ false)
       → Grows (views k) kept (record (views k) { claims = Drained left ∷ (views k).claims; changes = left; calls = calls; log = log }) kept
@@ -378,7 +378,7 @@ module _ (o : Opening) (old mem : Memory) (views new : Views) (g : Past) (k : �
   marks RootPart n = unmarked
   marks OtherPart n = unmarked
 
-  module _ (w n : ℕ) (may : Rattle.pm_world.specs.Lawful.MayStore (views k) w n) (t1 : List Claim) (a : Marks t1) (changes : List Undrained) (calls : ℕ) (log : Log)
+  module _ (w n : ℕ) (may : Rattle.pm_world.specs.Lawful.MayStore (views k) w n) (t1 : List Claim) (a : Marks t1) (changes : List Undrained) (calls : List Step) (log : Log)
       (is : after (views k) s ≡ record (views k) { claims = Knows w n ∷ t1; changes = changes; calls = calls; log = log }) where
     abbrev next : View
     next = record (views k) { claims = Knows w n ∷ t1; changes = changes; calls = calls; log = log }
@@ -410,7 +410,7 @@ module _ (o : Opening) (old mem : Memory) (views new : Views) (g : Past) (k : �
         (known.knows_more (views k) next (recorded (views k).fixed.shape (class (views k).claims) ((views k).log.slot ++ n ∷ [])) more store_pic
         (λ p b z m e r. known.records_known o old views g yy.world k yy.runs yy.is_open w n appends full p b z m e r))
 
-  module _ (w n : ℕ) (may : Rattle.pm_world.specs.Lawful.MayStore (views k) w n) (changes : List Undrained) (calls : ℕ) where
+  module _ (w n : ℕ) (may : Rattle.pm_world.specs.Lawful.MayStore (views k) w n) (changes : List Undrained) (calls : List Step) where
     abbrev At : Part → Log → View
     At part log = record (views k) { claims = Knows w n ∷ marked_by Open part n (views k).claims; changes = changes; calls = calls; log = log }
 
@@ -486,31 +486,31 @@ steps_grow (Store w n) o old mem views new g k kept y u =
     let stored : Phase → View = λ ph. record (views k) {
       claims = Knows w n ∷ marked_by ph part n (views k).claims;
       changes = changes;
-      calls = (views k).calls + 1;
+      calls = Store w n ∷ (views k).calls;
       log = log_stored (views k).fixed.shape (class (views k).claims) ph part n (views k).log;
     } in
     let is : after (views k) (Store w n) ≡ stored Open = ap stored y.is_open in
     same_view (views k) (after (views k) (Store w n)) (stored Open) kept is
-    (store_by o old mem views new g k kept (Store w n) y w n y.lawful.allowed changes ((views k).calls + 1) part
+    (store_by o old mem views new g k kept (Store w n) y w n y.lawful.allowed changes (Store w n ∷ (views k).calls) part
     (subst (λ ph. StoreFits (views k) w n ph part) y.is_open y.lawful.allowed.fits) is)
 steps_grow (Or w bits found) o old mem views new g k kept y u = absurd (no_change (views k) _ w bits (part_in (views k) w) y.is_open y.lawful.allowed.fits)
 steps_grow (And w bits found) o old mem views new g k kept y u = absurd (no_change (views k) _ w bits (part_in (views k) w) y.is_open y.lawful.allowed.fits)
-steps_grow (Flush line) o old mem views new g k kept y u = still (views k) kept (flushed line (views k).changes) ((views k).calls + 1) (views k).occupancy (views k).zones (views k).seen
+steps_grow (Flush line) o old mem views new g k kept y u = still (views k) kept (flushed line (views k).changes) (Flush line ∷ (views k).calls) (views k).occupancy (views k).zones (views k).seen
 steps_grow Drain o old mem views new g k kept y u = by (drained (views k).changes) refl
   where
     by : (left : List Undrained) → after (views k) Drain ≡ drained_to (views k) left → Grows (views k) kept (after (views k) Drain) kept
     by (c ∷ left) is = same_view (views k) (after (views k) Drain) (drained_to (views k) (c ∷ left)) kept is
-        (drained_ o old mem views new g k kept Drain y (c ∷ left) ((views k).calls + 1) (views k).log refl is u)
+        (drained_ o old mem views new g k kept Drain y (c ∷ left) (Drain ∷ (views k).calls) (views k).log refl is u)
     by [] is =
         let drains : Phase → View = λ ph. record (views k) {
           claims = decided_by ph (views k).log.entries (Drained [] ∷ (views k).claims);
           changes = [];
-          calls = (views k).calls + 1;
+          calls = Drain ∷ (views k).calls;
           log = log_drained ph (views k).log;
         } in
         let so : after (views k) Drain ≡ drains Open = is ∙ ap drains y.is_open in
         same_view (views k) (after (views k) Drain) (drains Open) kept so
-        (drained_ o old mem views new g k kept Drain y [] ((views k).calls + 1) (views k).log refl so u)
+        (drained_ o old mem views new g k kept Drain y [] (Drain ∷ (views k).calls) (views k).log refl so u)
 steps_grow (TakeWrite line true) o old mem views new g k kept y u = took o old mem views new g k kept (TakeWrite line true) y line true refl y.lawful.allowed.free
 steps_grow (TakeWrite line false) o old mem views new g k kept y u = still (views k) kept (views k).changes (views k).calls (views k).occupancy (views k).zones (TakeWrite line false ∷ (views k).seen)
 steps_grow (TakeRead line true) o old mem views new g k kept y u = took o old mem views new g k kept (TakeRead line true) y line false refl y.lawful.allowed.free
@@ -541,7 +541,7 @@ voided_same o g v [] e = ap (λ ph. settled_words o (past_decided ph v (past_mad
 module _ (o : Opening) (old mem : Memory) (views new : Views) (g : Past) (k : ℕ) (kept : Bool) (y : IsVoiding o old mem views new g k) (u : GivesUpNothing (views k) kept Drain) where
   -- the view then, where these changes are left
   abbrev Left : List Undrained → Log → View
-  Left left log = record (views k) { claims = Drained left ∷ (views k).claims; changes = left; calls = (views k).calls + 1; log = log }
+  Left left log = record (views k) { claims = Drained left ∷ (views k).claims; changes = left; calls = Drain ∷ (views k).calls; log = log }
 
   grown_to : (left : List Undrained) (log : Log) → after (views k) Drain ≡ Left left log
       → ((p : Place) (b : ℕ) → sees_at (views k) p b ≡ true → is_recorded (views k).log.records p ≡ true → (is_recorded log.records p ≡ true) ⊎ IsInObject (Left left log) p)
@@ -598,7 +598,7 @@ module _ (o : Opening) (old mem : Memory) (views new : Views) (g : Past) (k : �
       let drains : Phase → View = λ ph. record (views k) {
         claims = decided_by ph (views k).log.entries (Drained [] ∷ (views k).claims);
         changes = [];
-        calls = (views k).calls + 1;
+        calls = Drain ∷ (views k).calls;
         log = log_drained ph (views k).log;
       } in
       let so : after (views k) Drain ≡ drains Voiding = is ∙ ap drains y.voids in

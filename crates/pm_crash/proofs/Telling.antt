@@ -144,7 +144,7 @@ tells_grow v op reply kept = record {
 
 -- ---- steps that teach nothing of bits
 
-pub still_place : (v : View) (changes : List Undrained) (calls : ℕ) (occupancy : List Seen) (zones : List ℕ) (seen : List Step) (p : Place)
+pub still_place : (v : View) (changes : List Undrained) (calls : List Step) (occupancy : List Seen) (zones : List ℕ) (seen : List Step) (p : Place)
     → IsSamePlace v (record v { changes = changes; calls = calls; occupancy = occupancy; zones = zones; seen = seen }) p
 still_place v changes calls occupancy zones seen (InRun c w) = refl
 still_place v changes calls occupancy zones seen (InHuge c w) = refl

@@ -251,7 +251,7 @@ GrowthsCompose = (v mid next : View) (kept between kept' : Bool) → Grows v kep
 -- A STEP THAT TEACHES NOTHING OF BITS: flushes, tries that fail, zones' locks, occupancy words,
 -- numbers and stop words seen. It changes no claim, no record and nothing that was told
 abbrev pub SimIsKept : Type 0
-SimIsKept = (v : View) (entries : List Entry) (changes : List Undrained) (calls : ℕ)
+SimIsKept = (v : View) (entries : List Entry) (changes : List Undrained) (calls : List Step)
     (occupancy : List Seen) (zones : List ℕ) (seen : List Step) → Sim v entries
     → Sim (record v {
       changes = changes;

@@ -55,7 +55,7 @@ StepsGrow s = (o : Opening) (old mem : Memory) (views new : Views) (g : Past) (k
 
 -- a step that teaches nothing of bits leaves what it knows, in whatever phase
 abbrev pub QuietStepsGrow : Type 0
-QuietStepsGrow = (v : View) (kept : Bool) (changes : List Undrained) (calls : ℕ)
+QuietStepsGrow = (v : View) (kept : Bool) (changes : List Undrained) (calls : List Step)
     (occupancy : List Seen) (zones : List ℕ) (seen : List Step) → Grows v kept (record v {
       changes = changes;
       calls = calls;
@@ -81,7 +81,7 @@ RecordsStayKnown s = (o : Opening) (old mem : Memory) (views new : Views) (g : P
 
 -- what teaches nothing leaves that too
 abbrev pub QuietStepsKeepRecords : Type 0
-QuietStepsKeepRecords = (v : View) (changes : List Undrained) (calls : ℕ) (occupancy : List Seen)
+QuietStepsKeepRecords = (v : View) (changes : List Undrained) (calls : List Step) (occupancy : List Seen)
     (zones : List ℕ) (seen : List Step) → KnowsRecorded v → KnowsRecorded (record v {
       changes = changes;
       calls = calls;

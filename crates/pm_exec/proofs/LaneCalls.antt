@@ -231,7 +231,7 @@ module _ {M : Type 0} (at : M → View → Type 0) (old new : Lane M) (result : 
 
   pub closed : FinishedLanesHaveFacts at → (h : LaneHistory) → StandsWith at old h
       → (old.stopped ≡ false → position_of old ≡ resting) → (before e : LaneEnd) → (old.stopped ≡ false → e ≡ before)
-      → (old.stopped ≡ true → (v : View) → at new.memory v → e ≡ end.Stopped (v.calls % 2 ^ 64))
+      → (old.stopped ≡ true → (v : View) → at new.memory v → e ≡ end.Stopped (length v.calls % 2 ^ 64))
       → Closed at old new h before e
   closed known h stands here before e going stopped = by old.stopped refl where
     level : old.stopped ≡ false → old.level ≡ 0

@@ -60,8 +60,8 @@ module _ {G M : Type 0} (at : M → View → Type 0) (before after : LaneWork G)
   stopped_when true s some = (_, ends.stopped s)
   stopped_when false g some = absurd (some (came.going g).1)
 
-  counted_when : (b : Bool) → ran.stopped ≡ b → (k : ℕ) → after.end ≡ end.Stopped k → k ≡ ends.stops.view.calls % 2 ^ 64
-  counted_when true s k is = same_count k (ends.stops.view.calls % 2 ^ 64) (sym is ∙ ends.stopped s)
+  counted_when : (b : Bool) → ran.stopped ≡ b → (k : ℕ) → after.end ≡ end.Stopped k → k ≡ length ends.stops.view.calls % 2 ^ 64
+  counted_when true s k is = same_count k (length ends.stops.view.calls % 2 ^ 64) (sym is ∙ ends.stopped s)
   counted_when false g k is = absurd (came.unstopped g k (sym (ends.going g) ∙ is))
 
   due_when : (b : Bool) → ran.stopped ≡ b → (k : ℕ) → after.end ≡ end.Stopped k → IsStopDue ends.stops.view
@@ -70,7 +70,7 @@ module _ {G M : Type 0} (at : M → View → Type 0) (before after : LaneWork G)
 
   added_when : (b : Bool) → ran.stopped ≡ b → came.adding ≡ true → AddedNext before after
   added_when true s is = record {
-    calls = ends.stops.view.calls % 2 ^ 64;
+    calls = length ends.stops.view.calls % 2 ^ 64;
     stopped = ends.stopped s;
     none = (came.adds is).0;
     adds = subst (λ (l : List (List ScriptLine)). AddsRange before.names

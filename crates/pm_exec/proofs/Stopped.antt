@@ -35,7 +35,7 @@ module _ (laws : LaneLaws) (b : Beginning) (back : List View) (words : List ℕ)
       sym there.1
       ∙ (ap (λ n. closed.last.views n) (other.lane_is ∙ sym last.lane_is) ∙ here.1)
 
-  pub has_stopped : (calls : ℕ) → calls ≡ last.view.calls % 2 ^ 64 → IsStopDue last.view
+  pub has_stopped : (calls : ℕ) → calls ≡ length last.view.calls % 2 ^ 64 → IsStopDue last.view
       → HasStopped b back k calls
   has_stopped calls count due = record {
     last = last;

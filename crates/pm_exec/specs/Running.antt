@@ -166,7 +166,7 @@ pub record Closed {M : Type 0} (at : M → View → Type 0) (old new : Lane M) (
   pub lane : stops.view.fixed.lane ≡ h.lane
   pub ends : EndsOpen old.drawn stops.view
   pub going : old.stopped ≡ false → e ≡ before
-  pub stopped : old.stopped ≡ true → e ≡ end.Stopped (stops.view.calls % 2 ^ 64)
+  pub stopped : old.stopped ≡ true → e ≡ end.Stopped (length stops.view.calls % 2 ^ 64)
   pub due : old.stopped ≡ true → IsStopDue stops.view
   pub unwritten : h.adding ≡ false → WritesNoRecord stops.view
 

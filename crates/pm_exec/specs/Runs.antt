@@ -108,7 +108,7 @@ pub record AnotherStopped (b : Beginning) (back : List View) (lane : ℕ) (v : V
 -- for a lock, and another lane had come to its own
 pub record HasStopped (b : Beginning) (back : List View) (lane calls : ℕ) : Type 0 where
   pub last : IsBack back lane
-  pub count : calls ≡ last.view.calls % 2 ^ 64
+  pub count : calls ≡ length last.view.calls % 2 ^ 64
   pub due : CameToStop b last.view ⊎ AnotherStopped b back lane last.view
 
 -- AN ENTRY WAS ABORTED AS Busy, call `call` of the history, with one of its operations: this wants

@@ -46,7 +46,7 @@ pub record DidCalls {G : Type 0} (before after : LaneWork G) (v : View) : Type 0
       → IsAnswer before.names v.fixed.lane a d → MayBeKeptOrLost d
   pub whole : after.end ≡ end.Ended → length after.answers.items ≡ length (lines_left before)
   pub stopped : after.unanswered ≢ None → (calls : ℕ) × (after.end ≡ end.Stopped calls)
-  pub counted : (calls : ℕ) → after.end ≡ end.Stopped calls → calls ≡ v.calls % 2 ^ 64
+  pub counted : (calls : ℕ) → after.end ≡ end.Stopped calls → calls ≡ length v.calls % 2 ^ 64
   pub due : (calls : ℕ) → after.end ≡ end.Stopped calls → IsStopDue v
   pub spent : (line : ℕ) → after.end ≡ end.Spent line → IsSpentView v
   -- it is writing no record, or stopped in its next call, which adds a range

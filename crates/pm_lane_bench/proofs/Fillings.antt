@@ -83,26 +83,26 @@ module _ (v : View) (o : OwnsChunk v) where
 
   -- the view after a store
   abbrev filled : ℕ → View
-  filled x = changed_from v 3080 all_bits (was_in v 3080) x v.claims v.log
+  filled x = changed_from (Store 3080 x) v 3080 all_bits (was_in v 3080) x v.claims v.log
 
   filled_is : (x : ℕ) → after v (Store 3080 x) ≡ filled x
   filled_is x = ap (λ (ph : Phase). go ph (part_in v 3080)) o.idle ∙ ap (go Idle) (part_is v o.chunk)
     where
       go : Phase → Part → View
-      go ph p = changed_from v 3080 all_bits (was_in v 3080) x (marked_by ph p x v.claims) (log_stored v.fixed.shape (class v.claims) ph p x v.log)
+      go ph p = changed_from (Store 3080 x) v 3080 all_bits (was_in v 3080) x (marked_by ph p x v.claims) (log_stored v.fixed.shape (class v.claims) ph p x v.log)
 
   pub owns_filled : (x : ℕ) → OwnsChunk (filled x)
   owns_filled x = record { chunk = chunk_noted v o.chunk (filled x) refl (record { notes = Valued 3080 x ∷ []; are = refl; each = (tt, tt) }); idle = o.idle; unentered = o.unentered }
 
   -- the view after a drain that leaves nothing
   abbrev emptied : View
-  emptied = record v { claims = Drained [] ∷ v.claims; changes = []; calls = v.calls + 1 }
+  emptied = record v { claims = Drained [] ∷ v.claims; changes = []; calls = Drain ∷ v.calls }
 
   emptied_is : drained v.changes ≡ [] → after v Drain ≡ emptied
   emptied_is none = ap (drained_to v) none ∙ ap go o.idle
     where
       go : Phase → View
-      go ph = record v { claims = decided_by ph v.log.entries (Drained [] ∷ v.claims); changes = []; calls = v.calls + 1; log = log_drained ph v.log }
+      go ph = record v { claims = decided_by ph v.log.entries (Drained [] ∷ v.claims); changes = []; calls = Drain ∷ v.calls; log = log_drained ph v.log }
 
   owns_emptied : OwnsChunk emptied
   owns_emptied = record { chunk = chunk_noted v o.chunk emptied refl (record { notes = DrainedTo [] ∷ []; are = refl; each = (o.chunk.unmaking, tt) }); idle = o.idle; unentered = o.unentered }

@@ -61,7 +61,7 @@ module _ (b : Beginning) (can : CanBegin b) (one : b.lanes ≡ 1) (stop : Option
   stands_with : StandsOpened memory b.shape b.pool stop
   stands_with = (
     opening_of b,
-    opened_stands (opening_of b) fixed (generation_of b) b.runs.items zones refl refl refl pages count
+    opened_stands (opening_of b) fixed (generation_of b) b.runs.items zones refl refl refl pages count taken
         (opens (opening_of b) (memory_of memory) fixed (generation_of b) record {
           start = opened_starts (opening_of b) fixed stop b.runs.items zones one (λ k. refl) (λ k. refl) (λ k. refl);
           size = can.size;

@@ -66,11 +66,13 @@ fixed_stays v s = refl
 same_or_more : (n m : ℕ) → n ≡ m → m ≤ n
 same_or_more n m is = omega (arith, is)
 
-calls_grow : (v : View) (s : Step) → v.calls ≤ (after v s).calls
+calls_grow : (v : View) (s : Step) → length v.calls ≤ length (after v s).calls
 calls_grow v (Occupy at bits won) =
-    same_or_more (occupied won v at bits).calls v.calls (occupied_calls won v at bits)
+    same_or_more (length (occupied won v at bits).calls) (length v.calls)
+    (ap length (occupied_calls won v at bits))
 calls_grow v (NumberSeen n) =
-    same_or_more (begun v.log.phase v).calls v.calls (begun_calls v.log.phase v)
+    same_or_more (length (begun v.log.phase v).calls) (length v.calls)
+    (ap length (begun_calls v.log.phase v))
 calls_grow v s = omega arith
 
 reached : (stop : Option ℕ) (n m : ℕ) → n ≤ m → IsSomeAnd stop (λ s. s ≤ n)
@@ -79,8 +81,9 @@ reached None n m more at = at
 reached (Some s) n m more at = omega (arith, more, at)
 
 stop_stays : (v : View) (s : Step) → IsAtStop v → IsAtStop (after v s)
-stop_stays v s at = subst (λ (c : Constants). IsSomeAnd c.stop (λ n. n ≤ (after v s).calls))
-    (sym (fixed_stays v s)) (reached v.fixed.stop v.calls (after v s).calls (calls_grow v s) at)
+stop_stays v s at = subst (λ (c : Constants). IsSomeAnd c.stop (λ n. n ≤ length (after v s).calls))
+    (sym (fixed_stays v s)) (reached v.fixed.stop (length v.calls) (length (after v s).calls) (calls_grow v s)
+    at)
 
 -- one of the steps seen is the last step, or was seen before
 among : (s : Step) (seen : List Step) (t : Step) → Contains (s ∷ seen) t
@@ -193,11 +196,11 @@ module _ (b : Beginning) (back : List View) (words : List ℕ) (closed : Closes 
   came : (k : ℕ) → k < b.lanes → IsAtStop (last.views k) → (v : View) → last.views k ≡ v
       → v.fixed.lane ≡ k → CameToStop b v
   came k low at v same of_lane =
-      let stop = exactly (last.views k).fixed.stop (last.views k).calls
+      let stop = exactly (last.views k).fixed.stop (length (last.views k).calls)
       (closed.world.each_lane k low).within at in
       ap (λ i. slice_index_or b.stops i None) of_lane
       ∙ (sym (ap (λ (c : Constants). c.stop) (fixed_then k))
-      ∙ (stop ∙ ap (λ (u : View). Some u.calls) same))
+      ∙ (stop ∙ ap (λ (u : View). Some (length u.calls)) same))
 
 pub own : StopsAreReached
 own b back words n v closed there at =

@@ -59,7 +59,7 @@ pub record BackWith (back : List View) (undrained : List (List Change)) : Type 0
 
 -- the lane of this view made as many counted calls as the stop number that the beginning gave it
 abbrev pub CameToStop : Beginning → View → Type 0
-CameToStop b v = slice_index_or b.stops v.fixed.lane None ≡ Some v.calls
+CameToStop b v = slice_index_or b.stops v.fixed.lane None ≡ Some (length v.calls)
 
 -- A LANE AT ITS STOP came to the stop number that it was given
 abbrev pub StopsAreReached : Type 0

@@ -16,6 +16,7 @@ use Rattle.pm_world.specs.Memory.{Memory, cells_of}
 use Rattle.pm_world.specs.Sights.{sight_of}
 use Rattle.pm_world.specs.States.{there}
 use Rattle.pm_world.specs.World.{Opening, Views, Past, World, ghost_of, settled_words}
+use Rattle.pm_world.proofs.CausesKept as causes
 use Rattle.pm_world.proofs.CrashDescriptors.{some_below}
 use Rattle.pm_world.proofs.EveryStep.{every_step}
 use Rattle.pm_world.proofs.Frame.{found_has, mine_own, not_making, own_has}
@@ -108,6 +109,8 @@ seen_after v w x i = record {
   inside = i.inside;
   word = i.word;
   sizes = i.sizes;
+  causes = causes.goes_on (Load w x) i.opening i.memory i.memory i.views next i.past v.fixed.lane
+      i.world i.causes i.runs lawful (λ l. refl, sym i.word) turn;
 }
   where
     next : Views

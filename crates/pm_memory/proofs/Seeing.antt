@@ -1,6 +1,6 @@
 -- How the view of lane 0 follows its memory, a memory call at a time: `m` is the memory before,
 -- `k` the memory with the call counted, `n` the memory after.
-use Rattle.std.proofs.Common.{◌≡◌, ℕ, ◌+◌, ◌-◌, ◌/◌, ◌%◌, ◌^◌, ◌<◌, ◌≤◌, bit_and, bit_or, Bool, true, false, cond, List, ◌∷◌, length, length-set, slice_index, set, Option, Some, None, IsSomeAnd, IfSome, Result, Ok, Err, IsErr, refl, sym, ap, ◌∙◌, subst, arith, rules}
+use Rattle.std.proofs.Common.{◌≡◌, ℕ, suc, ◌+◌, ◌-◌, ◌/◌, ◌%◌, ◌^◌, ◌<◌, ◌≤◌, bit_and, bit_or, Bool, true, false, cond, List, ◌∷◌, length, length-set, slice_index, set, Option, Some, None, IsSomeAnd, IfSome, Result, Ok, Err, IsErr, refl, sym, ap, ◌∙◌, subst, arith, rules}
 use Rattle.std.specs.Option.{ForSome, option_map}
 use Rattle.std.proofs.lemmas.Nat.{and_mask}
 use Rattle.pm_layout.specs.declared.shape.Shape.{Shape}
@@ -88,16 +88,16 @@ below_stop calls counted stop same within fits less = omega arith
 pub may_count : (m : Solo) (v : View) → Sees m v → IsDue m → ForSome m.stop (λ stop. stop < 2 ^ 64) → MayCount v
 may_count m v sees due fits stop is =
     let of_memory : m.stop ≡ Some stop = sym sees.fixed.stop_is ∙ is in
-    below_stop v.calls m.calls stop sees.calls.is (sees.calls.within stop of_memory) (fits stop of_memory) (due stop of_memory)
+    below_stop (length v.calls) m.calls stop sees.calls.is (sees.calls.within stop of_memory) (fits stop of_memory) (due stop of_memory)
 
-calls_next : (calls counted : ℕ) → calls % 2 ^ 64 ≡ counted → (calls + 1) % 2 ^ 64 ≡ (counted + 1) % 2 ^ 64
+calls_next : (calls counted : ℕ) → calls % 2 ^ 64 ≡ counted → suc calls % 2 ^ 64 ≡ (counted + 1) % 2 ^ 64
 calls_next calls counted same = omega arith
 
 -- so the count stays within the stop number
-count_next : (m : Solo) (v : View) → Sees m v → IsDue m → ForSome m.stop (λ stop. stop < 2 ^ 64) → IsCount m.stop ((m.calls + 1) % 2 ^ 64) (v.calls + 1)
+count_next : (m : Solo) (v : View) → Sees m v → IsDue m → ForSome m.stop (λ stop. stop < 2 ^ 64) → IsCount m.stop ((m.calls + 1) % 2 ^ 64) (suc (length v.calls))
 count_next m v sees due fits = record {
-  is = calls_next v.calls m.calls sees.calls.is;
-  within = λ stop is. let less : v.calls < stop = may_count m v sees due fits stop (sees.fixed.stop_is ∙ is) in omega arith;
+  is = calls_next (length v.calls) m.calls sees.calls.is;
+  within = λ stop is. let less : length v.calls < stop = may_count m v sees due fits stop (sees.fixed.stop_is ∙ is) in omega arith;
 }
 
 at_most : (stop : Option ℕ) (few many : ℕ) → few ≤ many → IsSomeAnd stop (λ n. n ≤ few) → IsSomeAnd stop (λ n. n ≤ many)
@@ -107,8 +107,8 @@ at_most (Some n) few many more spent = omega arith
 is_at_stop : (m : Solo) (v : View) → Sees m v → IsSpent m → IsAtStop v
 is_at_stop m v sees spent =
     let is = sees.calls.is in
-    let more : m.calls ≤ v.calls = omega (arith, is) in
-    subst (λ (stop : Option ℕ). IsSomeAnd stop (λ n. n ≤ v.calls)) (sym sees.fixed.stop_is) (at_most m.stop m.calls v.calls more spent)
+    let more : m.calls ≤ length v.calls = omega (arith, is) in
+    subst (λ (stop : Option ℕ). IsSomeAnd stop (λ n. n ≤ length v.calls)) (sym sees.fixed.stop_is) (at_most m.stop m.calls (length v.calls) more spent)
 
 -- that the lane stopped is no concern of its view
 pub sees_stopped : (m : Solo) (v : View) → Sees m v → Sees (says_stopped m) v
@@ -152,9 +152,9 @@ was_value phase (ChunkPart c i) o y e = e
 was_value phase OtherPart o y e = e
 
 -- a counted call made this change
-sees_changed : (m : Solo) (v : View) (c : Change) (was : Option ℕ) (x : ℕ) (claims : List Claim) (log : Log) → IsDue m → ForSome m.stop (λ stop. stop < 2 ^ 64) → Grows v.fixed.shape v.claims claims
-    → c.word < length m.words → c.flushed ≡ false → IfSome (option_map (λ (z : ℕ). bit_and z c.mask) was) (λ y. c.old ≡ y) → Sees m v → Sees (with_change (counted m) c x) (changed_from v c.word c.mask was x claims log)
-sees_changed m v c was x claims log due fits grows within plain old sees =
+sees_changed : (m : Solo) (v : View) (s : Step) (c : Change) (was : Option ℕ) (x : ℕ) (claims : List Claim) (log : Log) → IsDue m → ForSome m.stop (λ stop. stop < 2 ^ 64) → Grows v.fixed.shape v.claims claims
+    → c.word < length m.words → c.flushed ≡ false → IfSome (option_map (λ (z : ℕ). bit_and z c.mask) was) (λ y. c.old ≡ y) → Sees m v → Sees (with_change (counted m) c x) (changed_from s v c.word c.mask was x claims log)
+sees_changed m v s c was x claims log due fits grows within plain old sees =
     let same : length (set m.words c.word x) ≡ length m.words = length-set m.words c.word x in
     record {
       fixed = record { lane = sees.fixed.lane; lanes = sees.fixed.lanes; stop_is = sees.fixed.stop_is; size = same ∙ sees.fixed.size };
@@ -174,9 +174,9 @@ sees_changed m v c was x claims log due fits grows within plain old sees =
     }
 
 -- a flush or a drain was counted
-sees_recounted : (m : Solo) (v : View) (changes : List Change) (left : List Undrained) (claims : List Claim) (log : Log) → IsDue m → ForSome m.stop (λ stop. stop < 2 ^ 64) → Grows v.fixed.shape v.claims claims
-    → AreUndrained changes left → Sees m v → Sees (record (counted m) { changes = changes }) (record v { claims = claims; changes = left; calls = v.calls + 1; log = log })
-sees_recounted m v changes left claims log due fits grows are sees = record {
+sees_recounted : (m : Solo) (v : View) (s : Step) (changes : List Change) (left : List Undrained) (claims : List Claim) (log : Log) → IsDue m → ForSome m.stop (λ stop. stop < 2 ^ 64) → Grows v.fixed.shape v.claims claims
+    → AreUndrained changes left → Sees m v → Sees (record (counted m) { changes = changes }) (record v { claims = claims; changes = left; calls = s ∷ v.calls; log = log })
+sees_recounted m v s changes left claims log due fits grows are sees = record {
   fixed = sees.fixed;
   words = known_grown v.fixed.shape m.words v.claims claims grows sees.words;
   occupancy = sees.occupancy;
@@ -193,10 +193,10 @@ whole x small = let low : bit_and x (2 ^ 64 - 1) ≡ x % 2 ^ 64 = and_mask x 64 
 
 module _ (m k n : Solo) (due : IsDue m) (fits : ForSome m.stop (λ stop. stop < 2 ^ 64)) (once : k ≡ counted m) where
   -- the call made this change of a word that was this, where that is known
-  made_change : (v : View) (c : Change) (was : Option ℕ) (x : ℕ) (claims : List Claim) (log : Log) → Grows v.fixed.shape v.claims claims → c.word < length m.words → c.flushed ≡ false → IfSome (option_map (λ (z : ℕ). bit_and z c.mask) was) (λ y. c.old ≡ y)
-      → n ≡ with_change k c x → Sees m v → Sees n (changed_from v c.word c.mask was x claims log)
-  made_change v c was x claims log grows within plain old is sees =
-      subst (λ (memory : Solo). Sees memory (changed_from v c.word c.mask was x claims log)) (sym (is ∙ ap (λ (memory : Solo). with_change memory c x) once)) (sees_changed m v c was x claims log due fits grows within plain old sees)
+  made_change : (v : View) (s : Step) (c : Change) (was : Option ℕ) (x : ℕ) (claims : List Claim) (log : Log) → Grows v.fixed.shape v.claims claims → c.word < length m.words → c.flushed ≡ false → IfSome (option_map (λ (z : ℕ). bit_and z c.mask) was) (λ y. c.old ≡ y)
+      → n ≡ with_change k c x → Sees m v → Sees n (changed_from s v c.word c.mask was x claims log)
+  made_change v s c was x claims log grows within plain old is sees =
+      subst (λ (memory : Solo). Sees memory (changed_from s v c.word c.mask was x claims log)) (sym (is ∙ ap (λ (memory : Solo). with_change memory c x) once)) (sees_changed m v s c was x claims log due fits grows within plain old sees)
 
   found_in : (w found : ℕ) → found ≡ slice_index k.words w → found ≡ slice_index m.words w
   found_in w found is = is ∙ ap (λ (memory : Solo). slice_index memory.words w) once
@@ -205,7 +205,7 @@ module _ (m k n : Solo) (due : IsDue m) (fits : ForSome m.stop (λ stop. stop < 
   stored_made w x found c small within finds makes is v sees =
       let claims : List Claim = marked_by v.log.phase (part_in v w) x v.claims in
       let log : Log = log_stored (shape_of v) (class v.claims) v.log.phase (part_in v w) x v.log in (
-        made_change v (store_change w found x) (was_in v w) x claims log (grows_marked v.fixed.shape v.log.phase (part_in v w) x v.claims) within refl
+        made_change v (Store w x) (store_change w found x) (was_in v w) x claims log (grows_marked v.fixed.shape v.log.phase (part_in v w) x v.claims) within refl
             (old_known (was_in v w) all_bits (slice_index m.words w) found (λ y e. sees.words w y (was_value v.log.phase (part_in v w) (value_in v w) y e)) (whole found small ∙ ap (λ y. bit_and y all_bits) (found_in w found finds))) (is ∙ ap (λ (d : Change). with_change k d x) makes) sees,
         tt,
         may_count m v sees due fits,
@@ -213,28 +213,28 @@ module _ (m k n : Solo) (due : IsDue m) (fits : ForSome m.stop (λ stop. stop < 
 
   pub or_made : (w bits found : ℕ) (c : Change) → w < length m.words → found ≡ slice_index k.words w → c ≡ or_change w bits found → n ≡ with_change k c (bit_or found bits) → (v : View) → Sees m v → Sees n (after v (Or w bits found)) × FindsKnown v w found × MayCount v
   or_made w bits found c within finds makes is v sees = (
-    made_change v (or_change w bits found) (Some found) (bit_or found bits) v.claims (log_changed v.log.phase v.log) (grows_none v.fixed.shape v.claims) within refl refl (is ∙ ap (λ (d : Change). with_change k d (bit_or found bits)) makes) sees,
+    made_change v (Or w bits found) (or_change w bits found) (Some found) (bit_or found bits) v.claims (log_changed v.log.phase v.log) (grows_none v.fixed.shape v.claims) within refl refl (is ∙ ap (λ (d : Change). with_change k d (bit_or found bits)) makes) sees,
     finds_known m v w found (found_in w found finds) sees,
     may_count m v sees due fits,
   )
 
   pub and_made : (w bits found : ℕ) (c : Change) → w < length m.words → found ≡ slice_index k.words w → c ≡ and_change w bits found → n ≡ with_change k c (bit_and found bits) → (v : View) → Sees m v → Sees n (after v (And w bits found)) × FindsKnown v w found × MayCount v
   and_made w bits found c within finds makes is v sees = (
-    made_change v (and_change w bits found) (Some found) (bit_and found bits) v.claims (log_changed v.log.phase v.log) (grows_none v.fixed.shape v.claims) within refl refl (is ∙ ap (λ (d : Change). with_change k d (bit_and found bits)) makes) sees,
+    made_change v (And w bits found) (and_change w bits found) (Some found) (bit_and found bits) v.claims (log_changed v.log.phase v.log) (grows_none v.fixed.shape v.claims) within refl refl (is ∙ ap (λ (d : Change). with_change k d (bit_and found bits)) makes) sees,
     finds_known m v w found (found_in w found finds) sees,
     may_count m v sees due fits,
   )
 
   -- the call changed which changes are undrained
-  made_again : (v : View) (f : List Change → List Change) (left : List Undrained) (claims : List Claim) (log : Log) → Grows v.fixed.shape v.claims claims → AreUndrained (f m.changes) left
-      → n ≡ record k { changes = f k.changes } → Sees m v → Sees n (record v { claims = claims; changes = left; calls = v.calls + 1; log = log })
-  made_again v f left claims log grows are is sees =
-      subst (λ (memory : Solo). Sees memory (record v { claims = claims; changes = left; calls = v.calls + 1; log = log })) (sym (is ∙ ap (λ (memory : Solo). record memory { changes = f memory.changes }) once)) (sees_recounted m v (f m.changes) left claims log due fits grows are sees)
+  made_again : (v : View) (s : Step) (f : List Change → List Change) (left : List Undrained) (claims : List Claim) (log : Log) → Grows v.fixed.shape v.claims claims → AreUndrained (f m.changes) left
+      → n ≡ record k { changes = f k.changes } → Sees m v → Sees n (record v { claims = claims; changes = left; calls = s ∷ v.calls; log = log })
+  made_again v s f left claims log grows are is sees =
+      subst (λ (memory : Solo). Sees memory (record v { claims = claims; changes = left; calls = s ∷ v.calls; log = log })) (sym (is ∙ ap (λ (memory : Solo). record memory { changes = f memory.changes }) once)) (sees_recounted m v s (f m.changes) left claims log due fits grows are sees)
 
   pub flushed_made : (line : ℕ) → n ≡ record k { changes = changes_flushed line k.changes } → (v : View) → Sees m v → Sees n (after v (Flush line)) × Unit {0} × MayCount v
-  flushed_made line is v sees = (made_again v (changes_flushed line) (flushed line v.changes) v.claims v.log (grows_none v.fixed.shape v.claims) (undrained-flushed line m.changes v.changes sees.changes) is sees, tt, may_count m v sees due fits)
+  flushed_made line is v sees = (made_again v (Flush line) (changes_flushed line) (flushed line v.changes) v.claims v.log (grows_none v.fixed.shape v.claims) (undrained-flushed line m.changes v.changes sees.changes) is sees, tt, may_count m v sees due fits)
 
   pub drained_made : n ≡ record k { changes = changes_drained k.changes } → (v : View) → Sees m v → Sees n (after v Drain) × Unit {0} × MayCount v
   drained_made is v sees =
       let left : List Undrained = drained v.changes in
-      (made_again v changes_drained left (claims_drained left v.log (Drained left ∷ v.claims)) (log_left left v.log) (grows_drained v.fixed.shape left v.log v.claims) (undrained-drained m.changes v.changes sees.changes) is sees, tt, may_count m v sees due fits)
+      (made_again v Drain changes_drained left (claims_drained left v.log (Drained left ∷ v.claims)) (log_left left v.log) (grows_drained v.fixed.shape left v.log v.claims) (undrained-drained m.changes v.changes sees.changes) is sees, tt, may_count m v sees due fits)

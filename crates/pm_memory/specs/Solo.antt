@@ -103,7 +103,7 @@ pub record Sees (m : Solo) (v : View) : Type 0 where
   pub words : AreKnown v.fixed.shape v.claims m.words
   pub occupancy : AreSeen v.occupancy m.runs m.zones
   pub changes : AreUndrained m.changes v.changes
-  pub calls : IsCount m.stop m.calls v.calls
+  pub calls : IsCount m.stop m.calls (length v.calls)
   pub counter : IsCounter m.number v.entries v.number v.seen
   pub locks : AreLocked v.claims m.locks
   pub zone_locks : AreZonesLocked v.zones m.zone_locks

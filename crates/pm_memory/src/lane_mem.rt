@@ -35,7 +35,7 @@ pub trait LaneMem {
     /// How many counted calls the lane made, modulo 2^64; exactly so many where it has a stop
     /// number.
     fn calls(&self) -> u64
-        ensures { (v : View) → at self.now v → result ≡ v.calls % 2 ^ 64 };
+        ensures { (v : View) → at self.now v → result ≡ length v.calls % 2 ^ 64 };
 
     /// How many changes of the lane are undrained.
     fn undrained(&self) -> u64

@@ -78,7 +78,7 @@ impl LaneMem for SoloMem {
     }
 
     fn calls(&self) -> u64
-        ensures seen { (v : View) → Sees self.now v → result ≡ v.calls % 2 ^ 64 }
+        ensures seen { (v : View) → Sees self.now v → result ≡ length v.calls % 2 ^ 64 }
         ensures made { result ≡ self.now.calls }
     {
         self.calls

@@ -114,9 +114,9 @@ drain_after v w marked = at (eqb (length w.changes) 0) refl where
       let some : 0 < length w.changes = (let no = eqb-false (length w.changes) 0 b in omega (arith, no)) in (
         (emptied_drops w.changes marked.none some, tt, tt),
         ap (λ left. drained_to w left) marked.none
-            ∙ ap (λ (u : View). record u { claims = claims_drained [] u.log (Drained [] ∷ u.claims); changes = []; calls = w.calls + 1; log = log_left [] u.log }) marked.same
-            ∙ ap (λ log. record v { claims = claims_drained [] v.log (Drained [] ∷ v.claims); changes = []; calls = w.calls + 1; log = log }) (sym (log_moved v.changes v.log (omega (arith, some, many))))
-            ∙ ap (λ claims. record v { claims = claims; changes = []; calls = w.calls + 1; log = log_persisted v.changes v.log }) (sym (claims_moved v.changes v.log v.claims (omega (arith, some, many)))),
+            ∙ ap (λ (u : View). record u { claims = claims_drained [] u.log (Drained [] ∷ u.claims); changes = []; calls = Drain ∷ w.calls; log = log_left [] u.log }) marked.same
+            ∙ ap (λ log. record v { claims = claims_drained [] v.log (Drained [] ∷ v.claims); changes = []; calls = Drain ∷ w.calls; log = log }) (sym (log_moved v.changes v.log (omega (arith, some, many))))
+            ∙ ap (λ claims. record v { claims = claims; changes = []; calls = Drain ∷ w.calls; log = log_persisted v.changes v.log }) (sym (claims_moved v.changes v.log v.claims (omega (arith, some, many)))),
       )
 
 pub persists_all_lawful : (v : View) → Ready v (persists_all v) × IsPersisted v (after_all v (persists_all v))

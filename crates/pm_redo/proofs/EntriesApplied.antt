@@ -56,7 +56,7 @@ module _ (v : View) (found : ℕ → ℕ) where
   one_ = runs_one v
 
   -- the view with these claims and changes, and these entries to apply yet
-  abbrev now : List Claim → List Undrained → ℕ → List Entry → View
+  abbrev now : List Claim → List Undrained → List Step → List Entry → View
   now t changes calls todo = record v {
     claims = t;
     changes = changes;
@@ -122,7 +122,7 @@ module _ (v : View) (found : ℕ → ℕ) where
   module _ (low : v.fixed.lane < sh.lanes) (es todo : List Entry) (fit : length es < 64) where
     entry_steps : (w : ℕ) (place : Option Place) (op : Op) (x : ℕ)
         → IsOfPlace v (record { word = w; place = place; op = op; value = x })
-        → (t : List Claim) (changes : List Undrained) (calls : ℕ) → Made es t changes
+        → (t : List Claim) (changes : List Undrained) (calls : List Step) → Made es t changes
         → Takes es todo (record { word = w; place = place; op = op; value = x })
         (now t changes calls (record { word = w; place = place; op = op; value = x } ∷ todo))
     entry_steps w place Set x is t changes calls m = (
@@ -136,7 +136,7 @@ module _ (v : View) (found : ℕ → ℕ) where
             (λ root. (refl, refl, refl)) (λ c. (refl, refl, refl)) (λ c u. (refl, refl, refl));
       },
       by_part sh v.fixed.lane w (class v.claims) low is.place is.at
-          (λ q. HasApplied (es ++ e ∷ []) todo (changed_from (now t changes calls (e ∷ todo)) w
+          (λ q. HasApplied (es ++ e ∷ []) todo (changed_from (Store w x) (now t changes calls (e ∷ todo)) w
           all_bits (was_of (Applying (e ∷ todo)) q (pictured sh t w)) x
           (marked_by (Applying (e ∷ todo)) q x t) (log_stored sh (class t) (Applying (e ∷ todo))
           q x (record v.log { phase = Applying (e ∷ todo) }))))
@@ -262,7 +262,7 @@ module _ (v : View) (found : ℕ → ℕ) (can : CanApply v) where
   abbrev bumped_ : Log
   bumped_ = record v.log { phase = Applying []; bumped = true }
 
-  abbrev final : List Claim → List Undrained → ℕ → View
+  abbrev final : List Claim → List Undrained → List Step → View
   final t changes calls = record v { claims = t; changes = changes; calls = calls; log = bumped_ }
 
   abbrev AllApplied : View → Type 0
@@ -288,7 +288,7 @@ module _ (v : View) (found : ℕ → ℕ) (can : CanApply v) where
   Ends u = Allowed u (Store generation (v.log.generation + 1))
       × AllApplied (after u (Store generation (v.log.generation + 1)))
 
-  end_steps : (t : List Claim) (changes : List Undrained) (calls : ℕ) → Made v found front t changes
+  end_steps : (t : List Claim) (changes : List Undrained) (calls : List Step) → Made v found front t changes
       → Ends (now v found t changes calls (end_ ∷ []))
   end_steps t changes calls m = (
     record {
@@ -304,7 +304,7 @@ module _ (v : View) (found : ℕ → ℕ) (can : CanApply v) where
                 ∙ can.known),
           );
     },
-    subst (λ q. AllApplied (changed_from (now v found t changes calls (end_ ∷ [])) generation
+    subst (λ q. AllApplied (changed_from (Store generation (v.log.generation + 1)) (now v found t changes calls (end_ ∷ [])) generation
         all_bits (was_of (Applying (end_ ∷ [])) q (pictured shape t generation))
         (v.log.generation + 1) (marked_by (Applying (end_ ∷ [])) q (v.log.generation + 1) t)
         (log_stored shape (class t) (Applying (end_ ∷ [])) q (v.log.generation + 1)
@@ -379,7 +379,7 @@ module _ (v : View) (found : ℕ → ℕ) (can : CanApply v) where
     few = omega arith;
   }
 
-  ended : (t : List Claim) (changes : List Undrained) (calls : ℕ) (u : View)
+  ended : (t : List Claim) (changes : List Undrained) (calls : List Step) (u : View)
       → Made v found entries t changes → IsPersisted (final t changes calls) u → Ended u
   ended t [] calls u m is = let claims : u.claims ≡ t = ap (λ (y : View). y.claims) is in (
     is ∙ ap (λ c. final c [] u.calls) (sym claims),

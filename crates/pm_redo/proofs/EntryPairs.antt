@@ -80,7 +80,7 @@ module _ (v : View) (below : v.log.generation < 2 ^ 62)
 
   -- the view of an open call with these claims and changes, these entries, and these words of the
   -- next
-  abbrev pub now : List Claim → List Undrained → ℕ → List Entry → List ℕ → View
+  abbrev pub now : List Claim → List Undrained → List Step → List Entry → List ℕ → View
   now t changes calls es pair = record v {
     claims = t;
     changes = changes;
@@ -201,7 +201,7 @@ module _ (v : View) (below : v.log.generation < 2 ^ 62)
       )
 
   persisted : (es : List Entry) (pair : List ℕ) (t : List Claim) (changes : List Undrained)
-      (calls : ℕ) (u : View) → Entered t → IsPersisted (now t changes calls es pair) u
+      (calls : List Step) (u : View) → Entered t → IsPersisted (now t changes calls es pair) u
       → Entering es pair u × (u.changes ≡ [])
   persisted es pair t [] calls u m is = by_claims es pair t u is m
   persisted es pair t (c ∷ changes) calls u m is = by_claims es pair (Drained [] ∷ t) u is
@@ -241,7 +241,7 @@ module _ (v : View) (below : v.log.generation < 2 ^ 62)
     abbrev StepsTo : List Entry → List ℕ → ℕ → ℕ → View → Type 0
     StepsTo es' pair' w x u = Allowed u (Store w x) × Entering es' pair' (after u (Store w x))
 
-    first_word : (t : List Claim) (changes : List Undrained) (calls : ℕ) → Entered t
+    first_word : (t : List Claim) (changes : List Undrained) (calls : List Step) → Entered t
         → HasRoom changes → StepsTo es (head ∷ []) (word + 0) head (now t changes calls es [])
     first_word t changes calls m room = (
       record {
@@ -263,7 +263,7 @@ module _ (v : View) (below : v.log.generation < 2 ^ 62)
               below = below;
             });
       },
-      subst (λ q. Entering es (head ∷ []) (changed_from (now t changes calls es []) (word + 0)
+      subst (λ q. Entering es (head ∷ []) (changed_from (Store (word + 0) head) (now t changes calls es []) (word + 0)
           all_bits (was_of Open q (pictured sh t (word + 0))) head (marked_by Open q head t)
           (log_stored sh (class t) Open q head (record v.log {
             phase = Open;
@@ -277,7 +277,7 @@ module _ (v : View) (below : v.log.generation < 2 ^ 62)
           ),
     )
 
-    second_word : (t : List Claim) (changes : List Undrained) (calls : ℕ) → Entered t
+    second_word : (t : List Claim) (changes : List Undrained) (calls : List Step) → Entered t
         → HasRoom changes → StepsTo (es ++ logged_entry v e ∷ []) [] (word + 1) e.value
         (now t changes calls es (head ∷ []))
     second_word t changes calls m room = (
@@ -301,7 +301,7 @@ module _ (v : View) (below : v.log.generation < 2 ^ 62)
             });
       },
       subst (λ q. Entering (es ++ logged_entry v e ∷ []) []
-          (changed_from (now t changes calls es (head ∷ [])) (word + 1) all_bits
+          (changed_from (Store (word + 1) e.value) (now t changes calls es (head ∷ [])) (word + 1) all_bits
           (was_of Open q (pictured sh t (word + 1))) e.value (marked_by Open q e.value t)
           (log_stored sh (class t) Open q e.value (record v.log {
             phase = Open;
@@ -314,7 +314,7 @@ module _ (v : View) (below : v.log.generation < 2 ^ 62)
               mask = all_bits;
               old = None;
               flushed = false;
-            } ∷ changes) (calls + 1) (es ++ d ∷ []) [])
+            } ∷ changes) (Store (word + 1) e.value ∷ calls) (es ++ d ∷ []) [])
                 (entered_back sh (class t) e.place e.op e.value can.aligned
                 ∙ ap (λ (cl : ℕ → ℕ). record {
                   word = e.place / 8;

@@ -150,7 +150,7 @@ module _ (v : View) (given : List Redo) (can : CanLog v given) where
   abbrev Facts : List Claim → Type 0
   Facts = Entered v can.below can.lane can.unmaking
 
-  abbrev logged : List Claim → ℕ → View
+  abbrev logged : List Claim → List Step → View
   logged t calls = record v {
     claims = t;
     changes = [];
@@ -158,7 +158,7 @@ module _ (v : View) (given : List Redo) (can : CanLog v given) where
     log = record v.log { entries = entries };
   }
 
-  of_place : (t : List Claim) (calls : ℕ) → Facts t → (e : Redo) → CanEnter v e
+  of_place : (t : List Claim) (calls : List Step) → Facts t → (e : Redo) → CanEnter v e
       → IsOfPlace (logged t calls) (logged_entry v e)
   of_place t calls m e is = record {
     place = is.place;
@@ -168,7 +168,7 @@ module _ (v : View) (given : List Redo) (can : CanLog v given) where
     small = is.small;
   }
 
-  of_places : (t : List Claim) (calls : ℕ) → Facts t → (es : List Redo)
+  of_places : (t : List Claim) (calls : List Step) → Facts t → (es : List Redo)
       → AllByRecursion (CanEnter v) es → AllByRecursion (IsOfPlace (logged t calls))
       (map (logged_entry v) es)
   of_places t calls m [] all = tt
@@ -184,7 +184,7 @@ module _ (v : View) (given : List Redo) (can : CanLog v given) where
   )
 
   -- the lane has locked the lines that are to guard the root word
-  keeps_root : (t : List Claim) (calls : ℕ) → Facts t → (e : Redo) → CanEnter v e
+  keeps_root : (t : List Claim) (calls : List Step) → Facts t → (e : Redo) → CanEnter v e
       → KeepsRoot (logged t calls) (logged_entry v e)
   keeps_root t calls m e is root =
       let enters : EntersAt v RootWord e.op e.value = subst (λ p. EntersAt v p e.op e.value)
@@ -195,12 +195,12 @@ module _ (v : View) (given : List Redo) (can : CanLog v given) where
             (sym m.locks) enters.2,
       )
 
-  all_root : (t : List Claim) (calls : ℕ) → Facts t → (es : List Redo) → AllByRecursion (CanEnter v)
+  all_root : (t : List Claim) (calls : List Step) → Facts t → (es : List Redo) → AllByRecursion (CanEnter v)
       es → AllByRecursion (KeepsRoot (logged t calls)) (map (logged_entry v) es ++ end_ ∷ [])
   all_root t calls m [] all = ((λ root. absurd (none-some RootWord root)), tt)
   all_root t calls m (e ∷ es) all = (keeps_root t calls m e all.0, all_root t calls m es all.1)
 
-  same_log : (t : List Claim) (calls : ℕ) → now v can.below can.lane can.unmaking t [] calls entries
+  same_log : (t : List Claim) (calls : List Step) → now v can.below can.lane can.unmaking t [] calls entries
       [] ≡ logged t calls
   same_log t calls = ap (λ (l : Log). record v { claims = t; changes = []; calls = calls; log = l })
       (ap (λ ph. record v.log { phase = ph; entries = entries; pair = [] }) (sym can.is_open)

@@ -44,11 +44,11 @@ module _ (v : View) (found : ℕ → ℕ) (can : CanSeal v) where
   abbrev seal : ℕ
   seal = word_of_seal shape v.fixed.lane
 
-  abbrev sealed : ℕ → View
+  abbrev sealed : List Step → View
   sealed calls = record (decided v) { calls = calls }
 
   -- ---- a sealed log may be applied
-  still_placed : (calls : ℕ) (es : List Entry) → AllByRecursion (IsOfPlace v) es
+  still_placed : (calls : List Step) (es : List Entry) → AllByRecursion (IsOfPlace v) es
       → AllByRecursion (IsOfPlace (sealed calls)) es
   still_placed calls [] all = tt
   still_placed calls (e ∷ es) all = (
@@ -62,7 +62,7 @@ module _ (v : View) (found : ℕ → ℕ) (can : CanSeal v) where
     still_placed calls es all.1,
   )
 
-  may_apply : (calls : ℕ)
+  may_apply : (calls : List Step)
       → value_in (sealed calls) (word_of_generation shape v.fixed.lane) ≡ value_in v
       (word_of_generation shape v.fixed.lane) → CanApply (sealed calls)
   may_apply calls seen = record {
@@ -104,9 +104,9 @@ module _ (v : View) (found : ℕ → ℕ) (can : CanSeal v) where
 
   -- ---- one that is applied may be retired
   abbrev IsHalf : View → Type 0
-  IsHalf u = (calls : ℕ) × IsApplied (sealed calls) found u
+  IsHalf u = (calls : List Step) × IsApplied (sealed calls) found u
 
-  pub can_clear : (calls : ℕ) (u : View) → value_in (sealed calls) seal ≡ Some
+  pub can_clear : (calls : List Step) (u : View) → value_in (sealed calls) seal ≡ Some
       (length v.log.entries) → IsApplied (sealed calls) found u → CanClear u
   can_clear calls u known is =
       let quiet : (c : ℕ) → making shape u.claims c ≡ false =
@@ -123,7 +123,7 @@ module _ (v : View) (found : ℕ → ℕ) (can : CanSeal v) where
       })
 
   -- ---- so it may be performed
-  joined : (calls : ℕ) (u w : View) → value_in (sealed calls) seal ≡ Some (length v.log.entries)
+  joined : (calls : List Step) (u w : View) → value_in (sealed calls) seal ≡ Some (length v.log.entries)
       → ((y : ℕ) → y ≢ seal → value_in (sealed calls) y ≡ value_in v y) → IsApplied (sealed calls)
       found u → IsCleared u w → IsPerformed v found w
   joined calls u w known seen a c =

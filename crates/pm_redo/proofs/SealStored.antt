@@ -41,7 +41,7 @@ module _ (v : View) (w x : ℕ) (was : Option ℕ) (mid last : Log) (ended : Lis
     flushed = flushed;
   }
 
-  abbrev stored_as : Bool → ℕ → View
+  abbrev stored_as : Bool → List Step → View
   stored_as flushed n = record v {
     claims = Knows w x ∷ v.claims;
     changes = change flushed ∷ [];
@@ -49,7 +49,7 @@ module _ (v : View) (w x : ℕ) (was : Option ℕ) (mid last : Log) (ended : Lis
     log = mid;
   }
 
-  abbrev ended_as : ℕ → View
+  abbrev ended_as : List Step → View
   ended_as n = record v { claims = ended; changes = []; calls = n; log = last }
 
   abbrev Before : View → Type 0
@@ -61,9 +61,9 @@ module _ (v : View) (w x : ℕ) (was : Option ℕ) (mid last : Log) (ended : Lis
   abbrev EndedSo : View → Type 0
   EndedSo u = u ≡ ended_as u.calls
 
-  module _ (none : v.changes ≡ []) (may : (n : ℕ) → MayStore (record v { calls = n }) w x)
-      (stores_so : (n : ℕ) → after (record v { calls = n }) (Store w x) ≡ stored_as false (n + 1))
-      (drains_so : (n : ℕ) → drained_to (stored_as true n) [] ≡ ended_as (n + 1)) where
+  module _ (none : v.changes ≡ []) (may : (n : List Step) → MayStore (record v { calls = n }) w x)
+      (stores_so : (n : List Step) → after (record v { calls = n }) (Store w x) ≡ stored_as false (Store w x ∷ n))
+      (drains_so : (n : List Step) → drained_to (stored_as true n) [] ≡ ended_as (Drain ∷ n)) where
     stays : (u t : View) → Before u → IsPersisted u t → Before t
     stays u t same is = is
         ∙ (ap (λ changes. record u {
@@ -107,7 +107,7 @@ module _ (v : View) (w x : ℕ) (was : Option ℕ) (mid last : Log) (ended : Lis
               ∙ ap (λ c. record v {
                 claims = Knows w x ∷ v.claims;
                 changes = c ∷ [];
-                calls = u.calls + 1;
+                calls = Flush (w / 8) ∷ u.calls;
                 log = mid;
               }) marked,
         )))
@@ -153,7 +153,7 @@ module _ (v : View) (can : CanSeal v) where
         (placed_ can.log_.front can.log_.each);
   }
 
-  seal_may : (n : ℕ) → MayStore (record v { calls = n }) seal count
+  seal_may : (n : List Step) → MayStore (record v { calls = n }) seal count
   seal_may n = record {
     inside = let low = can.log_.lane in omega (arith, low);
     room = subst (λ (changes : List Undrained). length changes < 512) (sym can.drained)
@@ -171,20 +171,20 @@ module _ (v : View) (can : CanSeal v) where
         }));
   }
 
-  seal_stores : (n : ℕ) → after (record v { calls = n }) (Store seal count) ≡ stored_as v seal count
-      (value_in v seal) sealing v.log decided false (n + 1)
+  seal_stores : (n : List Step) → after (record v { calls = n }) (Store seal count) ≡ stored_as v seal count
+      (value_in v seal) sealing v.log decided false (Store seal count ∷ n)
   seal_stores n =
-      ap (λ ph. changed_from (record v { calls = n }) seal all_bits
+      ap (λ ph. changed_from (Store seal count) (record v { calls = n }) seal all_bits
       (was_of ph seal_part (value_in v seal)) count (marked_by ph seal_part count v.claims)
       (log_stored v.fixed.shape (class v.claims) ph seal_part count v.log)) can.drawn
-      ∙ (ap (λ q. changed_from (record v { calls = n }) seal all_bits
+      ∙ (ap (λ q. changed_from (Store seal count) (record v { calls = n }) seal all_bits
       (was_of (Drawn can.number) q (value_in v seal)) count
       (marked_by (Drawn can.number) q count v.claims) (log_stored v.fixed.shape (class v.claims)
       (Drawn can.number) q count v.log)) (part_seal v.fixed.shape v.fixed.lane seal refl)
       ∙ ap (λ changes. record v {
         claims = Knows seal count ∷ v.claims;
         changes = change v seal count (value_in v seal) sealing v.log decided false ∷ changes;
-        calls = n + 1;
+        calls = Store seal count ∷ n;
         log = sealing;
       }) can.drained)
 
@@ -220,7 +220,7 @@ module _ (v : View) (can : CanClear v) where
   abbrev cleared : List Claim
   cleared = Drained [] ∷ Knows seal_at 0 ∷ v.claims
 
-  clear_may : (n : ℕ) → MayStore (record v { calls = n }) seal_at 0
+  clear_may : (n : List Step) → MayStore (record v { calls = n }) seal_at 0
   clear_may n = record {
     inside = let low = can.lane in omega (arith, low);
     room = subst (λ (changes : List Undrained). length changes < 512) (sym can.drained)
@@ -233,20 +233,20 @@ module _ (v : View) (can : CanClear v) where
         (record { zero_ = refl; known = can.known; all = refl; drained = can.drained }));
   }
 
-  clear_stores : (n : ℕ) → after (record v { calls = n }) (Store seal_at 0) ≡ stored_as v seal_at 0
-      (value_in v seal_at) clearing v.log cleared false (n + 1)
+  clear_stores : (n : List Step) → after (record v { calls = n }) (Store seal_at 0) ≡ stored_as v seal_at 0
+      (value_in v seal_at) clearing v.log cleared false (Store seal_at 0 ∷ n)
   clear_stores n =
-      ap (λ ph. changed_from (record v { calls = n }) seal_at all_bits
+      ap (λ ph. changed_from (Store seal_at 0) (record v { calls = n }) seal_at all_bits
       (was_of ph cleared_part (value_in v seal_at)) 0 (marked_by ph cleared_part 0 v.claims)
       (log_stored v.fixed.shape (class v.claims) ph cleared_part 0 v.log)) can.applied
-      ∙ (ap (λ q. changed_from (record v { calls = n }) seal_at all_bits
+      ∙ (ap (λ q. changed_from (Store seal_at 0) (record v { calls = n }) seal_at all_bits
       (was_of (Applying []) q (value_in v seal_at)) 0 (marked_by (Applying []) q 0 v.claims)
       (log_stored v.fixed.shape (class v.claims) (Applying []) q 0 v.log))
       (part_seal v.fixed.shape v.fixed.lane seal_at refl)
       ∙ ap (λ changes. record v {
         claims = Knows seal_at 0 ∷ v.claims;
         changes = change v seal_at 0 (value_in v seal_at) clearing v.log cleared false ∷ changes;
-        calls = n + 1;
+        calls = Store seal_at 0 ∷ n;
         log = clearing;
       }) can.drained)
 

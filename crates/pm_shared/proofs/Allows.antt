@@ -8,6 +8,7 @@ use Rattle.pm_view.specs.View.{View, Constants}
 use Rattle.pm_view.specs.Views.{after}
 use Rattle.pm_view.specs.Founds.{Found}
 use Rattle.pm_view.specs.Steps.{Step}
+use Rattle.pm_world.specs.Causes.{Causes}
 use Rattle.pm_world.specs.Course.{past_after}
 use Rattle.pm_world.specs.Laws.{Turn}
 use Rattle.pm_world.specs.Lawful.{IsLawful}
@@ -20,12 +21,12 @@ use Rattle.pm_shared.specs.Placing.{table_size, memory_of}
 use Rattle.pm_shared.specs.TableRun.{moment}
 use Rattle.pm_shared.specs.Rule.{Knowledge, Pool, Lane, Spent, Bound, BoundFits, Owned, SeatFits, Sound, Made}
 use Rattle.pm_shared.specs.declared.rule.Beginning.{Beginning}
-use Rattle.pm_shared.specs.Openings.{idle_view, opening_of}
+use Rattle.pm_shared.specs.Openings.{fixed_of, generation_of, idle_view, opening_of}
 use Rattle.pm_shared.specs.TableRule.{Ruled}
 use Rattle.pm_shared.proofs.Bounds.{bound_kept}
 use Rattle.pm_shared.proofs.Constant.{fixed-after}
 use Rattle.pm_shared.proofs.Sound.{sound_kept}
-use Rattle.pm_shared.proofs.TableRuns.{run_fits, run_goes_on}
+use Rattle.pm_shared.proofs.TableRuns.{run_bears, run_fits, run_goes_on}
 
 -- the views with lane k's changed
 abbrev pub views_with : Views → ℕ → View → Views
@@ -41,6 +42,7 @@ pub record Before (o : Opening) (words : List ℕ) (v : View) (b : Option Bound)
   pub size : length words ≡ table_size o.shape
   pub world : World o (memory_of o.shape words) views past
   pub sizes : ObjectsFit o past
+  pub causes : Causes o (memory_of o.shape words) views past
   pub sound : Sound o (memory_of o.shape words) views
   pub inside : v.fixed.lane < o.lanes
   pub view : views v.fixed.lane ≡ v
@@ -71,7 +73,7 @@ allows key id v b i f step lawful moves st r _ here fits =
     let s : Step = step x in let v' : View = after v s in let views' : Views = views_with r.views k v' in let same : v'.fixed ≡ v.fixed = fixed-after v s in let lane' : v'.fixed.lane ≡ k = ap (λ (c : Constants). c.lane) same in
     let old : Memory = memory_of o.shape words in let new : Memory = memory_of o.shape words' in
     let law : IsLawful (r.views k) s = subst (λ w. IsLawful w s) (sym own.view) (lawful x) in
-    let move : Moves k s old new = moves words (record { views = r.views; past = r.past; size = r.size; world = r.world; sizes = run_fits o first (moment old r.views r.past) r.run; sound = r.sound; inside = own.inside; view = own.view; bound = fit.1 }) fits in
+    let move : Moves k s old new = moves words (record { views = r.views; past = r.past; size = r.size; world = r.world; sizes = run_fits o first (moment old r.views r.past) r.run; causes = run_bears o (fixed_of key) (generation_of key) (moment old r.views r.past) r.run; sound = r.sound; inside = own.inside; view = own.view; bound = fit.1 }) fits in
     let turn : Turn r.views views' k (after (r.views k) s) = subst (λ w. Turn r.views views' k (after w s)) (sym own.view) (views_turn r.views k v') in
     let got = every_step s o old new r.views views' r.past k r.world own.inside law move turn in
     let mine : SeatFits o new views' r.owner id (Lane v' None) = (

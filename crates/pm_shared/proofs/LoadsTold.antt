@@ -38,6 +38,7 @@ module _ (m : SharedMem) (lane : ℕ) (me : Me ℕ Knowledge) (id i w : ℕ) (as
           size = B.size;
         });
         sizes = B.sizes;
+        causes = B.causes;
       })
 
   pub loads_asked : TableAllows m.table.shared.key id me i (λ n. n) (tells (λ v st r. Load st.word r) (step 0 i 0 0 none) me) → TableAllows m.table.shared.key id me i (λ n. n) (loads (step 0 i 0 0 none) me)

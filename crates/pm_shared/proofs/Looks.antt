@@ -21,7 +21,7 @@ use Rattle.pm_world.specs.Moves.{Moves}
 use Rattle.pm_world.specs.World.{Opening}
 use Rattle.pm_shared.specs.declared.mem.SharedMem.{SharedMem}
 use Rattle.pm_shared.specs.declared.rule.Beginning.{Beginning}
-use Rattle.pm_shared.specs.Openings.{idle_view, opening_of}
+use Rattle.pm_shared.specs.Openings.{fixed_of, generation_of, idle_view, opening_of}
 use Rattle.pm_shared.specs.Placing.{start_of, table_size, place, memory_of}
 use Rattle.pm_shared.specs.Plays.{gives_or_looks, GivenOrSeen, looks_at_zone, Looked, occupies_zone}
 use Rattle.pm_shared.specs.Rule.{Knowledge, Pool, Lane, Spent, Bound, BoundHolds, Made, lane_of, SeatAsks, SeatMade, SeatFits, Owned}
@@ -30,7 +30,7 @@ use Rattle.pm_shared.specs.TableRun.{HasRun, moment}
 use Rattle.pm_shared.proofs.Allows.{Before, allows}
 use Rattle.pm_shared.proofs.Asked.{asked, one_view, number_is, below_place, few_lanes}
 use Rattle.pm_shared.proofs.LockSaid.{writer_left, high_writer}
-use Rattle.pm_shared.proofs.TableRuns.{run_fits}
+use Rattle.pm_shared.proofs.TableRuns.{run_bears, run_fits}
 use Rattle.pm_shared.proofs.Moving.{At, found_at, mode_known, write_gives, read_gives, write_frees, occupy_won, occupy_lost, clear_still}
 
 pub set_same : (l : List ℕ) (i : ℕ) → set l i (slice_index l i) ≡ l
@@ -44,7 +44,7 @@ words_same l i x e = ap (set l i) e ∙ set_same l i
 
 -- a seat's lane, in a state that meets the rule
 pub before : (key : Beginning) (s : State ℕ Knowledge) (r : Ruled key s) (id : ℕ) (v : View) (b : Option Bound) → get_elem? s.views id ≡ some (Lane v b) → Before (opening_of key) s.words v b
-before key s r id v b here = let fit = r.seats id (Lane v b) here in record { views = r.views; past = r.past; size = r.size; world = r.world; sizes = run_fits (opening_of key) (idle_view key) (moment (memory_of key.shape s.words) r.views r.past) r.run; sound = r.sound; inside = fit.0.inside; view = fit.0.view; bound = fit.1 }
+before key s r id v b here = let fit = r.seats id (Lane v b) here in record { views = r.views; past = r.past; size = r.size; world = r.world; sizes = run_fits (opening_of key) (idle_view key) (moment (memory_of key.shape s.words) r.views r.past) r.run; causes = run_bears (opening_of key) (fixed_of key) (generation_of key) (moment (memory_of key.shape s.words) r.views r.past) r.run; sound = r.sound; inside = fit.0.inside; view = fit.0.view; bound = fit.1 }
 
 -- ---- HOW THE LANE HOLDS A LINE
 module _ (m : SharedMem) (lane : ℕ) (me : Me ℕ Knowledge) (line i : ℕ) (ask : SeatAsks m.shape lane me (λ r. Give line)) (few : lane < m.shape.lanes) (inside : line < words_of m.shape / 8) (is : i ≡ place m.shape (LockWord line)) where

@@ -82,10 +82,10 @@ masked None found small is = tt
 masked (Some x) found small is = whole found small ∙ ap (λ y. bit_and y all_bits) is
 
 module _ (t : Tallied) (v : View) (may : MayCount v) (is : IsTally t v) where
-  count_next : IsCount t.stop ((t.calls + 1) % 2 ^ 64) (v.calls + 1)
+  count_next : IsCount t.stop ((t.calls + 1) % 2 ^ 64) (suc (length v.calls))
   count_next = record {
     is = (let same = is.calls.is in omega (arith, same));
-    within = λ stop at. let less : v.calls < stop = may stop (is.stop ∙ at) in omega arith;
+    within = λ stop at. let less : length v.calls < stop = may stop (is.stop ∙ at) in omega arith;
   }
 
   pub stored_tally : (w x found : ℕ) → x < 2 ^ 64 → found < 2 ^ 64 → FindsWas v w found → IsTally (with_change (store_change w found x) t) (after v (Store w x))

@@ -28,6 +28,6 @@ with_change c t = tallied (t.changes ++ c ∷ []) t
 -- THE TALLY IS THE VIEW'S, and its changes have masks of words and no bit outside of them
 pub record IsTally (t : Tallied) (v : View) : Type 0 where
   pub stop : v.fixed.stop ≡ t.stop
-  pub calls : IsCount t.stop t.calls v.calls
+  pub calls : IsCount t.stop t.calls (length v.calls)
   pub changes : AreUndrained t.changes v.changes
   pub formed : All IsFormed t.changes

@@ -36,7 +36,7 @@ log_with v records slot = record v.log {
   pair = [];
 }
 
-abbrev pub view_with : View → List Claim → List Undrained → ℕ → List Recorded → List ℕ → View
+abbrev pub view_with : View → List Claim → List Undrained → List Step → List Recorded → List ℕ → View
 view_with v claims changes calls records slot = record v {
   claims = claims;
   changes = changes;
@@ -131,7 +131,7 @@ module _ {v : View} {stay : ℕ → Type 0} {records : List Recorded} {slot : Li
       v.fixed.shape (runs_one v) u.claims w)
       → ((w : ℕ) → stay w → pictured v.fixed.shape (claim_of n ∷ u.claims) w ≡ pictured
       v.fixed.shape u.claims w)
-      → (changes : List Undrained) (calls : ℕ) (records' : List Recorded) (slot' : List ℕ)
+      → (changes : List Undrained) (calls : List Step) (records' : List Recorded) (slot' : List ℕ)
       → Logging v stay records' slot' (view_with v (claim_of n ∷ u.claims) changes calls
       records' slot')
   noted_more n is knows_ pictures changes calls records' slot' = record {
@@ -146,7 +146,7 @@ module _ {v : View} {stay : ℕ → Type 0} {records : List Recorded} {slot : Li
   -- where the note names none of these words
   pub noted_others : (n : Note) → IsNote v.fixed.shape u.claims n
       → ((w : ℕ) → stay w → IsOther n w)
-      → (changes : List Undrained) (calls : ℕ) (records' : List Recorded) (slot' : List ℕ)
+      → (changes : List Undrained) (calls : List Step) (records' : List Recorded) (slot' : List ℕ)
       → Logging v stay records' slot' (view_with v (claim_of n ∷ u.claims) changes calls
       records' slot')
   noted_others n is other = noted_more n is
@@ -170,7 +170,7 @@ module _ {v : View} {stay : ℕ → Type 0} {records : List Recorded} {slot : Li
     no_making = subst (λ t. (c : ℕ) → making v.fixed.shape t c ≡ false) (sym at.are)
         (making_same v.fixed.shape at.notes v.claims at.each working.unmaking)
 
-    pub drained_more : (left : List Undrained) (calls : ℕ) → Logging v stay records slot
+    pub drained_more : (left : List Undrained) (calls : List Step) → Logging v stay records slot
         (view_with v (Drained left ∷ u.claims) left calls records slot)
     drained_more left calls = noted_others (DrainedTo left) no_making (λ w s. tt) left calls
         records slot
@@ -263,7 +263,7 @@ module _ {v : View} {records : List Recorded} {slot : List ℕ} {u : View}
     (at : Logging v (IsNoSlot v.fixed.shape v.fixed.lane) records slot u) where
   abbrev stored_view : ℕ → ℕ → List Recorded → List ℕ → View
   stored_view w x records' slot' = view_with v (Knows w x ∷ u.claims) (slot_change w ∷ u.changes)
-      (u.calls + 1) records' slot'
+      (Store w x ∷ u.calls) records' slot'
 
   pub slot_stored : (w x : ℕ) → part_of v.fixed.shape v.fixed.lane w ≡ SlotPart
       → ((y : ℕ) → IsNoSlot v.fixed.shape v.fixed.lane y → w ≢ y)
@@ -273,13 +273,13 @@ module _ {v : View} {records : List Recorded} {slot : List ℕ} {u : View}
       (IsNoSlot v.fixed.shape v.fixed.lane) records' slot' (stored_view w x records' slot')
   slot_stored w x part other records' slot' grows = (
     ap (λ (y : View). after y (Store w x)) at.same
-        ∙ (ap (λ q. changed_from here_ w all_bits (was_of Open q (value_in here_ w)) x
+        ∙ (ap (λ q. changed_from (Store w x) here_ w all_bits (was_of Open q (value_in here_ w)) x
         (marked_by Open q x u.claims) (log_stored v.fixed.shape (class u.claims) Open q x
         (log_with v records slot))) part
         ∙ ap (λ l. record (stored_view w x records slot) { log = l })
         (ap (λ cl. with_slot v.fixed.shape cl (slot ++ x ∷ []) (log_with v records slot))
         (class_so at) ∙ grows)),
-    noted_others at (Valued w x) tt other (slot_change w ∷ u.changes) (u.calls + 1) records'
+    noted_others at (Valued w x) tt other (slot_change w ∷ u.changes) (Store w x ∷ u.calls) records'
         slot',
   )
     where

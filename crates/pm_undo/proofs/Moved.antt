@@ -12,7 +12,7 @@ use Rattle.pm_world.specs.Lawful.{CanRecord, CanRecordAt, is_guarded}
 use Rattle.pm_world.specs.Sights.{is_recorded}
 use Rattle.pm_plan.specs.Notes.{IsBeyond}
 
-module _ (u : View) (t : List Claim) (changes : List Undrained) (calls : ℕ) (log : Log) (classes : class t ≡ class u.claims) (firsts : first u.fixed.shape t ≡ first u.fixed.shape u.claims)
+module _ (u : View) (t : List Claim) (changes : List Undrained) (calls : List Step) (log : Log) (classes : class t ≡ class u.claims) (firsts : first u.fixed.shape t ≡ first u.fixed.shape u.claims)
     (heres : (B : Block) → here u.fixed.shape t B ≡ here u.fixed.shape u.claims B) (knowns : (w : ℕ) → IsBeyond u.fixed.shape w → known u.fixed.shape (runs_one u) t w ≡ known u.fixed.shape (runs_one u) u.claims w) where
   abbrev sh : Shape
   sh = u.fixed.shape

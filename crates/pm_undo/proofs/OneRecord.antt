@@ -181,7 +181,7 @@ module _ (v : View) (working : IsWorking v) (records : List Recorded) (r : Recor
             each = p.0.at.each;
             same = ap (λ (y : View). record y {
               changes = flushed line u.changes;
-              calls = u.calls + 1;
+              calls = Flush line ∷ u.calls;
             }) p.0.at.same;
             known_ = p.0.at.known_;
             pictured_ = p.0.at.pictured_;

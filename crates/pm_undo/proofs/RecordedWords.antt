@@ -112,16 +112,16 @@ module _ {v : View} {stay : ℕ → Type 0} {u : View} (working : IsWorking v)
   }
 
   abbrev pub write_view : View
-  write_view = view_with v (Knows w x ∷ u.claims) (write_change ∷ u.changes) (u.calls + 1)
+  write_view = view_with v (Knows w x ∷ u.claims) (write_change ∷ u.changes) (Store w x ∷ u.calls)
       v.log.records []
 
   pub write_is : after u (Store (word_of v.fixed.shape q) x) ≡ write_view
   write_is = ap (λ (y : View). after y (Store w x)) at.same
-      ∙ ap (λ y. changed_from (view_with v u.claims u.changes u.calls v.log.records []) w all_bits
+      ∙ ap (λ y. changed_from (Store w x) (view_with v u.claims u.changes u.calls v.log.records []) w all_bits
       (was_of Open y (pictured sh u.claims w)) x (marked_by Open y x u.claims)
       (log_stored sh (class u.claims) Open y x (log_with v v.log.records []))) of_chunk.part
 
   pub write_more : ((y : ℕ) → stay y → word_of v.fixed.shape q ≢ y) → Logging v stay v.log.records
       [] write_view
   write_more other = noted_others at (Valued w x) tt other
-      (write_change ∷ u.changes) (u.calls + 1) v.log.records []
+      (write_change ∷ u.changes) (Store w x ∷ u.calls) v.log.records []

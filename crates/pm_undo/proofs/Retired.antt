@@ -60,8 +60,8 @@ module _ (v : View) (can : CanRetire v) where
       none = ap (λ (y : View). y.changes) same ∙ can.drained
 
   -- the store, by how far the call is
-  store_is : (ph : Phase) → CanEndAt v ph → (n : ℕ) → changed_from (record v { calls = n }) w all_bits (was_of ph GenerationPart (value_in v w)) x (marked_by ph GenerationPart x v.claims) (log_stored sh (class v.claims) ph GenerationPart x v.log)
-      ≡ record v { claims = Knows w x ∷ v.claims; changes = change false ∷ v.changes; calls = n + 1; log = record v.log { phase = phase_stored ph; bumped = true } }
+  store_is : (ph : Phase) → CanEndAt v ph → (n : List Step) → changed_from (Store w x) (record v { calls = n }) w all_bits (was_of ph GenerationPart (value_in v w)) x (marked_by ph GenerationPart x v.claims) (log_stored sh (class v.claims) ph GenerationPart x v.log)
+      ≡ record v { claims = Knows w x ∷ v.claims; changes = change false ∷ v.changes; calls = Store w x ∷ n; log = record v.log { phase = phase_stored ph; bumped = true } }
   store_is Open ends n = refl
   store_is (Drawn m) ends n = refl
   store_is Idle ends n = absurd ends
@@ -71,7 +71,7 @@ module _ (v : View) (can : CanRetire v) where
   store_is (Retiring m) ends n = absurd ends
   store_is Voiding ends n = absurd ends
 
-  fits : (ph : Phase) → v.log.phase ≡ ph → CanEndAt v ph → (n : ℕ) → StoreFits (record v { calls = n }) w x ph GenerationPart
+  fits : (ph : Phase) → v.log.phase ≡ ph → CanEndAt v ph → (n : List Step) → StoreFits (record v { calls = n }) w x ph GenerationPart
   fits Open e ends n = record { ends = record { next = refl; known = can.known; below = can.below; drained = can.drained; unentered = can.unentered }; restored = ends; whole = can.whole }
   fits (Drawn m) e ends n = record { next = refl; known = can.known; below = can.below; drained = can.drained; unentered = can.unentered }
   fits Idle e ends n = absurd ends
@@ -81,7 +81,7 @@ module _ (v : View) (can : CanRetire v) where
   fits (Retiring m) e ends n = absurd ends
   fits Voiding e ends n = absurd ends
 
-  may : (n : ℕ) → MayStore (record v { calls = n }) w x
+  may : (n : List Step) → MayStore (record v { calls = n }) w x
   may n = record {
     inside = let low = can.lane in omega (arith, low);
     room = subst (λ (changes : List Undrained). length changes < 512) (sym can.drained) (omega arith);
@@ -90,15 +90,15 @@ module _ (v : View) (can : CanRetire v) where
   }
 
   stored : (u : View) → Before u → StoredSo false (after u (Store w x))
-  stored u same = ap (λ (y : View). after y (Store w x)) same ∙ (ap (λ q. changed_from (record v { calls = u.calls }) w all_bits (was_of v.log.phase q (value_in v w)) x (marked_by v.log.phase q x v.claims) (log_stored sh (class v.claims) v.log.phase q x v.log)) (part_generation sh v.fixed.lane)
-      ∙ (store_is v.log.phase can.ends u.calls ∙ (ap (λ changes. record v { claims = Knows w x ∷ v.claims; changes = change false ∷ changes; calls = u.calls + 1; log = record v.log { phase = phase_stored v.log.phase; bumped = true } }) can.drained
+  stored u same = ap (λ (y : View). after y (Store w x)) same ∙ (ap (λ q. changed_from (Store w x) (record v { calls = u.calls }) w all_bits (was_of v.log.phase q (value_in v w)) x (marked_by v.log.phase q x v.claims) (log_stored sh (class v.claims) v.log.phase q x v.log)) (part_generation sh v.fixed.lane)
+      ∙ (store_is v.log.phase can.ends u.calls ∙ (ap (λ changes. record v { claims = Knows w x ∷ v.claims; changes = change false ∷ changes; calls = Store w x ∷ u.calls; log = record v.log { phase = phase_stored v.log.phase; bumped = true } }) can.drained
       ∙ ap (λ n. record v { claims = Knows w x ∷ v.claims; changes = change false ∷ []; calls = n; log = record v.log { phase = phase_stored v.log.phase; bumped = true } }) count)))
     where
-      count : u.calls + 1 ≡ (after u (Store w x)).calls
+      count : Store w x ∷ u.calls ≡ (after u (Store w x)).calls
       count = refl
 
-  drains_to : (ph : Phase) → CanEndAt v ph → (n : ℕ) → drained_to (record v { claims = Knows w x ∷ v.claims; changes = change true ∷ []; calls = n; log = record v.log { phase = phase_stored ph; bumped = true } }) []
-      ≡ record v { claims = Drained [] ∷ Knows w x ∷ v.claims; changes = []; calls = n + 1; log = next_log (phase_ended ph) v.log }
+  drains_to : (ph : Phase) → CanEndAt v ph → (n : List Step) → drained_to (record v { claims = Knows w x ∷ v.claims; changes = change true ∷ []; calls = n; log = record v.log { phase = phase_stored ph; bumped = true } }) []
+      ≡ record v { claims = Drained [] ∷ Knows w x ∷ v.claims; changes = []; calls = Drain ∷ n; log = next_log (phase_ended ph) v.log }
   drains_to Open ends n = refl
   drains_to (Drawn m) ends n = refl
   drains_to Idle ends n = absurd ends
@@ -119,7 +119,7 @@ module _ (v : View) (can : CanRetire v) where
       (goes_one (StoredSo false) (StoredSo true) (Flush line) (λ u same. (
         subst (λ (y : View). Rattle.pm_view.specs.Counts.FlushesSome line y.changes) (sym same) (0, change false, omega arith, refl, (eq-eqb (w / 8) line refl, refl)),
         tt,
-        ap (λ (y : View). after y (Flush line)) same ∙ ap (λ c. record v { claims = Knows w x ∷ v.claims; changes = c ∷ []; calls = u.calls + 1; log = record v.log { phase = phase_stored v.log.phase; bumped = true } }) marked,
+        ap (λ (y : View). after y (Flush line)) same ∙ ap (λ c. record v { claims = Knows w x ∷ v.claims; changes = c ∷ []; calls = Flush line ∷ u.calls; log = record v.log { phase = phase_stored v.log.phase; bumped = true } }) marked,
       )))
       (goes_one (StoredSo true) Ended Drain (λ u same. (
         subst (λ (y : View). Rattle.pm_view.specs.Counts.DropsSome y.changes) (sym same) (0, change true, omega arith, refl, refl),

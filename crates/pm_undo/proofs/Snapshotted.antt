@@ -96,8 +96,8 @@ at_index P (x ∷ xs) d zero all low = all.0
 at_index P (x ∷ xs) d (suc k) all low = at_index P xs d k all.1 (omega (arith, low))
 
 -- a drain of an open call leaves what no flush has marked
-pub drained_open : (u : View) (left : List Undrained) → u.log.phase ≡ Open → drained_to u left ≡ record u { claims = Drained left ∷ u.claims; changes = left; calls = u.calls + 1 }
-drained_open u [] open_ = ap (λ ph. record u { claims = decided_by ph u.log.entries (Drained [] ∷ u.claims); changes = []; calls = u.calls + 1; log = log_drained ph u.log }) open_
+pub drained_open : (u : View) (left : List Undrained) → u.log.phase ≡ Open → drained_to u left ≡ record u { claims = Drained left ∷ u.claims; changes = left; calls = Drain ∷ u.calls }
+drained_open u [] open_ = ap (λ ph. record u { claims = decided_by ph u.log.entries (Drained [] ∷ u.claims); changes = []; calls = Drain ∷ u.calls; log = log_drained ph u.log }) open_
 drained_open u (c ∷ left) open_ = refl
 
 pub left_beyond : (sh : Shape) (changes : List Undrained) → AllByRecursion (IsAside sh) changes → AllByRecursion (λ (c : Undrained). IsBeyond sh c.word) (drained changes)

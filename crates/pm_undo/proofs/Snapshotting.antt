@@ -211,10 +211,10 @@ module _ (v : View) (working : IsWorking v) where
                 (view_with v u.claims u.changes u.calls (before ++ take (length records) records)
                 []) left refl)) (
                   subst (λ rs. Logging v (IsNoSlot sh v.fixed.lane) (before ++ rs) []
-                      (view_with v (Drained left ∷ u.claims) left (u.calls + 1)
+                      (view_with v (Drained left ∷ u.claims) left (Drain ∷ u.calls)
                       (before ++ take (length records) records) []))
                       (take_all (length records) records (omega arith))
-                      (drained_more p.at working left (u.calls + 1)),
+                      (drained_more p.at working left (Drain ∷ u.calls)),
                   left_beyond sh u.changes p.aside,
                 ),
           ))

@@ -93,7 +93,7 @@ HoldingsStay = (v w : View) → w.fixed ≡ v.fixed → HasNoted v w → StillHo
 -- calls and log, is one with that view
 abbrev pub StaysBetween : {M : Type 0} → (M → View → Type 0) → Type 0
 StaysBetween {M} at = (stage : Stage) (s : Standing) (old new : Lane M) (w : View)
-    (claims : List Claim) (changes : List Undrained) (calls : ℕ) (log : Log)
+    (claims : List Claim) (changes : List Undrained) (calls : List Step) (log : Log)
     → w ≡ record s.view { claims = claims; changes = changes; calls = calls; log = log }
     → IsSeenAs at old s.view (fields_at stage s)
     → KeepsLog at old s.view

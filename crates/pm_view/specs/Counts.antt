@@ -43,11 +43,11 @@ among kind (s ∷ steps) = (if kind s then 1 else 0) + among kind steps
 
 -- the lane may make one more counted call
 abbrev pub MayCount : View → Type 0
-MayCount v = ForSome v.fixed.stop (λ stop. v.calls < stop)
+MayCount v = ForSome v.fixed.stop (λ stop. length v.calls < stop)
 
 -- the lane made as many counted calls as its stop number says
 abbrev pub IsAtStop : View → Type 0
-IsAtStop v = IsSomeAnd v.fixed.stop (λ stop. stop ≤ v.calls)
+IsAtStop v = IsSomeAnd v.fixed.stop (λ stop. stop ≤ length v.calls)
 
 -- so many changes of a lane may be undrained
 abbrev pub max_changes : ℕ

@@ -43,9 +43,9 @@ pub record View : Type 0 where
   -- the occupancy words that it saw or changed, and the zones whose lock it holds, the latest first
   pub occupancy : List Seen
   pub zones : List ℕ
-  -- its undrained changes, the latest first, and how many counted calls it made
+  -- its undrained changes, and the counted calls that it made, the latest first
   pub changes : List Undrained
-  pub calls : ℕ
+  pub calls : List Step
   pub log : Log
   -- the open call: what its steps told that is no value of a word, the latest first; its operations with their replies; its number
   pub seen : List Step
@@ -72,7 +72,7 @@ idle fixed generation = record {
   occupancy = [];
   zones = [];
   changes = [];
-  calls = 0;
+  calls = [];
   log = new_log Idle generation;
   seen = [];
   call = [];

@@ -66,17 +66,17 @@ marked_by Open (DescriptorPart c) x claims = Marked c (x / 256) ∷ claims
 marked_by phase part x claims = claims
 
 -- one more change, of bits of a word that was this, where that is known, and becomes x, with the log as the step leaves it
-abbrev pub changed_from : View → ℕ → ℕ → Option ℕ → ℕ → List Claim → Log → View
-changed_from v w mask was x claims log = record v {
+abbrev pub changed_from : Step → View → ℕ → ℕ → Option ℕ → ℕ → List Claim → Log → View
+changed_from s v w mask was x claims log = record v {
   claims = Knows w x ∷ claims;
   changes = record { word = w; mask = mask; old = option_map (λ old. bit_and old mask) was; flushed = false } ∷ v.changes;
-  calls = v.calls + 1;
+  calls = s ∷ v.calls;
   log = log;
 }
 
 -- a store finds nothing
-abbrev pub changed : View → ℕ → ℕ → ℕ → List Claim → Log → View
-changed v w mask x claims log = changed_from v w mask (was_in v w) x claims log
+abbrev pub changed : Step → View → ℕ → ℕ → ℕ → List Claim → Log → View
+changed s v w mask x claims log = changed_from s v w mask (was_in v w) x claims log
 
 -- ---- drains
 
@@ -95,7 +95,7 @@ log_left [] log = log_drained log.phase log
 log_left (c ∷ left) log = log
 
 abbrev pub drained_to : View → List Undrained → View
-drained_to v left = record v { claims = claims_drained left v.log (Drained left ∷ v.claims); changes = left; calls = v.calls + 1; log = log_left left v.log }
+drained_to v left = record v { claims = claims_drained left v.log (Drained left ∷ v.claims); changes = left; calls = Drain ∷ v.calls; log = log_left left v.log }
 
 -- ---- locks
 
@@ -177,10 +177,10 @@ published_told operation reply actions published = published
 
 abbrev pub after : View → Step → View
 after v (Load w x) = record v { claims = learned v.log.phase (part_in v w) w x v.claims }
-after v (Store w x) = changed v w all_bits x (marked_by v.log.phase (part_in v w) x v.claims) (log_stored (shape_of v) (class v.claims) v.log.phase (part_in v w) x v.log)
-after v (Or w bits found) = changed_from v w bits (Some found) (bit_or found bits) v.claims (log_changed v.log.phase v.log)
-after v (And w bits found) = changed_from v w (bit_not w64 bits) (Some found) (bit_and found bits) v.claims (log_changed v.log.phase v.log)
-after v (Flush line) = record v { changes = flushed line v.changes; calls = v.calls + 1 }
+after v (Store w x) = changed (Store w x) v w all_bits x (marked_by v.log.phase (part_in v w) x v.claims) (log_stored (shape_of v) (class v.claims) v.log.phase (part_in v w) x v.log)
+after v (Or w bits found) = changed_from (Or w bits found) v w bits (Some found) (bit_or found bits) v.claims (log_changed v.log.phase v.log)
+after v (And w bits found) = changed_from (And w bits found) v w (bit_not w64 bits) (Some found) (bit_and found bits) v.claims (log_changed v.log.phase v.log)
+after v (Flush line) = record v { changes = flushed line v.changes; calls = Flush line ∷ v.calls }
 after v Drain = drained_to v (drained v.changes)
 after v (TakeWrite line won) = with_seen (TakeWrite line won) (record v { claims = with_won won (Took line true) v.claims })
 after v (TakeRead line won) = with_seen (TakeRead line won) (record v { claims = with_won won (Took line false) v.claims })

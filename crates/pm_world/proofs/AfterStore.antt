@@ -13,6 +13,7 @@ use Rattle.pm_view.specs.Log.{Phase, Log, log_stored}
 use Rattle.pm_view.specs.Parts.{Part}
 use Rattle.pm_view.specs.View.{View}
 use Rattle.pm_view.specs.Views.{shape_of, part_in, was_in, marked_by, changed}
+use Rattle.pm_view.specs.Steps.Step.{Store}
 use Rattle.pm_world.specs.Course.{past_stored}
 use Rattle.pm_world.specs.States.{State, Cells}
 use Rattle.pm_world.specs.Sights.{sight_of}
@@ -29,7 +30,7 @@ use Rattle.pm_world.proofs.Worlds.{turned, world_with, stops_stay}
 
 -- the view after a store of n into word w, which leaves this log
 abbrev pub after_store : View → ℕ → ℕ → Log → View
-after_store v w n log = changed v w all_bits n v.claims log
+after_store v w n log = changed (Store w n) v w all_bits n v.claims log
 
 -- a word that is stored is known
 still_given : (t e : Bool) (n : ℕ) (a : Option ℕ) (f : ℕ → Bool) → Rattle.pm_world.specs.States.given (cond t (Rattle.std.specs.Option.option_map f a) None) ≡ true → Rattle.pm_world.specs.States.given (cond t (Rattle.std.specs.Option.option_map f (cond e (Some n) a)) None) ≡ true
@@ -37,10 +38,10 @@ still_given true true n a f q = refl
 still_given true false n a f q = q
 still_given false e n a f q = q
 
-pub counts_on : (s : Option ℕ) (c : ℕ) → ForSome s (λ stop. c < stop) → ForSome s (λ stop. c + 1 ≤ stop)
+pub counts_on : (s : Option ℕ) (c : ℕ) → ForSome s (λ stop. c < stop) → ForSome s (λ stop. suc c ≤ stop)
 counts_on s c e y q = let l = e y q in omega arith
 
-pub stop_stays : (s : Option ℕ) (c : ℕ) → IsSomeAnd s (λ stop. stop ≤ c) → IsSomeAnd s (λ stop. stop ≤ c + 1)
+pub stop_stays : (s : Option ℕ) (c : ℕ) → IsSomeAnd s (λ stop. stop ≤ c) → IsSomeAnd s (λ stop. stop ≤ suc c)
 stop_stays None c e = e
 stop_stays (Some stop) c e = omega arith
 
@@ -77,7 +78,7 @@ module _ (o : Opening) (mem new : Memory) (views views' : Views) (g : Past) (x :
         entries = λ j ne. refl;
       } t (stored o.shape o.lanes (origin o) (cells_of o.shape mem) (cells_of o.shape new) (λ j. sight_of (views j)) (ghost_of g) x.bits k ink own (sight_of (after_store (views k) w n log)) (λ j. sight_of (views' j)) refl flies sight (turned views views' k (after_store (views k) w n log) t))
       lane x.of_lanes small_word header (let c = count_same views views' k (after_store (views k) w n log) t refl o.lanes in let r = x.counter_room in let e = b.0 CommitCounter (other_sort CommitCounter (PoolWord w) (λ q. omega arith)) in omega arith)
-      (⊎_elim (λ (q : mem StopWord ≡ 0). inl (b.0 StopWord (other_sort StopWord (PoolWord w) (λ z. omega arith)) ∙ q)) (λ (q : (j : ℕ) × (j < o.lanes) × IsAtStop (views j)). inr (q.0, q.1, stops_stay views views' k (after_store (views k) w n log) t (stop_stays (views k).fixed.stop (views k).calls) q.0 q.2)) x.stop_word)
+      (⊎_elim (λ (q : mem StopWord ≡ 0). inl (b.0 StopWord (other_sort StopWord (PoolWord w) (λ z. omega arith)) ∙ q)) (λ (q : (j : ℕ) × (j < o.lanes) × IsAtStop (views j)). inr (q.0, q.1, stops_stay views views' k (after_store (views k) w n log) t (stop_stays (views k).fixed.stop (length (views k).calls)) q.0 q.2)) x.stop_word)
     where
       f : LaneFits o mem g k (views k)
       f = x.each_lane k ink
@@ -97,7 +98,7 @@ module _ (o : Opening) (mem new : Memory) (views views' : Views) (g : Past) (x :
         zones = λ z. ap (λ y. y == suc k) (b.0 (ZoneLock z) (other_sort (ZoneLock z) (PoolWord w) (λ q. omega arith))) ∙ f.zones z;
         masks = all_cons (λ (c : Undrained). (c.mask < 2 ^ 64) × (c.word < words_of o.shape)) record { word = w; mask = all_bits; old = Rattle.std.specs.Option.option_map (λ old. Rattle.std.specs.Prelude.bit_and old all_bits) (was_in (views k) w); flushed = false } (views k).changes (omega arith, subst (λ s. w < words_of s) f.shape m.inside) f.masks;
         room = let r = m.room in omega arith;
-        within = counts_on (views k).fixed.stop (views k).calls due;
+        within = counts_on (views k).fixed.stop (length (views k).calls) due;
         alone = λ one. alone_stored log (f.alone one);
         entries = f.entries;
       }
@@ -112,11 +113,11 @@ module _ (o : Opening) (mem new : Memory) (views views' : Views) (g : Past) (x :
 abbrev pub KeepsWith : Phase → Part → Type 0
 KeepsWith ph part = (w n : ℕ) (o : Opening) (mem new : Memory) (views views' : Views) (g : Past) (k : ℕ) → World o mem views g → k < o.lanes → MayStore (views k) w n → MayCount (views k) → StoreFits (views k) w n ph part
     → (views k).log.phase ≡ ph → part_in (views k) w ≡ part → Becomes (PoolWord w) n mem new
-    → Turn views views' k (changed (views k) w all_bits n (marked_by ph part n (views k).claims) (log_stored (shape_of (views k)) (class (views k).claims) ph part n (views k).log)) → World o new views' (past_stored ph part n g)
+    → Turn views views' k (changed (Store w n) (views k) w all_bits n (marked_by ph part n (views k).claims) (log_stored (shape_of (views k)) (class (views k).claims) ph part n (views k).log)) → World o new views' (past_stored ph part n g)
 
 pub keeps_at : (ph : Phase) (part : Part) → KeepsWith ph part → KeepsAt ph part
 keeps_at ph part keeps w n o mem new views views' g k x ink law e p b t = let v = views k in
     subst (λ z. World o new views' (past_stored z (part_in (views k) w) n g)) (sym e) (subst (λ q. World o new views' (past_stored ph q n g)) (sym p)
     (keeps w n o mem new views views' g k x ink law.allowed (law.due refl) (subst (StoreFits (views k) w n ph) p (subst (λ z. StoreFits (views k) w n z (part_in (views k) w)) e law.allowed.fits)) e p b
-    (subst (λ q. Turn views views' k (changed (views k) w all_bits n (marked_by ph q n (views k).claims) (log_stored (shape_of (views k)) (class (views k).claims) ph q n (views k).log))) p
-    (subst (λ z. Turn views views' k (changed (views k) w all_bits n (marked_by z (part_in (views k) w) n (views k).claims) (log_stored (shape_of (views k)) (class (views k).claims) z (part_in (views k) w) n (views k).log))) e t))))
+    (subst (λ q. Turn views views' k (changed (Store w n) (views k) w all_bits n (marked_by ph q n (views k).claims) (log_stored (shape_of (views k)) (class (views k).claims) ph q n (views k).log))) p
+    (subst (λ z. Turn views views' k (changed (Store w n) (views k) w all_bits n (marked_by z (part_in (views k) w) n (views k).claims) (log_stored (shape_of (views k)) (class (views k).claims) z (part_in (views k) w) n (views k).log))) e t))))

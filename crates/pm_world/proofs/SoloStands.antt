@@ -11,7 +11,7 @@ use Rattle.pm_view.specs.Steps.{Step}
 use Rattle.pm_view.specs.View.{View}
 use Rattle.pm_view.specs.Views.{after}
 use Rattle.pm_memory.specs.Changes.{AreUndrained}
-use Rattle.pm_memory.specs.Solo.{Sees}
+use Rattle.pm_memory.specs.Solo.{Sees, opened_with}
 use Rattle.pm_memory.proofs.Opening.{sees_opened_with}
 use Rattle.pm_world.specs.Course.{past_after}
 use Rattle.pm_world.specs.Histories.{was_after, ghosts_after}
@@ -21,6 +21,7 @@ use Rattle.pm_world.specs.Solo.{meets_solo}
 use Rattle.pm_world.specs.SoloLanes.{OpenedStarts, OpenedStands, StandsAfter, StandingSurvives}
 use Rattle.pm_world.specs.SoloWorld.{memory_of}
 use Rattle.pm_world.specs.World.{Views, ghost_of}
+use Rattle.pm_world.proofs.CausesKept as causes
 use Rattle.pm_world.proofs.Histories as histories
 use Rattle.pm_world.proofs.SizesKept as sizes
 use Rattle.pm_world.proofs.SoloMoves.{calls_move}
@@ -47,6 +48,7 @@ stands_after s o old new v st lawful is sees =
       here = ap (λ (w : View). after w s) st.here;
       world = calls_keep_worlds s o old new st.views next st.past st.world seen ok is (turned st.views (after (st.views 0) s));
       sizes = sizes.keeps s o (memory_of old) (memory_of new) st.views st.past 0 st.world some ok (calls_move s old new (meets_solo old (st.views 0) s seen ok.allowed) is) st.sizes;
+      causes = causes.goes_on s o (memory_of old) (memory_of new) st.views next st.past 0 st.world st.causes some ok (calls_move s old new (meets_solo old (st.views 0) s seen ok.allowed) is) (turned st.views (after (st.views 0) s));
       history = histories.goes_on s o (memory_of old) st.views st.past 0 st.world some ok st.was st.ghosts st.history;
       sees = sees;
       formed = calls_keep_forms s o old new st.views st.past st.world ok is st.formed;
@@ -76,7 +78,7 @@ opened_starts o fixed stop runs zones one lane shape lanes = record {
     open_ z = ⊎_elim (λ (l : z < 32). get_or-replicate 32 z false false l) (λ (l : 32 ≤ z). get_or_past (replicate 32 false) z false (let q = length-replicate 32 false in omega (arith, q, l))) (cases_lt z 32)
 
 pub opened_stands : OpenedStands
-opened_stands o fixed generation runs zones first one shape pages count opens = record {
+opened_stands o fixed generation runs zones first one shape pages count taken opens = record {
   views = _;
   past = opens.0;
   was = λ n p b. false;
@@ -84,6 +86,7 @@ opened_stands o fixed generation runs zones first one shape pages count opens = 
   here = refl;
   world = opens.1;
   sizes = opens.3;
+  causes = causes.begin o (memory_of (opened_with o.words (fixed 0).stop runs zones)) fixed generation opens.0 taken opens.2;
   history = histories.begins o opens.0 (λ n p b. false) (λ n. ghost_of opens.0) opens.2;
   sees = sees_opened_with o.words runs zones (fixed 0) (generation 0) first one (opens.1.size ∙ ap words_of (sym shape)) pages count;
   formed = All-nil IsFormed;

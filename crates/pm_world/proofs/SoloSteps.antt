@@ -19,14 +19,15 @@ use Rattle.pm_view.specs.Steps.{Step}
 use Rattle.pm_view.specs.Steps.Step.{Occupy, SetStop, Tell}
 use Rattle.pm_view.specs.View.{View, Constants, idle}
 use Rattle.pm_view.specs.Views.{after}
-use Rattle.pm_world.specs.Bare.{AreBare, IsUntaken}
+use Rattle.pm_world.specs.Bare.{AreBare, IsBare, IsUntaken}
 use Rattle.pm_world.specs.InWorld.{InWorld}
 use Rattle.pm_world.specs.Lawful.{Allowed, IsLawful}
 use Rattle.pm_world.specs.Opens.{OpensIdle}
 use Rattle.pm_world.specs.SoloLanes.{Stands, StandsAs, only_lane}
 use Rattle.pm_world.specs.SoloWorld.{memory_of}
 use Rattle.pm_world.specs.World.{Opening}
-use Rattle.pm_world.proofs.Bare.{bare_opens}
+use Rattle.pm_world.specs.Memory.{RunWord, ZoneWord}
+use Rattle.pm_world.proofs.Bare.{bare_opens, bare_taken}
 use Rattle.pm_world.proofs.SoloStands.{stands_after, opened_starts, opened_stands}
 
 -- `now` is the memory as the lane's field has it
@@ -104,6 +105,7 @@ in_world m v w x st inside found = let some : 0 < st.0.lanes = let l = st.1.worl
   inside = inside;
   word = sym found;
   sizes = st.1.sizes;
+  causes = st.1.causes;
 }
 
 -- ---- ON A POOL WITHOUT OBJECTS
@@ -131,10 +133,18 @@ module _ (sh : Shape) (pool : ℕ) (stop : Option ℕ) (words runs free : List �
         (cases_lt zone 32);
   }
 
+  is_bare : IsBare o
+  is_bare = record { some_lanes = omega arith; most_lanes = sh.lanes_from; words = bare }
+
   opens : OpensIdle o (memory_of (opened_with words stop runs free)) fixed (λ k. 1)
   opens = bare_opens o (memory_of (opened_with words stop runs free)) fixed
-      (record { some_lanes = omega arith; most_lanes = sh.lanes_from; words = bare }) untaken
+      is_bare untaken
       (opened_starts o fixed stop runs free refl (λ k. refl) (λ k. refl) (λ k. refl))
 
   pub bare_stands : StandsAs (opened_with words stop runs free) (idle (only_lane sh pool stop) 1)
-  bare_stands = (o, opened_stands o fixed (λ k. 1) runs free refl refl refl pages count opens)
+  bare_stands = (
+    o,
+    opened_stands o fixed (λ k. 1) runs free refl refl refl pages count
+        (bare_taken o is_bare (λ p. memory_of (opened_with words stop runs free) (RunWord p))
+        (λ z. memory_of (opened_with words stop runs free) (ZoneWord z)) untaken) opens,
+  )

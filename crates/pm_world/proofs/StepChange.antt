@@ -13,6 +13,7 @@ use Rattle.pm_view.specs.Parts.{Part, GenerationPart, SealPart, EntryPart, SlotP
 use Rattle.pm_view.specs.Log.{Phase, Applying, Clearing, Log, log_stored}
 use Rattle.pm_view.specs.Claims.{class}
 use Rattle.pm_view.specs.Views.{value_in, part_in, changed, marked_by}
+use Rattle.pm_view.specs.Steps.Step.{Store}
 use Rattle.pm_world.specs.States.{given, put1}
 use Rattle.pm_world.specs.Sights.{is_use, is_soiled, sight_of}
 use Rattle.pm_world.specs.Lanes.{owns, SightFits, Flies, flies_at}
@@ -253,7 +254,7 @@ module _ (o : Opening) (mem new : Memory) (views views' : Views) (g : Past) (x :
 
 -- ---- a store, its phase and its part written out
 abbrev Stored : Views → Views → ℕ → ℕ → ℕ → Phase → Part → Type 0
-Stored views views' k w n ph q = Turn views views' k (changed (views k) w all_bits n (marked_by ph q n (views k).claims) (log_stored (views k).fixed.shape (class (views k).claims) ph q n (views k).log))
+Stored views views' k w n ph q = Turn views views' k (changed (Store w n) (views k) w all_bits n (marked_by ph q n (views k).claims) (log_stored (views k).fixed.shape (class (views k).claims) ph q n (views k).log))
 
 abbrev StoresIn : Phase → Part → Type 0
 StoresIn ph q = (w n : ℕ) (o : Opening) (mem new : Memory) (views views' : Views) (g : Past) (k : ℕ) → World o mem views g → k < o.lanes → MayStore (views k) w n → Rattle.pm_view.specs.Counts.MayCount (views k)

@@ -360,7 +360,7 @@ goes_on_in_each Voiding = goes_on_voiding
 
 -- ---- A DRAIN KEEPS THE WORLD, since what it drops does
 abbrev drop_to : View → List Undrained → View
-drop_to v left = record v { claims = Drained left ∷ v.claims; changes = left; calls = v.calls + 1 }
+drop_to v left = record v { claims = Drained left ∷ v.claims; changes = left; calls = Drain ∷ v.calls }
 
 module _ (drop : Drops) (o : Opening) (mem : Memory) (views new : Views) (g : Past) (k : ℕ) (x : World o mem views g) (ink : k < o.lanes) (due : MayCount (views k)) where
   abbrev dropped : Views

@@ -1,7 +1,7 @@
 -- A drain drops flushed changes and makes chunks runs, at the world.
-use Rattle.std.specs.Prelude.{[], ◌∷◌, List, length, IsSomeAnd}
+use Rattle.std.specs.Prelude.{[], ◌∷◌, List, length}
 use Rattle.std.specs.List.{filter, list_any}
-use Rattle.std.proofs.Common.{◌*◌, ◌≡◌, ℕ, suc, ◌+◌, ◌^◌, ◌<◌, ◌≤◌, inl, inr, ⊎_elim, nat_lt, Bool, true, false, cond, not, ◌==◌, ◌&&◌, ◌||◌, refl, sym, ap, ◌∙◌, subst, arith, Option, None, Some}
+use Rattle.std.proofs.Common.{◌*◌, ◌≡◌, ℕ, suc, ◌+◌, ◌^◌, ◌<◌, ◌≤◌, inl, inr, ⊎_elim, nat_lt, Bool, true, false, cond, not, ◌==◌, ◌&&◌, ◌||◌, refl, sym, ap, ◌∙◌, subst, arith, None}
 use Rattle.std.proofs.lemmas.Bool.{cases_Bool, both_ways, eqb-true, and_parts, and_from, or_cases, or_left, or_right, not-true, not_from_false, cond-true, false_from_ne_true}
 use Rattle.std.proofs.lemmas.List.Elements.{All-filter}
 use Rattle.pm_layout.specs.declared.shape.Shape.{Shape}
@@ -23,6 +23,7 @@ use Rattle.pm_world.specs.Course.{holder_made, past_made}
 use Rattle.pm_world.specs.Memory.{Memory, CommitCounter, cells_of}
 use Rattle.pm_world.specs.World.{Opening, Views, Past, origin, ghost_of, settled_words, LaneFits, World}
 use Rattle.pm_world.specs.Laws.{Turn}
+use Rattle.pm_world.proofs.AfterStore.{stop_stays}
 use Rattle.pm_world.proofs.Entering.{logged_recorded}
 use Rattle.pm_world.proofs.Basics.{and_false}
 use Rattle.pm_world.proofs.Counting.{count_same}
@@ -66,10 +67,6 @@ drained_phase sh lane d l changes (Applying todo) f = f
 drained_phase sh lane d l changes Clearing f = f
 drained_phase sh lane d l changes (Retiring n) f = f
 drained_phase sh lane d l changes Voiding f = f
-
-stop_more : (a : Option ℕ) (n : ℕ) → IsSomeAnd a (λ s. s ≤ n) → IsSomeAnd a (λ s. s ≤ n + 1)
-stop_more None n e = e
-stop_more (Some s) n e = omega arith
 
 module _ (o : Opening) (mem : Memory) (views views' : Views) (g : Past) (x : World o mem views g) (k : ℕ) (ink : k < o.lanes) (may : MayCount (views k)) (t : Turn views views' k (drops (views k))) where
   abbrev sights : ℕ → Sight
@@ -184,4 +181,4 @@ module _ (o : Opening) (mem : Memory) (views views' : Views) (g : Past) (x : Wor
         entries = fl.entries;
       }
       x.of_lanes x.small x.header (subst (λ n. mem CommitCounter + n < Rattle.pm_layout.specs.Areas.greatest_generation o.shape + 32) (sym (count_same views views' k (drops (views k)) t refl o.lanes)) x.counter_room)
-      (⊎_elim (λ (e : mem Rattle.pm_world.specs.Memory.StopWord ≡ 0). inl e) (λ (e : (j : ℕ) × (j < o.lanes) × IsAtStop (views j)). inr (e.0, e.1, stops_stay views views' k (drops (views k)) t (stop_more (views k).fixed.stop (views k).calls) e.0 e.2)) x.stop_word)
+      (⊎_elim (λ (e : mem Rattle.pm_world.specs.Memory.StopWord ≡ 0). inl e) (λ (e : (j : ℕ) × (j < o.lanes) × IsAtStop (views j)). inr (e.0, e.1, stops_stay views views' k (drops (views k)) t (stop_stays (views k).fixed.stop (length (views k).calls)) e.0 e.2)) x.stop_word)

@@ -18,6 +18,8 @@ use Rattle.pm_view.specs.Parts.{Part, GenerationPart, SealPart, EntryPart, SlotP
 use Rattle.pm_view.specs.Entries.{Entry, Redo, given_bit, delta, latest, redos, with_redo, turn, first_of_two}
 use Rattle.pm_view.specs.Log.{Applying, Log, old_of}
 use Rattle.pm_view.specs.Places.{Place, InRun, InHuge, Descr, RootWord, Block, Small, Big, Root, part, block_of, is_data, twin, same_place, word_of, is_place, in_span}
+use Rattle.pm_view.specs.Steps.{Step}
+use Rattle.pm_view.specs.Steps.Step.{Store}
 use Rattle.pm_view.specs.View.{View}
 use Rattle.pm_view.specs.Views.{was_in, part_in, changed, changed_from}
 use Rattle.pm_world.specs.States.{State, Diff, given, read, put1, Cells}
@@ -292,13 +294,13 @@ module _ (o : Opening) (mem : Memory) (views : Views) (g : Past) (x : World o me
           (λ (z : rest ≡ true). inl (and_from (is_use h p) rest y.0 z)) (or_cases new_ rest y.1)
 
   -- the lane's sight fits
-  pub sight_now : SightFits o.shape cells' S (Flies G k) G k (sight_of (changed_from v w (mask_of d.op d.value) was made v.claims (record v.log { phase = Applying todo })))
-  sight_now = applied_fits o.shape cells cells' S (Flies G k) G x.bits.geo k (sight_of v) e₀ (d ∷ todo) todo f left_is own_words fresh' picture'
+  pub sight_now : (step : Step) → SightFits o.shape cells' S (Flies G k) G k (sight_of (changed_from step v w (mask_of d.op d.value) was made v.claims (record v.log { phase = Applying todo })))
+  sight_now step = applied_fits o.shape cells cells' S (Flies G k) G x.bits.geo k (sight_of v) e₀ (d ∷ todo) todo f left_is own_words fresh' picture'
       (Rattle.pm_world.specs.Sights.is_logged v.fixed.shape v.fixed.lane (change ∷ v.changes) v.log.records) (is_soiled v.fixed.shape h (change ∷ v.changes)) applied_now
 
   -- ---- the lane's log, and the world
-  abbrev View' : View
-  View' = changed_from v w (mask_of d.op d.value) was made v.claims (record v.log { phase = Applying todo })
+  abbrev View' : Step → View
+  View' step = changed_from step v w (mask_of d.op d.value) was made v.claims (record v.log { phase = Applying todo })
 
   area_else : (lane i : ℕ) → lane < o.shape.lanes → i < 1024 → (u : ℕ) → u ≡ word_of_generation o.shape lane + i → put1 (λ u. mem (PoolWord u)) w made u ≡ mem (PoolWord u)
   area_else lane i a b u e = put1_else (λ u. mem (PoolWord u)) w made u (λ q. no_area o.shape p₀ lane i a b pair.0 (at_word ∙ (sym q ∙ e)))
@@ -346,7 +348,7 @@ module _ (o : Opening) (mem : Memory) (views : Views) (g : Past) (x : World o me
           has_place (Some q) = true
       later (suc i, l, e) = (i, omega arith, e)
 
-  module _ (new : Memory) (views' : Views) (became : Becomes (PoolWord w) made mem new) (room : HasRoom v.changes) (due : MayCount v) (mask : mask_of d.op d.value < 2 ^ 64)
+  module _ (step : Step) (new : Memory) (views' : Views) (became : Becomes (PoolWord w) made mem new) (room : HasRoom v.changes) (due : MayCount v) (mask : mask_of d.op d.value < 2 ^ 64)
       (new_change : Rattle.pm_world.specs.Logs.AreaChange (Applying todo) (length v.log.entries) v.log.generation (part_of o.shape k w) change) where
     cells_now : cells_of o.shape new ≡ cells'
     cells_now = cells_stored o.shape mem new w made became
@@ -357,7 +359,7 @@ module _ (o : Opening) (mem : Memory) (views : Views) (g : Past) (x : World o me
     area_word : (j i : ℕ) → j < o.shape.lanes → i < 1024 → (u : ℕ) → u ≡ word_of_generation o.shape j + i → new (PoolWord u) ≡ mem (PoolWord u)
     area_word j i a b u e = other u (λ q. no_area o.shape p₀ j i a b pair.0 (at_word ∙ (sym q ∙ e)))
 
-    alone_now : AloneFits mem v → AloneFits new View'
+    alone_now : AloneFits mem v → AloneFits new (View' step)
     alone_now a = record {
       words = λ u y e. ⊎_elim (λ (q : w ≡ u). ap (λ i. new (PoolWord i)) (sym q) ∙ (became.1 ∙ same_number made y (sym (cond-true (w == u) (Some made) (pictured v.fixed.shape v.claims u) (eq-eqb w u q)) ∙ e)))
           (λ (ne : w ≢ u). other u (λ q. ne (sym q)) ∙ a.words u y (sym (cond-false (w == u) (Some made) (pictured v.fixed.shape v.claims u) (ne_eqb w u ne)) ∙ e)) (cases_eq w u);
@@ -371,7 +373,7 @@ module _ (o : Opening) (mem : Memory) (views : Views) (g : Past) (x : World o me
             value None = 0
             value (Some y) = y
 
-    lane_now : LaneFits o new g k View'
+    lane_now : LaneFits o new g k (View' step)
     lane_now = let q = lane in record {
       lane = q.lane;
       shape = q.shape;
@@ -383,7 +385,7 @@ module _ (o : Opening) (mem : Memory) (views : Views) (g : Past) (x : World o me
       zones = λ z. ap (λ y. y == suc k) (became.0 (ZoneLock z) (other_sort (ZoneLock z) (PoolWord w) (λ q. omega arith))) ∙ q.zones z;
       masks = all_cons (λ (c : Undrained). (c.mask < 2 ^ 64) × (c.word < words_of o.shape)) change v.changes (mask, inside) q.masks;
       room = omega arith;
-      within = counts_on v.fixed.stop v.calls due;
+      within = counts_on v.fixed.stop (length v.calls) due;
       alone = λ one. alone_now (q.alone one);
       entries = q.entries;
     }
@@ -398,8 +400,8 @@ module _ (o : Opening) (mem : Memory) (views : Views) (g : Past) (x : World o me
         go RootWord e l n = both_ways (not (u == Rattle.pm_layout.specs.Chunks.word_of_root o.shape)) (ap not (eq-eqb u (Rattle.pm_layout.specs.Chunks.word_of_root o.shape) (sym e))) n
 
     -- THE WORLD AFTER IT
-    pub entry_applied : Turn views views' k View' → World o new views' g
-    entry_applied t = let own = subst (OwnWords S G h cells) (sym cells_now) own_words in world_with o mem views g x k ink new views' g S View' refl
+    pub entry_applied : Turn views views' k (View' step) → World o new views' g
+    entry_applied t = let own = subst (OwnWords S G h cells) (sym cells_now) own_words in world_with o mem views g x k ink new views' g S (View' step) refl
         (around_own S G k h (λ j. (sight_of (views j)).hold) cells (cells_of o.shape new) own)
         record {
           generation = λ j l ne. area_word j 0 l (omega arith) (word_of_generation o.shape j) (omega arith);
@@ -408,13 +410,13 @@ module _ (o : Opening) (mem : Memory) (views : Views) (g : Past) (x : World o me
           slot = λ j i y l r s ne. area_word j (136 + 8 * i + y) l (omega arith) (8 * line_of_slot o.shape j i + y) (omega arith);
           zone = λ z j ne. ap (λ y. y == suc j) (became.0 (ZoneLock z) (other_sort (ZoneLock z) (PoolWord w) (λ q. omega arith)));
           entries = λ j ne. refl;
-        } t (stored o.shape o.lanes (origin o) cells (cells_of o.shape new) (λ j. sight_of (views j)) G x.bits k ink own (sight_of View') (λ j. sight_of (views' j)) refl (λ i q. absurd (subst (λ z. flies_at z i) ph q))
-        (subst (λ c. SightFits o.shape c S (Flies G k) G k (sight_of View')) (sym cells_now) sight_now) (turned views views' k View' t))
+        } t (stored o.shape o.lanes (origin o) cells (cells_of o.shape new) (λ j. sight_of (views j)) G x.bits k ink own (sight_of (View' step)) (λ j. sight_of (views' j)) refl (λ i q. absurd (subst (λ z. flies_at z i) ph q))
+        (subst (λ c. SightFits o.shape c S (Flies G k) G k (sight_of (View' step))) (sym cells_now) (sight_now step)) (turned views views' k (View' step) t))
         lane_now x.of_lanes
         (λ u. ⊎_elim (λ (q : u ≡ w). subst (λ y. y < 2 ^ 64) (sym (ap (λ i. new (PoolWord i)) q ∙ became.1)) small) (λ (ne : u ≢ w). subst (λ y. y < 2 ^ 64) (sym (other u ne)) (x.small u)) (cases_eq u w))
         (λ u t. other u (header_word u t) ∙ x.header u t)
-        (let c = count_same views views' k View' t refl o.lanes in let r = x.counter_room in let e = became.0 CommitCounter (other_sort CommitCounter (PoolWord w) (λ q. omega arith)) in omega arith)
-        (⊎_elim (λ (q : mem StopWord ≡ 0). inl (became.0 StopWord (other_sort StopWord (PoolWord w) (λ z. omega arith)) ∙ q)) (λ (q : (j : ℕ) × (j < o.lanes) × IsAtStop (views j)). inr (q.0, q.1, stops_stay views views' k View' t (stop_stays v.fixed.stop v.calls) q.0 q.2)) x.stop_word)
+        (let c = count_same views views' k (View' step) t refl o.lanes in let r = x.counter_room in let e = became.0 CommitCounter (other_sort CommitCounter (PoolWord w) (λ q. omega arith)) in omega arith)
+        (⊎_elim (λ (q : mem StopWord ≡ 0). inl (became.0 StopWord (other_sort StopWord (PoolWord w) (λ z. omega arith)) ∙ q)) (λ (q : (j : ℕ) × (j < o.lanes) × IsAtStop (views j)). inr (q.0, q.1, stops_stay views views' k (View' step) t (stop_stays v.fixed.stop (length v.calls)) q.0 q.2)) x.stop_word)
 
 -- ---- THE NEXT ENTRY IS OF A PLACE, where its word is not the lane's generation
 module _ (o : Opening) (mem : Memory) (views : Views) (g : Past) (x : World o mem views g) (k : ℕ) (ink : k < o.lanes) (w : ℕ) (d : Entry) (todo : List Entry) (ph : (views k).log.phase ≡ Applying (d ∷ todo)) (word : d.word ≡ w) where
@@ -435,14 +437,14 @@ module _ (o : Opening) (mem : Memory) (views : Views) (g : Past) (x : World o me
 -- ---- A WHOLE WORD IS STORED
 module _ (o : Opening) (mem new : Memory) (views views' : Views) (g : Past) (x : World o mem views g) (k : ℕ) (ink : k < o.lanes) (w n : ℕ) (m : MayStore (views k) w n) (due : MayCount (views k)) (became : Becomes (PoolWord w) n mem new) where
   pub store_entry : (q : Part) → part_in (views k) w ≡ q → tag q ≡ 0 → (d : Entry) (todo : List Entry) → ((c : Undrained) → c.mask ≡ all_bits → AreaChange (Applying todo) (length (views k).log.entries) (views k).log.generation q c)
-      → (views k).log.phase ≡ Applying (d ∷ todo) → IsNext (d ∷ todo) w Set n → Turn views views' k (changed (views k) w all_bits n (views k).claims (record (views k).log { phase = Applying todo })) → World o new views' g
+      → (views k).log.phase ≡ Applying (d ∷ todo) → IsNext (d ∷ todo) w Set n → Turn views views' k (changed (Store w n) (views k) w all_bits n (views k).claims (record (views k).log { phase = Applying todo })) → World o new views' g
   store_entry q part t d todo area ph next turn = let here : part_of o.shape k w ≡ q = subst (λ s. part_of s k w ≡ q) (x.each_lane k ink).shape (subst (λ l. part_of (views k).fixed.shape l w ≡ q) (x.each_lane k ink).lane part) in
       let p = next_place o mem views g x k ink w d todo ph next.0 (ap tag here ∙ t) in
       let made : made_word d.op d.value (mem (PoolWord w)) ≡ n = ap (λ z. made_word z d.value (mem (PoolWord w))) next.1 ∙ next.2 in
       let whole : mask_of d.op d.value ≡ all_bits = ap (λ z. mask_of z d.value) next.1 in
-      entry_applied o mem views g x k ink w d todo ph next.0 (subst (λ s. w < words_of s) (x.each_lane k ink).shape m.inside) p.0 p.1 (subst (λ z. z < 2 ^ 64) (sym made) m.small) (was_in (views k) w) new views' (subst (λ z. Becomes (PoolWord w) z mem new) (sym made) became) m.room due
+      entry_applied o mem views g x k ink w d todo ph next.0 (subst (λ s. w < words_of s) (x.each_lane k ink).shape m.inside) p.0 p.1 (subst (λ z. z < 2 ^ 64) (sym made) m.small) (was_in (views k) w) (Store w n) new views' (subst (λ z. Becomes (PoolWord w) z mem new) (sym made) became) m.room due
       (subst (λ z. z < 2 ^ 64) (sym whole) (omega arith)) (subst (λ z. AreaChange (Applying todo) (length (views k).log.entries) (views k).log.generation z (change o mem views g x k ink w d todo ph next.0 (subst (λ s. w < words_of s) (x.each_lane k ink).shape m.inside) p.0 p.1 (subst (λ z. z < 2 ^ 64) (sym made) m.small) (was_in (views k) w))) (sym here) (area (change o mem views g x k ink w d todo ph next.0 (subst (λ s. w < words_of s) (x.each_lane k ink).shape m.inside) p.0 p.1 (subst (λ z. z < 2 ^ 64) (sym made) m.small) (was_in (views k) w)) whole))
-      (subst (λ z. Turn views views' k (changed (views k) w z (made_word d.op d.value (mem (PoolWord w))) (views k).claims (record (views k).log { phase = Applying todo }))) (sym whole) (subst (λ z. Turn views views' k (changed (views k) w all_bits z (views k).claims (record (views k).log { phase = Applying todo }))) (sym made) turn))
+      (subst (λ z. Turn views views' k (changed (Store w n) (views k) w z (made_word d.op d.value (mem (PoolWord w))) (views k).claims (record (views k).log { phase = Applying todo }))) (sym whole) (subst (λ z. Turn views views' k (changed (Store w n) (views k) w all_bits z (views k).claims (record (views k).log { phase = Applying todo }))) (sym made) turn))
 
 pub applies_root : (todo : List Entry) → KeepsAt (Applying todo) RootPart
 applies_root [] = stores_at (Applying []) RootPart (λ w n o mem new views views' g k x ink m due e part c moves t. absurd c)

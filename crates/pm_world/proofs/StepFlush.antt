@@ -67,7 +67,7 @@ sight_marked line v = λ i. record (sight_of v) {
   soiled = λ p b. is_use (hold_of v.fixed.shape v.claims) p && any_marked line (λ (c : Undrained). c.word == Rattle.pm_view.specs.Places.word_of v.fixed.shape p && bit_at c.mask b == 1) (λ c. refl) v.changes i;
 }
 
-lane_marked : (o : Opening) (mem : Memory) (g : Past) (k line : ℕ) (v : View) → LaneFits o mem g k v → ForSome v.fixed.stop (λ stop. v.calls < stop) → LaneFits o mem g k (after v (Flush line))
+lane_marked : (o : Opening) (mem : Memory) (g : Past) (k line : ℕ) (v : View) → LaneFits o mem g k v → ForSome v.fixed.stop (λ stop. length v.calls < stop) → LaneFits o mem g k (after v (Flush line))
 lane_marked o mem g k line v f due = let l = f.log in record {
   lane = f.lane;
   shape = f.shape;
@@ -83,7 +83,7 @@ lane_marked o mem g k line v f due = let l = f.log in record {
   zones = f.zones;
   masks = all_marked line (λ (c : Undrained). (c.mask < 2 ^ 64) × (c.word < words_of o.shape)) (λ c q. q) v.changes f.masks;
   room = subst (λ n. n ≤ max_changes) (sym (length-map v.changes (mark line))) f.room;
-  within = counts_on v.fixed.stop v.calls due;
+  within = counts_on v.fixed.stop (length v.calls) due;
   alone = λ one. let a = f.alone one in record { words = a.words; occupancy = a.occupancy };
   entries = f.entries;
 }
@@ -92,6 +92,6 @@ lane_marked o mem g k line v f due = let l = f.log in record {
 pub flush_keeps : (line : ℕ) → Keeps (Flush line)
 flush_keeps line o mem new views views' g k x ink law moves t = (
   plain_step o mem new views views' g x k ink moves (after (views k) (Flush line)) t (sight_marked line (views k)) refl
-      (stop_stays (views k).fixed.stop (views k).calls) (lane_marked o mem g k line (views k) (x.each_lane k ink) (law.due refl)),
+      (stop_stays (views k).fixed.stop (length (views k).calls)) (lane_marked o mem g k line (views k) (x.each_lane k ink) (law.due refl)),
   tt,
 )

@@ -1,7 +1,7 @@
 -- A CHUNK IS MARKED AS A RUN by the store of its descriptor, and the world is kept.
-use Rattle.std.specs.Prelude.{List, [], ◌∷◌, length, slice_index_or, IsSomeAnd, if◌then◌else◌}
+use Rattle.std.specs.Prelude.{List, [], ◌∷◌, length, slice_index_or, if◌then◌else◌}
 use Rattle.std.specs.Int.{bit_at}
-use Rattle.std.specs.Option.{option_map, ForSome}
+use Rattle.std.specs.Option.{option_map}
 use Rattle.std.proofs.Common.{◌≡◌, ◌≢◌, ℕ, zero, suc, ◌+◌, ◌*◌, ◌/◌, ◌%◌, ◌^◌, ◌<◌, ◌≤◌, inl, inr, ⊎_elim, nat_le, nat_lt, Bool, true, false, cond, not, eqb, ◌==◌, ◌&&◌, ◌||◌, refl, sym, ap, ◌∙◌, subst, arith, eq-eqb, ne_eqb, Option, None, Some}
 use Rattle.std.proofs.lemmas.Bool.{cases_eq, cases_Bool, both_ways, eqb-true, ltb-true, and_parts, and_from, and_left, and_right, or_cases, not-true, cond-true, cond-false, cond_both, false_from_ne_true}
 use Rattle.std.proofs.lemmas.List.Folds.{list_any_none}
@@ -22,6 +22,7 @@ use Rattle.pm_view.specs.Parts.{Part, GenerationPart, SealPart, EntryPart, SlotP
 use Rattle.pm_view.specs.Places.{Place, InRun, InHuge, Descr, RootWord, Block, Small, Big, Root, part, block_of, is_data, is_place, word_of}
 use Rattle.pm_view.specs.View.{View}
 use Rattle.pm_view.specs.Views.{part_in, value_in, was_of, changed}
+use Rattle.pm_view.specs.Steps.Step.{Store}
 use Rattle.pm_world.specs.States.{State, given, diff, read, put1, Cells}
 use Rattle.pm_world.specs.Sights.{Hold, Sight, hold_of, is_pictured, picture, is_soiled, is_recorded, is_logged, is_made, fresh, sight_of}
 use Rattle.pm_world.specs.Lanes.{Ghost, owns, is_decided, Flies, SightFits, Bits}
@@ -30,7 +31,7 @@ use Rattle.pm_world.specs.Lawful.{MayMark, MayStore}
 use Rattle.pm_world.specs.Laws.{Turn, KeepsAt}
 use Rattle.pm_world.specs.Memory.{Memory, PoolWord, LockWord, RunWord, ZoneWord, ZoneLock, CommitCounter, StopWord, Becomes, occ_at, bit, run_told, huge_told, bits_of, descriptor_told, cells_by, cells_of}
 use Rattle.pm_world.specs.World.{Opening, Views, Past, origin, ghost_of, settled_words, AloneFits, RecordedFits, LaneFits, World}
-use Rattle.pm_world.proofs.AfterStore.{keeps_at}
+use Rattle.pm_world.proofs.AfterStore.{keeps_at, counts_on, stop_stays}
 use Rattle.pm_world.proofs.Cells.{other_sort, other_number, occ_sort, cells_stored, bits_else, descriptor_else}
 use Rattle.pm_world.proofs.Counting.{count_same}
 use Rattle.pm_world.proofs.Frame.{Around, mine_own}
@@ -107,7 +108,7 @@ module _ (o : Opening) (mem new : Memory) (views views' : Views) (g : Past) (x :
   g' = record g { geo = record g.geo { class = put1 g.geo.class c (n / 256) } }
 
   abbrev v' : View
-  v' = changed (views k) w all_bits n (Marked c (n / 256) ∷ (views k).claims) (views k).log
+  v' = changed (Store w n) (views k) w all_bits n (Marked c (n / 256) ∷ (views k).claims) (views k).log
 
   fl : LaneFits o mem g k (views k)
   fl = x.each_lane k ink
@@ -196,7 +197,7 @@ module _ (o : Opening) (mem new : Memory) (views views' : Views) (g : Past) (x :
   abbrev marked : Sight
   marked = record (sight_of (views k)) { hold = with_mark (sight_of (views k)).hold c (n / 256); soiled = is_soiled (views k).fixed.shape (hold_of (views k).fixed.shape (Knows w n ∷ Marked c (n / 256) ∷ (views k).claims)) (undrained_by (views k) w ∷ (views k).changes) }
 
-  sight_is : sight_of (changed (views k) w all_bits n (Marked c (n / 256) ∷ (views k).claims) (views k).log) ≡ record (sight_of (views k)) { hold = with_mark (sight_of (views k)).hold c (n / 256); soiled = is_soiled (views k).fixed.shape (hold_of (views k).fixed.shape (Knows w n ∷ Marked c (n / 256) ∷ (views k).claims)) (undrained_by (views k) w ∷ (views k).changes) }
+  sight_is : sight_of (changed (Store w n) (views k) w all_bits n (Marked c (n / 256) ∷ (views k).claims) (views k).log) ≡ record (sight_of (views k)) { hold = with_mark (sight_of (views k)).hold c (n / 256); soiled = is_soiled (views k).fixed.shape (hold_of (views k).fixed.shape (Knows w n ∷ Marked c (n / 256) ∷ (views k).claims)) (undrained_by (views k) w ∷ (views k).changes) }
   sight_is = λ i. record marked { hold = hold_is i; call = record { entries = redos (views k).log.entries; fresh = λ q j. fresh_is q j i }; picture = λ q j. picture_is q j i; logged = λ q. logged_is q i }
 
   -- ---- THE BITS after the store
@@ -382,7 +383,7 @@ module _ (o : Opening) (mem new : Memory) (views views' : Views) (g : Past) (x :
           one : (y : ℕ) → y < 8 → new (PoolWord (8 * line_of_slot o.shape k i + y)) ≡ mem (PoolWord (8 * line_of_slot o.shape k i + y))
           one y q = let spot = at_o in let lanes = x.most_lanes in other_word (8 * line_of_slot o.shape k i + y) (λ s. omega arith)
 
-  alone_marked : AloneFits mem (views k) → AloneFits new (changed (views k) w all_bits n (Marked c (n / 256) ∷ (views k).claims) (views k).log)
+  alone_marked : AloneFits mem (views k) → AloneFits new (changed (Store w n) (views k) w all_bits n (Marked c (n / 256) ∷ (views k).claims) (views k).log)
   alone_marked z = record {
     words = λ u y e. ⊎_elim (λ (q : w ≡ u). ap (λ i. new (PoolWord i)) (sym q) ∙ (b.1 ∙ some_same n y (sym (cond-true (w == u) (Some n) (pictured sh (views k).claims u) (eq-eqb w u q)) ∙ e)))
         (λ (ne : w ≢ u). other_word u (λ q. ne (sym q)) ∙ z.words u y (sym (pictured_else u ne) ∙ e)) (cases_eq w u);
@@ -396,14 +397,7 @@ module _ (o : Opening) (mem new : Memory) (views views' : Views) (g : Past) (x :
       some_same : (d e : ℕ) → Some d ≡ Some e → d ≡ e
       some_same d e q = ap value q
 
-  counts_on : (s : Option ℕ) (d : ℕ) → ForSome s (λ stop. d < stop) → ForSome s (λ stop. d + 1 ≤ stop)
-  counts_on s d e y q = let l = e y q in omega arith
-
-  stop_stays : (s : Option ℕ) (d : ℕ) → IsSomeAnd s (λ stop. stop ≤ d) → IsSomeAnd s (λ stop. stop ≤ d + 1)
-  stop_stays None d e = e
-  stop_stays (Some stop) d e = omega arith
-
-  lane_marked : LaneFits o new g' k (changed (views k) w all_bits n (Marked c (n / 256) ∷ (views k).claims) (views k).log)
+  lane_marked : LaneFits o new g' k (changed (Store w n) (views k) w all_bits n (Marked c (n / 256) ∷ (views k).claims) (views k).log)
   lane_marked = record {
     lane = fl.lane;
     shape = fl.shape;
@@ -415,7 +409,7 @@ module _ (o : Opening) (mem new : Memory) (views views' : Views) (g : Past) (x :
     zones = λ z. ap (λ y. y == suc k) (b.0 (ZoneLock z) (other_sort (ZoneLock z) (PoolWord w) (λ q. omega arith))) ∙ fl.zones z;
     masks = all_cons (λ (d : Undrained). (d.mask < 2 ^ 64) × (d.word < words_of o.shape)) (undrained_by (views k) w) (views k).changes (omega arith, subst (λ s. w < words_of s) fl.shape m.inside) fl.masks;
     room = let r = m.room in omega arith;
-    within = counts_on (views k).fixed.stop (views k).calls due;
+    within = counts_on (views k).fixed.stop (length (views k).calls) due;
     alone = λ one. alone_marked (fl.alone one);
     entries = fl.entries;
   }
@@ -423,7 +417,7 @@ module _ (o : Opening) (mem new : Memory) (views views' : Views) (g : Past) (x :
   small_word : (u : ℕ) → new (PoolWord u) < 2 ^ 64
   small_word u = ⊎_elim (λ (q : u ≡ w). subst (λ y. y < 2 ^ 64) (sym (ap (λ i. new (PoolWord i)) q ∙ b.1)) m.small) (λ (ne : u ≢ w). subst (λ y. y < 2 ^ 64) (sym (other_word u ne)) (x.small u)) (cases_eq u w)
 
-  mark_world : Turn views views' k (changed (views k) w all_bits n (Marked c (n / 256) ∷ (views k).claims) (views k).log) → World o new views' (record g { geo = record g.geo { class = put1 g.geo.class c (n / 256) } })
+  mark_world : Turn views views' k (changed (Store w n) (views k) w all_bits n (Marked c (n / 256) ∷ (views k).claims) (views k).log) → World o new views' (record g { geo = record g.geo { class = put1 g.geo.class c (n / 256) } })
   mark_world t = let spot = at_o in let lanes = x.most_lanes in let far = turned views views' k v' t in
       let step = marks_run o.shape o.lanes (origin o) (cells_of o.shape mem) (λ j. sight_of (views j)) (ghost_of g) x.bits k ink c (n / 256) (bits_of o.shape (put1 (λ u. mem (PoolWord u)) w n)) so marks early flight (λ j. sight_of (views' j)) (record { here = far.here ∙ sight_is; else_ = far.else_ }) in
       world_with o mem views g x k ink new views' g' (settled_words o g) v' refl
@@ -441,7 +435,7 @@ module _ (o : Opening) (mem new : Memory) (views views' : Views) (g : Past) (x :
       (bits_over o.shape o.lanes (origin o) run_cells (λ j. sight_of (views' j)) (ghost_of g') put_cells.generation put_cells.seal put_cells.entry put_cells.slot step.1))
       lane_marked x.of_lanes small_word (λ u e. let l = ltb-true u 512 (and_parts (nat_lt u 512) (not (u == word_of_root o.shape)) e).0 in other_word u (λ q. omega arith) ∙ x.header u e)
       (let d = count_same views views' k v' t refl o.lanes in let r = x.counter_room in let e = b.0 CommitCounter (other_sort CommitCounter (PoolWord w) (λ q. omega arith)) in omega arith)
-      (⊎_elim (λ (q : mem StopWord ≡ 0). inl (b.0 StopWord (other_sort StopWord (PoolWord w) (λ z. omega arith)) ∙ q)) (λ (q : (j : ℕ) × (j < o.lanes) × IsAtStop (views j)). inr (q.0, q.1, stops_stay views views' k v' t (stop_stays (views k).fixed.stop (views k).calls) q.0 q.2)) x.stop_word)
+      (⊎_elim (λ (q : mem StopWord ≡ 0). inl (b.0 StopWord (other_sort StopWord (PoolWord w) (λ z. omega arith)) ∙ q)) (λ (q : (j : ℕ) × (j < o.lanes) × IsAtStop (views j)). inr (q.0, q.1, stops_stay views views' k v' t (stop_stays (views k).fixed.stop (length (views k).calls)) q.0 q.2)) x.stop_word)
 
 -- THE STORE OF A RUN'S DESCRIPTOR KEEPS THE WORLD
 pub store_mark : (c : ℕ) → KeepsAt Open (DescriptorPart c)

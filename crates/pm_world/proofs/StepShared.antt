@@ -15,6 +15,7 @@ use Rattle.pm_view.specs.Founds.{FindsKnown}
 use Rattle.pm_view.specs.Log.{Phase, Idle, Open, Drawn, Applying, log_changed}
 use Rattle.pm_view.specs.Parts.{Part, GenerationPart, SealPart, EntryPart, SlotPart, RootPart, DescriptorPart, ChunkPart, is_entry_word, is_slot_word, pool_part, part_of, place_in}
 use Rattle.pm_view.specs.Places.{Place, Descr, twin, same_place}
+use Rattle.pm_view.specs.Steps.{Step}
 use Rattle.pm_view.specs.Steps.Step.{Or, And, Store}
 use Rattle.pm_view.specs.View.{View}
 use Rattle.pm_view.specs.Views.{part_in, changed_from}
@@ -65,9 +66,9 @@ next_at v how w bits (Applying []) (DescriptorPart c) f = absurd f
 next_at v how w bits (Applying (d ∷ todo)) (DescriptorPart c) f = (d, todo, refl, f, refl, inr (c, refl))
 next_at v how w bits ph q f = absurd f
 
-module _ (o : Opening) (mem new : Memory) (views views' : Views) (g : Past) (x : World o mem views g) (k : ℕ) (ink : k < o.lanes) (how : Op) (other : how ≢ op.Set) (w bits n : ℕ) (m : MayChange (views k) how w bits) (due : MayCount (views k)) (made : made_word how bits (mem (PoolWord w)) ≡ n) (small : n < 2 ^ 64) (mask : mask_of how bits < 2 ^ 64) (was : Option ℕ)
+module _ (o : Opening) (mem new : Memory) (views views' : Views) (g : Past) (x : World o mem views g) (k : ℕ) (ink : k < o.lanes) (step : Step) (how : Op) (other : how ≢ op.Set) (w bits n : ℕ) (m : MayChange (views k) how w bits) (due : MayCount (views k)) (made : made_word how bits (mem (PoolWord w)) ≡ n) (small : n < 2 ^ 64) (mask : mask_of how bits < 2 ^ 64) (was : Option ℕ)
     (became : Becomes (PoolWord w) n mem new) where
-  pub change_entry : NextAt (views k) how w bits (views k).log.phase (part_in (views k) w) → Turn views views' k (changed_from (views k) w (mask_of how bits) was n (views k).claims (log_changed (views k).log.phase (views k).log)) → World o new views' g
+  pub change_entry : NextAt (views k) how w bits (views k).log.phase (part_in (views k) w) → Turn views views' k (changed_from step (views k) w (mask_of how bits) was n (views k).claims (log_changed (views k).log.phase (views k).log)) → World o new views' g
   change_entry a t = let d = a.0 in let todo = a.1 in let ph = a.2 in let next = a.3 in
       let here : part_of o.shape k w ≡ part_in (views k) w = sym (subst (λ s. part_in (views k) w ≡ part_of s k w) (x.each_lane k ink).shape (subst (λ l. part_in (views k) w ≡ part_of (views k).fixed.shape l w) (x.each_lane k ink).lane refl)) in
       let p = next_place o mem views g x k ink w d todo ph next.0 (ap tag here ∙ a.4) in
@@ -76,11 +77,11 @@ module _ (o : Opening) (mem new : Memory) (views views' : Views) (g : Past) (x :
       let inside = subst (λ s. w < words_of s) (x.each_lane k ink).shape m.inside in let small' = subst (λ z. z < 2 ^ 64) (sym e) small in
       let c : Undrained = change o mem views g x k ink w d todo ph next.0 inside p.0 p.1 small' was in
       let of = pair o mem views g x k ink w d todo ph next.0 inside p.0 p.1 small' was in
-      entry_applied o mem views g x k ink w d todo ph next.0 inside p.0 p.1 small' was new views' (subst (λ z. Becomes (PoolWord w) z mem new) (sym e) became) m.room due (subst (λ z. z < 2 ^ 64) (sym q) mask)
+      entry_applied o mem views g x k ink w d todo ph next.0 inside p.0 p.1 small' was step new views' (subst (λ z. Becomes (PoolWord w) z mem new) (sym e) became) m.room due (subst (λ z. z < 2 ^ 64) (sym q) mask)
       (⊎_elim (λ (y : (count generation : ℕ) (c : Undrained) → AreaChange (Applying todo) count generation (part_in (views k) w) c). subst (λ z. AreaChange (Applying todo) (length (views k).log.entries) (views k).log.generation z c) (sym here) (y (length (views k).log.entries) (views k).log.generation c))
       (λ (y : (c : ℕ) × (part_in (views k) w ≡ DescriptorPart c)). absurd (other (sym next.1 ∙ (sets p.0 of (y.0) (here ∙ y.1) next.0)))) a.5)
-      (subst (λ z. Turn views views' k (changed_from (views k) w z was (made_word d.op d.value (mem (PoolWord w))) (views k).claims (record (views k).log { phase = Applying todo }))) (sym q) (subst (λ z. Turn views views' k (changed_from (views k) w (mask_of how bits) was z (views k).claims (record (views k).log { phase = Applying todo }))) (sym e)
-      (subst (λ z. Turn views views' k (changed_from (views k) w (mask_of how bits) was n (views k).claims (log_changed z (views k).log))) ph t)))
+      (subst (λ z. Turn views views' k (changed_from step (views k) w z was (made_word d.op d.value (mem (PoolWord w))) (views k).claims (record (views k).log { phase = Applying todo }))) (sym q) (subst (λ z. Turn views views' k (changed_from step (views k) w (mask_of how bits) was z (views k).claims (record (views k).log { phase = Applying todo }))) (sym e)
+      (subst (λ z. Turn views views' k (changed_from step (views k) w (mask_of how bits) was n (views k).claims (log_changed z (views k).log))) ph t)))
     where
       sets : (p : Place) → (Rattle.pm_view.specs.Places.is_place o.shape p ≡ true) × (Rattle.pm_view.specs.Places.word_of o.shape p ≡ a.0.word) × EntryOf p a.0.op a.0.value → (c : ℕ) → part_of o.shape k w ≡ DescriptorPart c → a.0.word ≡ w → a.0.op ≡ op.Set
       sets p s c e z = let i = is_at o.shape (λ _. 0) w (Descr c) (ap (place_in (λ _. 0)) (descriptor_part o.shape k w c e)) in
@@ -101,7 +102,7 @@ pub or_from : KnownIsSo → (w bits found : ℕ) → Keeps (Or w bits found)
 unfolding op_tag
 or_from known w bits found o mem new views views' g k x ink law moves t = let m = law.allowed in let inside = subst (λ s. w < words_of s) (x.each_lane k ink).shape m.inside in
     let was : found < 2 ^ 64 = subst (λ z. z < 2 ^ 64) (sym moves.1) (x.small w) in (
-      change_entry o mem new views views' g x k ink op.Or (not_set op.Or (λ q. omega arith)) w bits (bit_or found bits) m (law.due refl) (ap (λ z. bit_or z bits) (sym moves.1)) (or_lt 64 found bits was m.small) m.small (Some found) moves.0 (next_at (views k) op.Or w bits (views k).log.phase (part_in (views k) w) m.fits) t,
+      change_entry o mem new views views' g x k ink (Or w bits found) op.Or (not_set op.Or (λ q. omega arith)) w bits (bit_or found bits) m (law.due refl) (ap (λ z. bit_or z bits) (sym moves.1)) (or_lt 64 found bits was m.small) m.small (Some found) moves.0 (next_at (views k) op.Or w bits (views k).log.phase (part_in (views k) w) m.fits) t,
       subst (FindsKnown (views k) w) (sym moves.1) (known o mem views g k x ink w inside),
     )
 
@@ -109,7 +110,7 @@ pub and_from : KnownIsSo → (w bits found : ℕ) → Keeps (And w bits found)
 unfolding op_tag
 and_from known w bits found o mem new views views' g k x ink law moves t = let m = law.allowed in let inside = subst (λ s. w < words_of s) (x.each_lane k ink).shape m.inside in
     let was : found < 2 ^ 64 = subst (λ z. z < 2 ^ 64) (sym moves.1) (x.small w) in (
-      change_entry o mem new views views' g x k ink op.And (not_set op.And (λ q. omega arith)) w bits (bit_and found bits) m (law.due refl) (ap (λ z. bit_and z bits) (sym moves.1)) (let z = and_le_l found bits in omega arith) (omega arith) (Some found) moves.0 (next_at (views k) op.And w bits (views k).log.phase (part_in (views k) w) m.fits) t,
+      change_entry o mem new views views' g x k ink (And w bits found) op.And (not_set op.And (λ q. omega arith)) w bits (bit_and found bits) m (law.due refl) (ap (λ z. bit_and z bits) (sym moves.1)) (let z = and_le_l found bits in omega arith) (omega arith) (Some found) moves.0 (next_at (views k) op.And w bits (views k).log.phase (part_in (views k) w) m.fits) t,
       subst (FindsKnown (views k) w) (sym moves.1) (known o mem views g k x ink w inside),
     )
 

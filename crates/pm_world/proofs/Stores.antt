@@ -1,12 +1,13 @@
 -- What each part of a drain does.
 use Rattle.std.specs.Prelude.{[], ◌∷◌}
-use Rattle.std.proofs.Common.{false, ◌≡◌, ℕ, ◌+◌, ◌<◌}
+use Rattle.std.proofs.Common.{false, ◌≡◌, ℕ, ◌<◌}
 use Rattle.pm_view.specs.Changes.{drained}
 use Rattle.pm_view.specs.Claims.{making, Drained}
 use Rattle.pm_view.specs.Log.{Phase, log_drained}
 use Rattle.pm_view.specs.View.{View}
 use Rattle.pm_view.specs.Views.{decided_by}
 use Rattle.pm_view.specs.Counts.{MayCount}
+use Rattle.pm_view.specs.Steps.Step.{Drain}
 use Rattle.pm_world.specs.Course.{past_made, past_decided}
 use Rattle.pm_world.specs.Laws.{Turn}
 use Rattle.pm_world.specs.Memory.{Memory}
@@ -14,7 +15,7 @@ use Rattle.pm_world.specs.World.{Opening, Views, Past, World}
 
 -- A DRAIN IS TWO STEPS: flushed changes are dropped, and chunks become runs whose descriptors are drained
 abbrev pub drops : View → View
-drops v = record v { claims = Drained (drained v.changes) ∷ v.claims; changes = drained v.changes; calls = v.calls + 1 }
+drops v = record v { claims = Drained (drained v.changes) ∷ v.claims; changes = drained v.changes; calls = Drain ∷ v.calls }
 
 abbrev pub Drops : Type 0
 Drops = (o : Opening) (mem : Memory) (views new : Views) (g : Past) (k : ℕ) → World o mem views g → k < o.lanes → MayCount (views k) → Turn views new k (drops (views k)) → World o mem new (past_made g (views k) (drained (views k).changes))

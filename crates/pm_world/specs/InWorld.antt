@@ -10,13 +10,14 @@ use Rattle.pm_view.specs.Places.{Block, Small, Big, Root, in_span}
 use Rattle.pm_view.specs.Steps.Step.{Load}
 use Rattle.pm_view.specs.View.{View}
 use Rattle.pm_view.specs.Views.{after, part_in, value_in}
+use Rattle.pm_world.specs.Causes.{Causes}
 use Rattle.pm_world.specs.Lanes.{is_occupancy}
 use Rattle.pm_world.specs.Logs.{seal_in}
 use Rattle.pm_world.specs.Memory.{Memory, PoolWord}
 use Rattle.pm_world.specs.Sizes.{ObjectsFit}
 use Rattle.pm_world.specs.World.{Opening, Views, Past, World}
 
--- THE VIEW IS ONE OF A WORLD, in which the word is x
+-- THE VIEW IS ONE OF A WORLD, in which the word is x, and each answer that a lane keeps has its cause
 pub record InWorld (v : View) (w x : ℕ) : Type 0 where
   pub opening : Opening
   pub memory : Memory
@@ -28,6 +29,7 @@ pub record InWorld (v : View) (w x : ℕ) : Type 0 where
   pub inside : w < words_of v.fixed.shape
   pub word : memory (PoolWord w) ≡ x
   pub sizes : ObjectsFit opening past
+  pub causes : Causes opening memory views past
 
 -- ---- WHAT IS FOUND agrees with what the lane knows: its generation and its seal are what its log says, and a run is of the class that is known
 abbrev pub stored_generation : Log → ℕ

@@ -9,17 +9,18 @@ use Rattle.pm_memory.specs.Solo.{Solo, Sees, opened_with}
 use Rattle.pm_memory.specs.SoloCalls.{Calls}
 use Rattle.pm_memory.specs.Survivors as memory
 use Rattle.pm_world.specs.Crash as world
+use Rattle.pm_world.specs.Causes.{Causes}
 use Rattle.pm_world.specs.Lanes.{Ghost}
 use Rattle.pm_world.specs.Lawful.{IsLawful}
 use Rattle.pm_world.specs.Laws.{History}
-use Rattle.pm_world.specs.Opens.{IsStart, OpensIdle}
+use Rattle.pm_world.specs.Opens.{IsStart, IsTaken, OpensIdle}
 use Rattle.pm_world.specs.Sizes.{ObjectsFit}
 use Rattle.pm_world.specs.SoloWorld.{memory_of}
 use Rattle.pm_world.specs.States.{State}
 use Rattle.pm_world.specs.World.{Opening, Views, Past, World}
 
 -- there is a world that began so, whose words are the memory's, where lane 0's view is v; each call of
--- its history finds what it knew
+-- its history finds what it knew, and each answer that the lane keeps has its cause
 pub record Stands (o : Opening) (m : Solo) (v : View) : Type 0 where
   pub views : Views
   pub past : Past
@@ -28,6 +29,7 @@ pub record Stands (o : Opening) (m : Solo) (v : View) : Type 0 where
   pub here : views 0 ≡ v
   pub world : World o (memory_of m) views past
   pub sizes : ObjectsFit o past
+  pub causes : Causes o (memory_of m) views past
   pub history : History o past was ghosts
   pub sees : Sees m v
   pub formed : All IsFormed m.changes
@@ -48,6 +50,7 @@ OpenedStarts = (o : Opening) (fixed : ℕ → Constants) (stop : Option ℕ) (ru
 -- IT STANDS IN THE WORLD that its words open
 abbrev pub OpenedStands : Type 0
 OpenedStands = (o : Opening) (fixed : ℕ → Constants) (generation : ℕ → ℕ) (runs zones : List ℕ) → (fixed 0).lane ≡ 0 → (fixed 0).lanes ≡ 1 → (fixed 0).shape ≡ o.shape → length runs ≡ length o.words / 512 → length zones ≡ 32
+    → IsTaken o (memory_of (opened_with o.words (fixed 0).stop runs zones))
     → OpensIdle o (memory_of (opened_with o.words (fixed 0).stop runs zones)) fixed generation → Stands o (opened_with o.words (fixed 0).stop runs zones) (idle (fixed 0) (generation 0))
 
 -- AND IN THE WORLD AFTER each call that lane 0's view allows

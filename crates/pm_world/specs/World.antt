@@ -106,7 +106,7 @@ pub record LaneFits (o : Opening) (mem : Memory) (g : Past) (k : ℕ) (v : View)
   pub zones : (z : ℕ) → (mem (ZoneLock z) == suc k) ≡ list_any (λ other. other == z) v.zones
   pub masks : All (λ (c : Undrained). (c.mask < 2 ^ 64) × (c.word < words_of o.shape)) v.changes
   pub room : length v.changes ≤ max_changes
-  pub within : ForSome v.fixed.stop (λ stop. v.calls ≤ stop)
+  pub within : ForSome v.fixed.stop (λ stop. length v.calls ≤ stop)
   pub alone : o.lanes ≡ 1 → AloneFits mem v
   pub entries : v.entries ≡ numbered_by k g.drew g.length
 

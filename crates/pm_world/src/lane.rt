@@ -1,4 +1,4 @@
-ghost use Rattle.std.specs.Prelude.{◌≡◌, ℕ, ◌%◌, ◌/◌, ◌^◌, ◌↔◌, IsTrue, IfOk, []};
+ghost use Rattle.std.specs.Prelude.{◌≡◌, ℕ, ◌%◌, ◌/◌, ◌^◌, ◌↔◌, IsTrue, IfOk, [], length};
 ghost use Rattle.pm_layout.specs.Chunks.{words_of};
 ghost use Rattle.pm_view.specs.View.{View, Constants};
 ghost use Rattle.pm_world.specs.OwnedBits.{none_owned};
@@ -161,7 +161,7 @@ impl<M: LawfulMem> Lane<M> {
 
     /// How many counted calls it made, modulo 2^64.
     pub fn calls(&self) -> u64
-        ensures { (v : View) → M.at self.now.memory v → result ≡ v.calls % 2 ^ 64 }
+        ensures { (v : View) → M.at self.now.memory v → result ≡ length v.calls % 2 ^ 64 }
     {
         self.memory.calls()
     }
