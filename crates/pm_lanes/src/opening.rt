@@ -162,20 +162,28 @@ fn recovered(alloc: Global, image: &RawImage) -> Result<Vec<u64>, AllocError>
 {
     let mut copy = image.copy(alloc)?;
     match recover(alloc, &mut copy) {
-        Ok(()) => Ok(words_of(alloc, &copy)?),
+        Ok(()) => Ok(words_of(copy)),
         Err(RecoverFault::Image(_)) => unreachable!(),
         Err(RecoverFault::Memory(error)) => Err(error),
     }
 }
 
-/// The words of an image, each below 2^64.
-fn words_of(alloc: Global, image: &RawImage) -> Result<Vec<u64>, AllocError>
-    ensures same { IfOk result (λ words. words.items ≡ image.now) }
-    ensures small { IfOk result (λ words. (w : ℕ) → slice_index words.items w < 2 ^ 64) }
+/// The words of an image, each below 2^64, in the memory that they have.
+fn words_of(image: RawImage) -> Vec<u64>
+    ensures same { result.items ≡ image }
+    ensures small { (w : ℕ) → slice_index result.items w < 2 ^ 64 }
 {
-    let mut words = Vec::with_capacity(alloc, image.len() as usize)?;
-    for i in 0..image.len() {
-        words.push(image.word(i))?;
+    let words = image.into_vec();
+    read_each(words.as_slice());
+    words
+}
+
+/// Reads each word. A proof knows the range of a word only where the code reads it; a compiler
+/// leaves the loop out.
+fn read_each(words: &[u64])
+    ensures { (w : ℕ) → slice_index words.now w < 2 ^ 64 }
+{
+    for i in 0..words.len() {
+        let _word = words[i];
     }
-    Ok(words)
 }

@@ -7,10 +7,10 @@ use Rattle.pm_lanes.proofs.opening.recovered.Goals as goal
 pub returns-in-Ok-clause-words : goal.returns-in-Ok-clause-words
 returns-in-Ok-clause-words c = λ pool is.
     let before : List ℕ = c.in_ok-copy.copy in
-    let after : List ℕ = c.in_ok-words_of-in-Ok.field-0.items in
+    let after : List ℕ = c.words_of.result.items in
     subst (λ (image : List ℕ). IsRecovered image after pool.lanes) c.in_ok-copy.ensures
     (subst (λ (words : List ℕ). IsRecovered before words pool.lanes)
-    (sym c.in_ok-words_of-in-Ok.ensures.same)
+    (sym c.words_of.ensures.same)
     ((c.in-Ok.ensures {u = tt}).recovered pool
     (subst (λ (image : List ℕ). IsMeaning image pool) (sym c.in_ok-copy.ensures) is)))
 
