@@ -12,6 +12,9 @@ use Rattle.solo_exec.specs.Torn.{HasNoTornMatch}
 use Rattle.pm_exec.specs.Runs.{RanOnLanes}
 use Rattle.pm_exec.specs.declared.outcome.Outcome.{Outcome}
 use Rattle.pm_image.specs.Means.{IsImageFault, IsMeaning}
+use Rattle.pm_image.specs.Steps.{IfImage}
+use Rattle.pm_image.specs.declared.fault.MeansFault.{MeansFault}
+use Rattle.pm_image.specs.declared.fault.MeansFault.TheVariants as means_fault
 use Rattle.pm_lanes.specs.Opens.{HasOtherLanes, HasOtherLayout, IsOpenCause as IsLanesCause}
 use Rattle.pm_lanes.specs.declared.fault.OpenFault.{OpenFault}
 use Rattle.pm_lanes.specs.declared.fault.OpenFault.TheVariants as lanes_fault
@@ -26,10 +29,24 @@ use Rattle.pm_text.specs.Report.{report_text}
 use Rattle.pm_text.specs.declared.report.LaneEnd.{LaneEnd}
 use Rattle.pm_options.specs.Words.{Exec}
 use Rattle.pm_commands.specs.Executed.{IsRunFault, IsRunOver, lanes_failure, open_failure, stop}
+use Rattle.pm_commands.specs.Failures.{failure_of}
 use Rattle.pm_commands.specs.LaneStops.{AreStopsFor}
-use Rattle.pm_commands.specs.Ways.{IsOneLane, IsOnLanes}
+use Rattle.pm_commands.specs.PoolFiles.{BytesFail}
+use Rattle.pm_commands.specs.Ways.{HasWay, IsOneLane, IsOnLanes, IsWay}
 use Rattle.pm_commands.specs.declared.failure.Failure.{Failure}
 use Rattle.pm_commands.specs.declared.failure.Failure.TheVariants.{NoMemory}
+use Rattle.pm_commands.specs.declared.ways.Way.{Way}
+use Rattle.pm_commands.specs.declared.ways.Way.TheVariants as way
+
+has_way : (script_text : List ℕ) (found : Way) → IsWay (lines script_text) found → HasWay (lines script_text)
+has_way script_text (way.OneLane script) is = inl (script, is)
+has_way script_text (way.Lanes script) is = inr (script, is)
+
+-- bytes that are no image are not run
+pub no_image : (source script_text : List ℕ) (e : Exec) (found : Way) (fault : MeansFault)
+    → IsWay (lines script_text) found → IfImage fault (BytesFail source) → IsRunFault source script_text e (failure_of fault)
+no_image source script_text e found (means_fault.Image wrong) is fails = (has_way script_text found is, fails)
+no_image source script_text e found means_fault.Memory is fails = tt
 
 -- a pool that was not opened for a single lane is not run
 pub not_opened : (source script_text : List ℕ) (e : Exec) (image : List ℕ) (script : OneLaneScript) (asked : Bor (List ℕ)) (fault : OneLaneFault)

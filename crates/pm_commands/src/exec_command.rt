@@ -7,21 +7,20 @@ ghost use Rattle.pm_commands.specs.Executed.{IsExecuted, IsRunFault, IsRunOf, Is
 ghost use Rattle.pm_commands.specs.Failures.{IsCauseBefore, IsExecCause};
 
 use crate::failure::Failure;
-use crate::image_bytes::{bytes_of_words, image_of};
+use crate::image_bytes::bytes_of_words;
 use crate::lane_stops::lane_stops;
-use crate::pool_files::{put, read};
+use crate::pool_files::{failure_of, image_from, put, read};
 use crate::ways::{Way, way_of};
 use pm_exec::PowerFailure;
-use pm_image::ImageFault;
 use pm_lanes::OpenFault;
-use pm_layout::{MAX_POOL_BYTES, WORD_BYTES};
+use pm_layout::MAX_POOL_BYTES;
 use pm_objects::{Entry, Sequence};
 use pm_options::ExecWords;
 use pm_script::stop_of;
 use pm_shelf::{Gate, Shelf};
 use pm_text::{LaneEnd, report_text};
 use solo_exec::OpenFault as OneLaneFault;
-use std::alloc::{AllocError, Global};
+use std::alloc::Global;
 use std::sync::Wait;
 use std::thread::Threads;
 
@@ -67,28 +66,25 @@ fn run_files<'a, R: Threads + Wait + Sync, S: Shelf, G: Gate + Sync>(
 {
     let source = read(alloc, words.pool, MAX_POOL_BYTES, shelf)?;
     let text = read(alloc, words.script, MAX_SCRIPT_BYTES, shelf)?;
-    run_script(rt, alloc, words, &source, &text, gate)
+    run_script(rt, alloc, words, source, &text, gate)
 }
 
-/// Runs the script of a text on the pool of some bytes.
+/// Runs the script of a text on the pool of some bytes. They are freed before it runs.
 fn run_script<'a, R: Threads + Wait + Sync, G: Gate + Sync>(
     rt: &R,
     alloc: Global,
     words: &ExecWords<'a>,
-    source: &[u8],
+    source: Vec<u8>,
     text: &[u8],
     gate: &G,
 ) -> Result<Left, Failure<'a>>
-    ensures ran { IfOk result (λ left. IsRunOver source.now text.now (exec_asked words.now) left.bytes.items left.report.items) }
-    ensures cause { IfErr result (IsRunFault source.now text.now (exec_asked words.now)) }
+    ensures ran { IfOk result (λ left. IsRunOver source.items text.now (exec_asked words.now) left.bytes.items left.report.items) }
+    ensures cause { IfErr result (IsRunFault source.items text.now (exec_asked words.now)) }
 {
     let way = way_of(alloc, text)?;
-    if source.len() % WORD_BYTES as usize != 0 {
-        return Err(Failure::Faulty(ImageFault::Size(source.len() as u64)));
-    }
-    let image = match image_of(alloc, source) {
+    let image = match image_from(alloc, source) {
         Ok(image) => image,
-        Err(AllocError) => return Err(Failure::NoMemory),
+        Err(fault) => return Err(failure_of(fault)),
     };
     match way {
         Way::OneLane(script) => {

@@ -43,5 +43,5 @@ pub fn image_of(alloc: Global, bytes: &[u8]) -> Result<RawImage, AllocError>
 {
     let mut words = vec![in alloc; 0; bytes.len() / WORD_BYTES as usize]?;
     words_of(bytes, &mut words);
-    RawImage::from_words(alloc, &words)
+    Ok(RawImage::from_vec(words))
 }

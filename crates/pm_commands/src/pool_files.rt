@@ -63,6 +63,15 @@ pub fn image_in(alloc: Global, bytes: &[u8]) -> Result<RawImage, MeansFault>
     Ok(image)
 }
 
+/// The image that the bytes of a file are, where they are whole words. The bytes are freed.
+pub fn image_from(alloc: Global, bytes: Vec<u8>) -> Result<RawImage, MeansFault>
+    ensures image { IfOk result (λ image. image ≡ words_of bytes.items) }
+    ensures in_words { OnOk result (length bytes.items % 8 ≡ 0) }
+    ensures fault { IfErr result (λ e. IfImage e (BytesFail bytes.items)) }
+{
+    image_in(alloc, &bytes)
+}
+
 /// The failure that an image without a meaning is.
 pub fn failure_of(fault: MeansFault) -> Failure<'static>
     ensures { result ≡ failure_of fault }
