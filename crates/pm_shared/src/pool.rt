@@ -1,4 +1,4 @@
-ghost use Rattle.std.specs.Prelude.{◌≡◌, ℕ, ◌+◌, ◌<◌, ◌≤◌, List, [], ◌∷◌, ◌++◌, length, slice_index, replicate, All, IfOk};
+ghost use Rattle.std.specs.Prelude.{◌≡◌, ℕ, ◌+◌, ◌^◌, ◌<◌, ◌≤◌, List, [], ◌∷◌, ◌++◌, length, slice_index, replicate, All, IfOk};
 ghost use Rattle.std.specs.Result.{OnOk, OnErr};
 ghost use Rattle.std.specs.Mem.Slots.{slots_items, slots_len, IsFull};
 ghost use mathlib.Core.Option.{some};
@@ -50,27 +50,30 @@ fn add(all: &mut Vec<u64>, more: &[u64]) -> Result<(), AllocError>
 }
 
 /// Adds so many zeros at the end.
-fn add_zeros(alloc: Global, all: &mut Vec<u64>, count: usize) -> Result<(), AllocError>
+fn add_zeros(all: &mut Vec<u64>, count: usize) -> Result<(), AllocError>
+    requires { length all.old.items + count < 2 ^ 64 }
     ensures { OnOk result (all.new.items ≡ all.old.items ++ replicate count 0) }
 {
-    let zeros = vec![in alloc; 0; count]?;
-    add(all, zeros.as_slice())?;
+    all.resize(all.len() + count, 0)?;
     Ok(())
 }
 
 impl Beginning {
-    /// The words of the table.
+    /// The words of the table, in a vector that has its whole room from the start: one that grows
+    /// copies the pool.
     fn table_words(&self, alloc: Global) -> Result<Vec<u64>, AllocError>
         requires { CanBegin self.now }
         ensures { IfOk result (λ all. all.items ≡ table_words self.now) }
     {
         let lines = self.words.len() / LINE_WORDS as usize;
-        let others = self.shape.zones + 2 + self.shape.lanes;
-        let mut all = self.words.to_vec(alloc)?;
-        add_zeros(alloc, &mut all, lines)?;
+        let others = (self.shape.zones + 2 + self.shape.lanes) as usize;
+        let pages = self.runs.len() + self.zones.len();
+        let mut all = Vec::with_capacity(alloc, self.words.len() + lines + pages + others)?;
+        add(&mut all, self.words.as_slice())?;
+        add_zeros(&mut all, lines)?;
         add(&mut all, self.runs.as_slice())?;
         add(&mut all, self.zones.as_slice())?;
-        add_zeros(alloc, &mut all, others as usize)?;
+        add_zeros(&mut all, others)?;
         Ok(all)
     }
 }
