@@ -41,7 +41,7 @@ use Rattle.pm_exec.specs.Works.{AddedNext, DidCalls, all_answers, lines_left}
 use Rattle.pm_exec.specs.declared.answer.Answer.{Answer}
 use Rattle.pm_exec.specs.declared.work.LaneWork.{LaneWork}
 use Rattle.pm_exec.proofs.Choices.{IsAnsweredWork, are_judged, but_fates, judged_flags, refated, still_in_order}
-use Rattle.pm_exec.proofs.Reported.{EndedAt, InOrder, LaneSays, NumberOf, OfSome, are_entries, are_history, are_of_lane, as_long, busy_at, least_number, number_below}
+use Rattle.pm_exec.proofs.Reported.{EndedAt, InOrder, LaneSays, NumberOf, OfSome, are_entries, are_history, are_of_lane, as_long, least_number, number_below, refused_at}
 use Rattle.pm_exec.proofs.Reports.{LaneLeft, all_answered, as_many, entries_with, first_calls, lane_says}
 use Rattle.pm_exec.proofs.Entries.{all_in, in_all}
 use Rattle.pm_exec.proofs.Stopped.{LaneLaws, has_stopped, none_left}
@@ -256,9 +256,9 @@ module _ {G : Type 0} {names : Names} (laws : PoolLaws) (b : Beginning) (keep_nu
       pub all_are_there : length entries ≡ g.length
       all_are_there = as_long g keep b.lanes in_history entries_at says entries in_order
 
-      -- a call that was aborted as Busy ended so
-      pub ends_busy : (i : ℕ) (d : Entry) → i < length entries → (get_or entries i d).fate ≡ fate.Aborted (error.Refused Busy) → EndedAt g i (get_or entries i d)
-      ends_busy = busy_at g keep b.lanes in_history entries_at says entries in_order
+      -- a call that was refused ended so
+      pub ends_refused : (i : ℕ) (d : Entry) (r : Refusal) → i < length entries → refused_as (get_or entries i d).fate ≡ Some r → EndedAt g i (get_or entries i d) r
+      ends_refused = refused_at g keep b.lanes in_history entries_at says entries in_order
 
       -- a lane without an unanswered call has as many entries as answers
       pub as_answered : (k : ℕ) → k < b.lanes → (work_of k).unanswered ≡ None → length (entries_of_lane k entries) ≡ length (work_of k).answers.items
@@ -418,7 +418,7 @@ ran_on_lanes {G} laws more origin layout script stops keep out b before after fl
           (record { place = k; view = lane.view; there = lane.there; lane_is = lane.lane_is }) calls
           ((did k high).counted calls ended) ((did k high).due calls ended);
       busy = λ call d low is.
-          let ended = ends_busy laws b keep script.lines before after out.image.items flags ran works w did out.image.items flags ran.survives ran.judged entries order call d low is in
+          let ended = ends_refused laws b keep script.lines before after out.image.items flags ran works w did out.image.items flags ran.survives ran.judged entries order call d Busy low (ap refused_as is) in
           record {
             of_lane = ended.of_lane;
             operation = ended.ended.operation;

@@ -25,7 +25,7 @@ use Rattle.pm_call.specs.Positions.{Position, aborted_at, position_of}
 use Rattle.pm_call.specs.Standing.{StandsWith}
 use Rattle.pm_calls.specs.Calls.{IsWhole, call_of, line_of, line_operation, numbers_of}
 use Rattle.pm_calls.specs.declared.names.Names.{Names}
-use Rattle.pm_exec.specs.Answers.{EndedBusy, EndsSo, GivesUpSo, IsSpent, MayHaveFate, rans_of, run_of}
+use Rattle.pm_exec.specs.Answers.{EndedAs, refused_as, EndsSo, GivesUpSo, IsSpent, MayHaveFate, rans_of, run_of}
 use Rattle.pm_exec.specs.Lines.{Awaits}
 use Rattle.pm_exec.specs.Running.{CallCame, LinesRan, OpensWith, RestsWith, RootCame, lost_call, with_ended}
 use Rattle.pm_exec.specs.Shown.{GoesOn, fate_of}
@@ -134,33 +134,31 @@ module _ {names : Names} {lines : List ScriptLine} {values : List (ℕ × Value)
   given_up_fate : (reply : Option Value) (e : TxErr) → GivesUpSo op reply e → (level ≡ 0 → is_begin op ≡ true) → MayHaveFate (all reply) (fate.Aborted e)
   given_up_fate reply e up begins = aborted_fate b.goes said (told op reply) refl lane (not_single reply begins) e up
 
--- ---- A CALL THAT WAS ABORTED AS Busy
+-- ---- A CALL THAT WAS REFUSED
 
-not_aborted : (why : Option Refusal) → fate_of why ≡ fate.Aborted (error.Refused refusal.Busy) → ⊥
-not_aborted None same = cc
-not_aborted (Some r) same = cc
+none_so : (o : Option Refusal) (r : Refusal) → o ≡ None → o ≡ Some r → ⊥
+none_so o r none is = let clash : None ≡ Some r = sym none ∙ is in cc
 
-abbrev aborted_for : TxErr → Fate → TxErr
-aborted_for e (fate.Aborted other) = other
-aborted_for e f = e
+same_refusal : (s r : Refusal) → Some s ≡ Some r → s ≡ r
+same_refusal s r same = cc
 
-error_in : {e f : TxErr} → fate.Aborted e ≡ fate.Aborted f → e ≡ f
-error_in {e} same = ap (aborted_for e) same
+no_refusal : (canceled : Bool) (errnum : ℕ) → refused_as (fate.Aborted (if canceled then error.Canceled else error.User errnum)) ≡ None
+no_refusal true errnum = refl
+no_refusal false errnum = refl
 
-abbrev refused_for : Refusal → TxErr → Refusal
-refused_for r (error.Refused other) = other
-refused_for r e = r
+-- its last operation's recorded reply is the refusal
+ended_as : (before : List Told) (asked : Operation) (reply : Option Value) (r : Refusal) → reply ≡ Some (Refused r) → EndedAs r (before ++ told asked reply ∷ [])
+ended_as before asked reply r replied = record { operation = asked; last = last_told before (told asked reply) ∙ ap (λ x. Some (told asked x)) replied }
 
-not_refused : (canceled : Bool) (errnum : ℕ) → (if canceled then error.Canceled else error.User errnum) ≡ error.Refused refusal.Busy → ⊥
-not_refused true errnum same = cc
-not_refused false errnum same = cc
+ended_given : (before : List Told) (asked : Operation) (reply : Option Value) (e : TxErr) → GivesUpSo asked reply e → (r : Refusal) → refused_as (fate.Aborted e) ≡ Some r → EndedAs r (before ++ told asked reply ∷ [])
+ended_given before asked reply e (inl (s, plain, replied, is)) r refused =
+    ended_as before asked reply r (replied ∙ ap (λ x. Some (Refused x)) (same_refusal s r (sym (ap (λ x. refused_as (fate.Aborted x)) is) ∙ refused)))
+ended_given before asked reply e (inr (errnum, aborts, none, is)) r refused =
+    absurd (none_so (refused_as (fate.Aborted e)) r (ap (λ x. refused_as (fate.Aborted x)) is ∙ no_refusal (errnum == 0) errnum) refused)
 
--- its last operation was told so
-ended_busy : (before : List Told) (asked : Operation) (reply : Option Value) (e : TxErr) → GivesUpSo asked reply e → e ≡ error.Refused refusal.Busy → EndedBusy (before ++ told asked reply ∷ [])
-ended_busy before asked reply e (inl (r, plain, replied, is)) busy =
-    let same : r ≡ refusal.Busy = ap (refused_for r) (sym is ∙ busy) in
-    record { operation = asked; last = last_told before (told asked reply) ∙ ap (λ x. Some (told asked x)) (replied ∙ ap (λ x. Some (Refused x)) same) }
-ended_busy before asked reply e (inr (errnum, aborts, none, is)) busy = absurd (not_refused (errnum == 0) errnum (sym is ∙ busy))
+ended_over : (before : List Told) (asked : Operation) (why : Option Refusal) (r : Refusal) → refused_as (fate_of why) ≡ Some r → EndedAs r (before ++ told asked (option_map Refused why) ∷ [])
+ended_over before asked None r refused = absurd (none_so None r refl refused)
+ended_over before asked (Some s) r refused = ended_as before asked (Some (Refused s)) r (ap (λ x. Some (Refused x)) (same_refusal s r refused))
 
 -- ---- THE LANE
 
@@ -215,7 +213,7 @@ module _ {M : Type 0} (at : M → View → Type 0) (h : LaneHistory) where
             number = refl;
             shown = ended_shown h.lane b rising why came.2 came.3;
             fate = subst (MayHaveFate (ran.told ++ told (line_operation names ran.said) (option_map Refused why) ∷ [])) (sym is) (ended_fate h.lane b rising why came.3);
-            busy = λ same. absurd (not_aborted why (sym is ∙ same));
+            ended = λ r refused. ended_over ran.told (line_operation names ran.said) why r (sym (ap refused_as is) ∙ refused);
           },
           ap is_answered is ∙ answers why,
         )
@@ -241,7 +239,7 @@ module _ {M : Type 0} (at : M → View → Type 0) (h : LaneHistory) where
             shown = subst (λ n. IsShown (call_of names h.lane of_call) (record { values = values.items; at = n }) (run_of h.lane d.call)) ran.of_line
                 (given_up_shown h.lane b rising came.0 e came.2 came.5);
             fate = given_up_fate h.lane b rising came.0 e came.2 came.5;
-            busy = λ same. ended_busy ran.told op came.0 e came.2 (error_in same);
+            ended = ended_given ran.told op came.0 e came.2;
           },
           refl,
         )
@@ -275,7 +273,7 @@ module _ {M : Type 0} (at : M → View → Type 0) (h : LaneHistory) where
             number = refl;
             shown = ended_shown h.lane b rising None ends_so.0 ends_so.1;
             fate = fates.1;
-            busy = λ same. absurd cc;
+            ended = λ r refused. absurd (none_so None r refl refused);
           },
           refl,
         )

@@ -13,7 +13,7 @@ use Rattle.pm_objects.specs.declared.history.Fate.TheVariants as fate
 use Rattle.pm_objects.specs.declared.history.Reply.{Reply}
 use Rattle.pm_objects.specs.declared.history.TxErr.TheVariants as error
 use Rattle.pm_objects.specs.declared.history.Value.TheVariants.{Refused}
-use Rattle.pm_objects.specs.declared.refusal.Refusal.TheVariants.{Busy}
+use Rattle.pm_objects.specs.declared.refusal.Refusal.{Refusal}
 use Rattle.pm_model.specs.Inside.{Ran}
 use Rattle.pm_model.specs.CallStep.{CallRun}
 use Rattle.pm_model.specs.History.{IsHistory, is_answered, is_lost, without_lost}
@@ -24,7 +24,7 @@ use Rattle.pm_call.specs.Histories.{Ended, ended_of}
 use Rattle.pm_crash.specs.Calls.{IsRunOf}
 use Rattle.pm_crash.specs.Facts.{last_of, last_or}
 use Rattle.pm_crash.specs.Replayed.{kept_calls}
-use Rattle.pm_exec.specs.Answers.{EndedBusy, EndsAsTold, MayHaveFate, ran_of, run_of}
+use Rattle.pm_exec.specs.Answers.{EndedAs, EndsAsRecorded, MayHaveFate, refused_as, ran_of, run_of}
 use Rattle.pm_exec.specs.Reports.{entries_of_lane}
 use Rattle.pm_exec.proofs.Rising.{Falls, Has, Rises, filter_has, filter_rises, has_at, has_left, in_filter, in_map, in_reverse, map_falls, map_has, more_passes, one_of_number, place_of, reverse_has, reverse_rises, same_rising, zip_left, zip_push, zip_right, zip_rises, zip_through}
 use Rattle.pm_exec.proofs.Shown.{run_fate, run_shown}
@@ -93,7 +93,7 @@ pub record Shows (lane : ℕ) (e : Entry) (d : Ended) : Type 0 where
   pub lane_is : e.call.lane ≡ lane
   pub shown : IsShown e.call e.reply (run_of lane d.call)
   pub fate : MayHaveFate d.call e.fate
-  pub busy : EndsAsTold d.call e.fate
+  pub ended : EndsAsRecorded d.call e.fate
 
 abbrev pub told_by_lane : ℕ → Past → List Ended
 told_by_lane lane g = reverse (map ended_of (numbered_by lane g.drew g.length))
@@ -141,12 +141,12 @@ is_entry e v run shows of = record {
   fate = run_fate v.call run e.fate of.told shows.fate;
 }
 
--- ---- CALLS THAT WERE ABORTED AS Busy
+-- ---- CALLS THAT WERE REFUSED
 
 -- a call of the history ended so, with an operation of its entry
-pub record EndedAt (g : Past) (call : ℕ) (e : Entry) : Type 0 where
+pub record EndedAt (g : Past) (call : ℕ) (e : Entry) (r : Refusal) : Type 0 where
   pub of_lane : (g.drew call).fixed.lane ≡ e.call.lane
-  pub ended : EndedBusy (g.drew call).call
+  pub ended : EndedAs r (g.drew call).call
   pub among : Contains e.call.operations ended.operation
 
 last_has : (told : List Told) (t : Told) → last_of told ≡ Some t → Has told t
@@ -297,16 +297,16 @@ module _ (g : Past) (keep : ℕ → Bool) (lanes : ℕ) (of_lanes : (n : ℕ) �
         omega (arith, fits, is)) in
         omega (arith, most, least)
 
-    -- ---- CALLS THAT WERE ABORTED AS Busy
+    -- ---- CALLS THAT WERE REFUSED
 
-    pub busy_at : (i : ℕ) (d : Entry) → i < length entries → (get_or entries i d).fate ≡ fate.Aborted (error.Refused Busy) → EndedAt g i (get_or entries i d)
-    busy_at i d low is =
+    pub refused_at : (i : ℕ) (d : Entry) (r : Refusal) → i < length entries → refused_as (get_or entries i d).fate ≡ Some r → EndedAt g i (get_or entries i d) r
+    refused_at i d r low is =
         let s = stands_at i d low in
-        let ended = s.shows.busy is in
+        let ended = s.shows.ended r is in
         record {
           of_lane = s.of_lane ∙ sym s.shows.lane_is;
           ended = ended;
-          among = shown_has (get_or entries i d).call (get_or entries i d).reply s.lane (g.drew i).call (record { operation = ended.operation; reply = Some (Refused Busy) }) s.shows.shown (last_has (g.drew i).call (record { operation = ended.operation; reply = Some (Refused Busy) }) ended.last);
+          among = shown_has (get_or entries i d).call (get_or entries i d).reply s.lane (g.drew i).call (record { operation = ended.operation; reply = Some (Refused r) }) s.shows.shown (last_has (g.drew i).call (record { operation = ended.operation; reply = Some (Refused r) }) ended.last);
         }
 
     -- ---- THE HISTORY

@@ -8,7 +8,7 @@ use Rattle.pm_objects.specs.declared.history.Entry.{Entry}
 use Rattle.pm_objects.specs.declared.history.Fate.{Fate}
 use Rattle.pm_objects.specs.declared.history.Fate.TheVariants as fate
 use Rattle.pm_objects.specs.declared.history.TxErr.TheVariants as error
-use Rattle.pm_objects.specs.declared.refusal.Refusal.TheVariants.{Busy}
+use Rattle.pm_objects.specs.declared.refusal.Refusal.{Refusal}
 use Rattle.pm_model.specs.History.{is_answered, is_lost}
 use Rattle.pm_view.specs.View.{Numbered, View}
 use Rattle.pm_world.specs.World.{Past, numbered_by}
@@ -34,9 +34,9 @@ open_lost : (b : Bool) → is_lost (open_fate b) ≡ not b
 open_lost true = refl
 open_lost false = refl
 
-open_apart : (b : Bool) → open_fate b ≡ fate.Aborted (error.Refused Busy) → ⊥
-open_apart true same = cc
-open_apart false same = cc
+open_apart : (b : Bool) (r : Refusal) → refused_as (open_fate b) ≡ Some r → ⊥
+open_apart true r same = cc
+open_apart false r same = cc
 
 open_may : (b : Bool) (d : Ended) → MayBeKeptOrLost d → MayHaveFate d.call (open_fate b)
 open_may true d both = both.0
@@ -82,8 +82,8 @@ module _ (names : Names) (k : ℕ) (flag : Bool) where
   module _ (g : Past) (keep : ℕ → Bool) (v : View) (xs : List Answer) where
     says_shown : (u : Option Answer) → LaneLeft g keep v xs u → AllZip (Shows k) (entries_with xs u) (told_by_lane k g)
     says_shown u left = two_parts (IsAnswer names k) (Shows k) xs u (told_by_lane k g)
-        (λ a d is. record { number = is.number; lane_is = refl; shown = is.shown; fate = is.fate; busy = is.busy })
-        (λ a d here is. record { number = is.number; lane_is = refl; shown = is.shown; fate = open_may flag d (left.either a d here is); busy = λ same. absurd (open_apart flag same) })
+        (λ a d is. record { number = is.number; lane_is = refl; shown = is.shown; fate = is.fate; ended = is.ended })
+        (λ a d here is. record { number = is.number; lane_is = refl; shown = is.shown; fate = open_may flag d (left.either a d here is); ended = λ r refused. absurd (open_apart flag r refused) })
         (subst (λ (es : List Numbered). AllZip (IsAnswer names k) (xs ++ option_to_list u) (reverse (map ended_of es))) left.entries left.shown)
 
     settled : (u : Option Answer) → LaneLeft g keep v xs u → (e : Entry) → Has (map answered_entry xs) e → is_answered e.fate ≡ true

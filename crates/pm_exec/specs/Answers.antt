@@ -12,7 +12,7 @@ use Rattle.pm_objects.specs.declared.history.TxErr.TheVariants as error
 use Rattle.pm_objects.specs.declared.history.Value.{Value}
 use Rattle.pm_objects.specs.declared.history.Value.TheVariants.{Refused}
 use Rattle.pm_objects.specs.declared.refusal.Refusal.{Refusal}
-use Rattle.pm_objects.specs.declared.refusal.Refusal.TheVariants.{Busy}
+use Rattle.pm_objects.specs.declared.refusal.Refusal.{Refusal}
 use Rattle.pm_model.specs.CallStep.{CallRun}
 use Rattle.pm_model.specs.Inside.{Ran, error_for, is_action, is_begin}
 use Rattle.pm_model.specs.Outside.{is_outside}
@@ -62,13 +62,20 @@ reply_of a = record { values = a.values.items; at = a.at }
 abbrev pub MayHaveFate : List Told → Fate → Type 0
 MayHaveFate told f = IsFate (is_single (rans_of told)) (rans_of told) f
 
--- a call that was aborted as Busy ended with the operation that was told so
-pub record EndedBusy (told : List Told) : Type 0 where
-  pub operation : Operation
-  pub last : last_of told ≡ Some (record { operation = operation; reply = Some (Refused Busy) })
+-- the refusal for which a call was aborted, or with which a call of one operation was answered
+abbrev pub refused_as : Fate → Option Refusal
+refused_as (fate.Aborted (error.Refused r)) = Some r
+refused_as (fate.Refused r) = Some r
+refused_as f = None
 
-abbrev pub EndsAsTold : List Told → Fate → Type 0
-EndsAsTold told f = f ≡ fate.Aborted (error.Refused Busy) → EndedBusy told
+-- a call ended with an operation whose recorded reply is this refusal
+pub record EndedAs (r : Refusal) (told : List Told) : Type 0 where
+  pub operation : Operation
+  pub last : last_of told ≡ Some (record { operation = operation; reply = Some (Refused r) })
+
+-- so it did with the refusal of its fate
+abbrev pub EndsAsRecorded : List Told → Fate → Type 0
+EndsAsRecorded told f = (r : Refusal) → refused_as f ≡ Some r → EndedAs r told
 
 -- THE ANSWER SHOWS THE CALL of a lane, in lines with these names: its number, its lines with what
 -- they gave, and its fate
@@ -76,7 +83,7 @@ pub record IsAnswer (names : Names) (lane : ℕ) (a : Answer) (d : Ended) : Type
   pub number : a.number ≡ d.number
   pub shown : IsShown (call_of names lane (lines_of a)) (reply_of a) (run_of lane d.call)
   pub fate : MayHaveFate d.call a.fate
-  pub busy : EndsAsTold d.call a.fate
+  pub ended : EndsAsRecorded d.call a.fate
 
 -- of a call that was not answered either is so: an image may keep it or lose it
 abbrev pub MayBeKeptOrLost : Ended → Type 0
