@@ -9,6 +9,7 @@ use Rattle.pm_view.specs.Claims.{Claim, making, header_in, geometry}
 use Rattle.pm_view.specs.Log.{Log}
 use Rattle.pm_view.specs.Places.{Geometry, Place, InRun, InHuge, Descr, RootWord, Block, header}
 use Rattle.pm_view.specs.View.{View}
+use Rattle.pm_view.specs.Steps.{Step}
 use Rattle.pm_world.specs.Sights.{Hold, hold_of, is_recorded}
 use Rattle.pm_crash.specs.Footprints.{bit_before}
 use Rattle.pm_crash.specs.Sim.{Grows, IsSamePlace, sees_at}

@@ -13,6 +13,7 @@ use Rattle.pm_view.specs.Log.{Log, Recorded, place_at}
 use Rattle.pm_view.specs.Places.{Place, Block, Small, Big, in_span, place_after, word_of}
 use Rattle.pm_view.specs.View.{View, Told}
 use Rattle.pm_view.specs.Views.{value_in}
+use Rattle.pm_view.specs.Steps.{Step}
 use Rattle.pm_world.specs.InWorld.{IsSound, SizesFit, block_bytes}
 use Rattle.pm_world.specs.LaneFields.{Standing, moved}
 use Rattle.pm_world.specs.Sights.{is_recorded}

@@ -16,6 +16,7 @@ use Rattle.pm_view.specs.Places.{Block, Small, Big, Root, word_of}
 use Rattle.pm_view.specs.Steps.Step.{Draw, Tell}
 use Rattle.pm_view.specs.View.{View}
 use Rattle.pm_view.specs.Views.{actions_told, after, value_in}
+use Rattle.pm_view.specs.Steps.{Step}
 use Rattle.pm_world.specs.InWorld.{IsSound, SizesFit}
 use Rattle.pm_world.specs.LaneFields.{Standing}
 use Rattle.pm_world.specs.Lanes.{is_occupancy}

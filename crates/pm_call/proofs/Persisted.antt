@@ -10,6 +10,7 @@ use Rattle.pm_view.specs.Log.{Log, Open, Recorded, new_log, old_of}
 use Rattle.pm_view.specs.Places.{Place, is_data, word_of}
 use Rattle.pm_view.specs.View.{View}
 use Rattle.pm_view.specs.Views.{after_all, value_in}
+use Rattle.pm_view.specs.Steps.{Step}
 use Rattle.pm_world.specs.InWorld.{SizesFit}
 use Rattle.pm_world.specs.LaneFields.{Standing, moved}
 use Rattle.pm_world.specs.Memory.{bit}

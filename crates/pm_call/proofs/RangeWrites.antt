@@ -23,6 +23,7 @@ use Rattle.pm_view.specs.Places.{Place, Block, is_data, word_of}
 use Rattle.pm_view.specs.Steps.Step.{Tell}
 use Rattle.pm_view.specs.View.{View, Told}
 use Rattle.pm_view.specs.Views.{after, after_all, value_in}
+use Rattle.pm_view.specs.Steps.{Step}
 use Rattle.pm_world.specs.LaneFields.{Standing, at_work, moved}
 use Rattle.pm_world.specs.Lanes.{is_occupancy}
 use Rattle.pm_world.specs.Lawful.{Allowed, place_in}

@@ -12,6 +12,7 @@ use Rattle.pm_view.specs.Places.{Small}
 use Rattle.pm_view.specs.Steps.Step.{Tell}
 use Rattle.pm_view.specs.View.{Told, View}
 use Rattle.pm_view.specs.Views.{actions_told, after}
+use Rattle.pm_view.specs.Steps.{Step}
 use Rattle.pm_world.specs.LaneFields.{listed}
 use Rattle.pm_world.specs.declared.lane.HeldLock.{HeldLock}
 use Rattle.pm_crash.specs.Calls.{pending_after, pending_of, pending_with}

@@ -20,6 +20,7 @@ use Rattle.pm_view.specs.Places.{Place, Block, word_of}
 use Rattle.pm_view.specs.Steps.Step.{Load, Store}
 use Rattle.pm_view.specs.View.{View}
 use Rattle.pm_view.specs.Views.{after, changed_from, decided_by, learned, marked_by, part_in, value_in, was_of}
+use Rattle.pm_view.specs.Steps.{Step}
 use Rattle.pm_world.specs.LaneFields.{Standing}
 use Rattle.pm_world.specs.Lawful.{MayStore, StoreFits, place_in}
 use Rattle.pm_world.specs.Sights.{is_logged_from, is_recorded}

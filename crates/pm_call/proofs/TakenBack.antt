@@ -12,6 +12,7 @@ use Rattle.pm_view.specs.Places.{Place, Block, Small, Big, Root, word_of}
 use Rattle.pm_view.specs.View.{View, Constants}
 use Rattle.pm_view.specs.Views.{after_all, decided_by, value_in}
 use Rattle.pm_view.specs.Log.{log_drained}
+use Rattle.pm_view.specs.Steps.{Step}
 use Rattle.pm_world.specs.Logs.{AreRestored}
 use Rattle.pm_world.specs.States.{given}
 use Rattle.pm_world.specs.Sights.{is_pictured, is_recorded, picture}

@@ -1,6 +1,6 @@
 -- STOPS ALONG A RUN: what never changes of a lane's view stays, its count of calls only grows, and
 -- where a lane found the stop word set some lane is at its stop.
-use Rattle.std.proofs.Common.{◌≡◌, ◌⊎◌, inl, inr, ⊎_elim, ℕ, zero, suc, ◌+◌, ◌<◌, ◌≤◌, ◌==◌, not}
+use Rattle.std.proofs.Common.{length, ◌≡◌, ◌⊎◌, inl, inr, ⊎_elim, ℕ, zero, suc, ◌+◌, ◌<◌, ◌≤◌, ◌==◌, not}
 use Rattle.std.proofs.Common.{Bool, true, false, Contains, List, [], ◌∷◌, Option, None, Some}
 use Rattle.std.proofs.Common.{IsSomeAnd, refl, sym, ap, ◌∙◌, subst, arith, eq-eqb}
 use Rattle.std.specs.Option.{ForSome}
