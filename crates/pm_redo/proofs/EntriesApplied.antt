@@ -22,6 +22,7 @@ use Rattle.pm_view.specs.Places.{Place, InRun, InHuge, Descr, RootWord}
 use Rattle.pm_view.specs.Steps.Step.{Store}
 use Rattle.pm_view.specs.View.{View, runs_one}
 use Rattle.pm_view.specs.Views.{after, after_all, changed_from, marked_by, was_of}
+use Rattle.pm_view.specs.Steps.{Step}
 use Rattle.pm_world.specs.Lawful.{Allowed, ChangeFits, StoreFits}
 use Rattle.pm_world.specs.Logs.{ends_with}
 use Rattle.pm_world.proofs.PlacesAt.{IsAt, is_at}

@@ -19,6 +19,7 @@ use Rattle.pm_view.specs.Places.{Place, InRun, InHuge, Descr, RootWord, Block, S
 use Rattle.pm_view.specs.Steps.Step.{Store}
 use Rattle.pm_view.specs.View.{View, runs_one}
 use Rattle.pm_view.specs.Views.{after, changed_from, marked_by, was_of}
+use Rattle.pm_view.specs.Steps.{Step}
 use Rattle.pm_world.specs.Lawful.{Allowed, EntersAt, EntersWord, HoldsRoot, IsOwnData, MayChangeAt, block_in, StoreFits, place_in}
 use Rattle.pm_world.specs.Logs.{EntryOf}
 use Rattle.pm_plan.specs.Notes.{AreNotes, DrainedTo, Note, Valued, noted}

@@ -15,6 +15,7 @@ use Rattle.pm_view.specs.Log.{Log, Open, place_at}
 use Rattle.pm_view.specs.Places.{Place, RootWord}
 use Rattle.pm_view.specs.View.{View, runs_one}
 use Rattle.pm_view.specs.Views.{after_all}
+use Rattle.pm_view.specs.Steps.{Step}
 use Rattle.pm_world.specs.Lawful.{EntersAt, EntersWord, KeepsRoot, place_in}
 use Rattle.pm_world.specs.Lanes.{all_held}
 use Rattle.pm_world.specs.States.{root_line}

@@ -9,6 +9,7 @@ use Rattle.pm_view.specs.Entries.{Entry, first_of_two}
 use Rattle.pm_view.specs.Log.{Idle, next_log}
 use Rattle.pm_view.specs.View.{View}
 use Rattle.pm_view.specs.Views.{after_all, value_in}
+use Rattle.pm_view.specs.Steps.{Step}
 use Rattle.pm_world.specs.Logs.{ends_with}
 use Rattle.pm_plan.specs.Notes.{AreNotes, HasNoted, Note, noted}
 use Rattle.pm_plan.specs.Plans.{Ready, in_turn}

@@ -17,6 +17,7 @@ use Rattle.pm_view.specs.Parts.{Part, part_of}
 use Rattle.pm_view.specs.Steps.Step.{Store, Flush, Drain}
 use Rattle.pm_view.specs.View.{View, runs_one}
 use Rattle.pm_view.specs.Views.{after, after_all, changed_from, drained_to, marked_by, value_in, was_of}
+use Rattle.pm_view.specs.Steps.{Step}
 use Rattle.pm_world.specs.Lawful.{MayStore, StoreFits}
 use Rattle.pm_world.specs.Logs.{AreWhole}
 use Rattle.pm_plan.specs.Notes.{DrainedTo, Valued}

@@ -1,5 +1,5 @@
 -- A lane's own tally of its memory calls, and the views that it is the tally of.
-use Rattle.std.specs.Prelude.{◌≡◌, ℕ, ◌+◌, ◌%◌, ◌^◌, All, List, ◌∷◌, ◌++◌, [], Option}
+use Rattle.std.specs.Prelude.{length, ◌≡◌, ℕ, ◌+◌, ◌%◌, ◌^◌, All, List, ◌∷◌, ◌++◌, [], Option}
 use Rattle.pm_memory.specs.Changes.{AreUndrained}
 use Rattle.pm_memory.specs.Solo.{IsCount}
 use Rattle.pm_view.specs.declared.change.Change.{Change}

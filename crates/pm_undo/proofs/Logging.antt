@@ -16,6 +16,7 @@ use Rattle.pm_view.specs.Places.{place_after, word_of}
 use Rattle.pm_view.specs.Steps.Step.{Store}
 use Rattle.pm_view.specs.View.{Constants, View, runs_one}
 use Rattle.pm_view.specs.Views.{after, changed_from, claims_drained, marked_by, value_in, was_of}
+use Rattle.pm_view.specs.Steps.{Step}
 use Rattle.pm_world.specs.Lawful.{CanRecord, MayStore, StoreFits}
 use Rattle.pm_world.specs.Logs.{AreInRow, spelled}
 use Rattle.pm_world.specs.Sights.{is_recorded}

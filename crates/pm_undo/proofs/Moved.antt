@@ -8,6 +8,7 @@ use Rattle.pm_view.specs.Claims.{Claim, class, first, here, known}
 use Rattle.pm_view.specs.Log.{Log, Recorded, place_at}
 use Rattle.pm_view.specs.Places.{Place, InRun, InHuge, Descr, RootWord, Block, Small, Big, part, place_after, word_of}
 use Rattle.pm_view.specs.View.{View, runs_one}
+use Rattle.pm_view.specs.Steps.{Step}
 use Rattle.pm_world.specs.Lawful.{CanRecord, CanRecordAt, is_guarded}
 use Rattle.pm_world.specs.Sights.{is_recorded}
 use Rattle.pm_plan.specs.Notes.{IsBeyond}

@@ -12,6 +12,7 @@ use Rattle.pm_view.specs.Parts.{GenerationPart}
 use Rattle.pm_view.specs.Steps.Step.{Store, Flush, Drain}
 use Rattle.pm_view.specs.View.{View, runs_one}
 use Rattle.pm_view.specs.Views.{after, after_all, changed_from, drained_to, marked_by, value_in, was_of}
+use Rattle.pm_view.specs.Steps.{Step}
 use Rattle.pm_world.specs.Lawful.{MayStore, StoreFits}
 use Rattle.pm_plan.specs.Plans.{IsPersisted, Ready, claims_persisted, in_turn, log_persisted, one, persists, stores}
 use Rattle.pm_plan.proofs.Going.{Goes, goes_one, goes_stores, goes_then}

@@ -13,6 +13,7 @@ use Rattle.pm_view.specs.Log.{Open, Recorded, log_drained}
 use Rattle.pm_view.specs.Places.{Place, RootWord, place_after, is_data, word_of}
 use Rattle.pm_view.specs.View.{View}
 use Rattle.pm_view.specs.Views.{drained_to, decided_by}
+use Rattle.pm_view.specs.Steps.Step.{Drain}
 use Rattle.pm_world.specs.Lawful.{CanRecord, place_in}
 use Rattle.pm_world.specs.LaneFields.{kept_of, padded}
 use Rattle.pm_world.specs.Logs.{AreInRow}

@@ -10,6 +10,7 @@ use Rattle.pm_view.specs.Founds.{knows}
 use Rattle.pm_view.specs.Log.{Log}
 use Rattle.pm_view.specs.Places.{Block}
 use Rattle.pm_view.specs.View.{View}
+use Rattle.pm_view.specs.Steps.{Step}
 use Rattle.pm_world.specs.InWorld.{IsSound, block_bytes}
 use Rattle.pm_world.specs.LaneFields.{IsSeenAs, Standing, fields_at, moved}
 use Rattle.pm_world.specs.Lanes.{is_occupancy}
