@@ -9,12 +9,11 @@ use Rattle.pm_view.specs.Places.{Block, Small, Big, Root, header}
 use Rattle.pm_view.specs.Steps.{Step}
 use Rattle.pm_view.specs.View.{View}
 use Rattle.pm_view.specs.Views.{after_all}
-use Rattle.pm_world.specs.Causes.{times_missed}
 use Rattle.pm_world.specs.declared.lane.HeldLock.{HeldLock}
 use Rattle.pm_layout.specs.Chunks.{line_of_chunk}
 use Rattle.pm_lock.specs.Acquiring.{AreFinds, CanLookAll, FindsAll, FoundAll}
 use Rattle.pm_lock.specs.Locking.{lock_at, no_lock}
-use Rattle.pm_lock.specs.Objects.{CanLook, HasBlock, HasLooked, IsKnownIn, IsOfWorld, Looked, LookedAs, MissesAt, StandsAt, ToldNoRun, finds}
+use Rattle.pm_lock.specs.Objects.{CanLook, HasBlock, HasLooked, IsKnownIn, IsMissedSince, IsOfWorld, Looked, LookedAs, MissesAt, StandsAt, ToldNoRun, finds}
 use Rattle.pm_lock.proofs.Stays.{stays_here, stays_on}
 use Rattle.pm_lock.proofs.Waiting.{all_then}
 
@@ -51,10 +50,9 @@ stands_still v u line stays s = subst (λ y. StandsAt y line) (sym stays.same) (
 
 missed_since : (v u w : View) (line : ℕ) → HasLooked v u → MissesAt u line w → MissesAt v line w
 missed_since v u w line stays m classes same B has begins =
-    let s = m classes same B (subst (λ (y : View). HasBlock y.fixed.shape classes B) (sym stays.same) has) (subst (λ (y : View). header y.fixed.shape (record { first = λ c. c; class = classes }) B ≡ line) (sym stays.same) begins) in
-    let few = stays.missed B in
-    let more : times_missed v.fixed.shape B u.claims < times_missed v.fixed.shape B w.claims = subst (λ (y : View). times_missed y.fixed.shape B u.claims < times_missed y.fixed.shape B w.claims) stays.same s in
-    omega (arith, few, more)
+    let s = subst (λ (sh : Shape). IsMissedSince sh u.claims w B) (ap (λ (y : View). y.fixed.shape) stays.same)
+    (m classes same B (subst (λ (y : View). HasBlock y.fixed.shape classes B) (sym stays.same) has) (subst (λ (y : View). header y.fixed.shape (record { first = λ c. c; class = classes }) B ≡ line) (sym stays.same) begins)) in
+    record { more = (let few = stays.missed B in let more = s.more in omega (arith, few, more)); since = s.since }
 
 all_still : (v u : View) (locks : List HeldLock) → HasLooked v u → AllByRecursion (λ (l : HeldLock). StandsAt v l.line) locks → AllByRecursion (λ (l : HeldLock). StandsAt u l.line) locks
 all_still v u [] stays all = tt

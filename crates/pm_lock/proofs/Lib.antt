@@ -3,6 +3,7 @@ pub mod Holds
 pub mod Lanes
 pub mod Planned
 pub mod CanBegin
+pub mod Numbering
 pub mod Sights
 pub mod Looks
 pub mod Stays

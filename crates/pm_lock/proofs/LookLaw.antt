@@ -9,7 +9,7 @@ use Rattle.pm_view.specs.Steps.Step.{Load}
 use Rattle.pm_view.specs.View.{View}
 use Rattle.pm_view.specs.Views.{after, after_all, part_in}
 use Rattle.pm_world.specs.InWorld.{AgreesAt, IsSound}
-use Rattle.pm_lock.specs.Objects.{CanLook, FitsLook, HasLooked, HasSound, LookTells, LooksTell, chunk_of_line, finds, has_lines, looks_at_bitmap, shows}
+use Rattle.pm_lock.specs.Objects.{CanLook, FitsLook, HasLooked, HasSound, LookTells, LooksTell, MissesGrow, chunk_of_line, finds, has_lines, looks_at_bitmap, shows}
 use Rattle.pm_lock.proofs.Looks.{bitmap_is, chunk_line, descriptor_is, learns_bitmap, learns_descriptor}
 use Rattle.pm_lock.proofs.Stays.{bitmap_stays, descriptor_stays, stays_on}
 use Rattle.pm_lock.proofs.Tells.{class_told, tells_empty, tells_no_run, tells_run, told_bitmap, told_descriptor}
@@ -20,7 +20,7 @@ pub record Leaves (v : View) (line d b : ℕ) (w : View) : Type 0 where
   pub sound : IsSound w
   pub tells : LookTells v line (shows d b (line % 64)) w
 
-module _ (v : View) (line d b : ℕ) (can : CanLook v v.fixed.shape line) where
+module _ (v : View) (line d b : ℕ) (can : CanLook v v.fixed.shape line) (grown : MissesGrow v) where
   abbrev c : ℕ
   c = chunk_of_line v.fixed.shape line
 
@@ -28,10 +28,10 @@ module _ (v : View) (line d b : ℕ) (can : CanLook v v.fixed.shape line) where
   inside = (chunk_line v.fixed.shape line can.chunk).0
 
   abbrev pub first_view : View
-  first_view = record v { claims = told_descriptor v line d b can }
+  first_view = record v { claims = told_descriptor v line d b can grown }
 
   abbrev pub second_view : View
-  second_view = record v { claims = told_bitmap v line d b can }
+  second_view = record v { claims = told_bitmap v line d b can grown }
 
   is_part : part_in v (word_of_descriptor v.fixed.shape c) ≡ DescriptorPart c
   is_part = descriptor_is v.fixed.shape v.fixed.lane c can.lane inside
@@ -58,16 +58,16 @@ module _ (v : View) (line d b : ℕ) (can : CanLook v v.fixed.shape line) where
     first_stays = descriptor_stays v c d can.lane inside fits.has_before (subst HasSound first_is fits.has_after) can.unmaking agrees (subst IsSound first_is fits.sound)
 
     pub no_run_leaves : is_run d ≡ false → Leaves v line d b first_view
-    no_run_leaves r = record { stays = first_stays; sound = subst IsSound first_is fits.sound; tells = tells_no_run v line d b can r }
+    no_run_leaves r = record { stays = first_stays; sound = subst IsSound first_is fits.sound; tells = tells_no_run v line d b can grown r }
 
     pub empty_leaves : is_run d ≡ true → d / 256 ≡ 0 → Leaves v line d b first_view
-    empty_leaves r zero_ = record { stays = first_stays; sound = subst IsSound first_is fits.sound; tells = tells_empty v line d b can r zero_ }
+    empty_leaves r zero_ = record { stays = first_stays; sound = subst IsSound first_is fits.sound; tells = tells_empty v line d b can grown r zero_ }
 
     pub run_leaves : is_run d ≡ true → 1 ≤ d / 256 → FitsLook first_view (word_of_chunk v.fixed.shape c) b → Leaves v line d b second_view
     run_leaves r some also = record {
-      stays = stays_on v first_view second_view first_stays (bitmap_stays first_view c b can.lane inside also.has_before (subst HasSound second_is also.has_after) can.unmaking (λ z. let k = class_told v line d b can r in omega (arith, some, sym k ∙ z)) (subst IsSound second_is also.sound));
+      stays = stays_on v first_view second_view first_stays (bitmap_stays first_view c b can.lane inside also.has_before (subst HasSound second_is also.has_after) can.unmaking (λ z. let k = class_told v line d b can grown r in omega (arith, some, sym k ∙ z)) (subst IsSound second_is also.sound));
       sound = subst IsSound second_is also.sound;
-      tells = tells_run v line d b can r some;
+      tells = tells_run v line d b can grown r some;
     }
 
     -- by whether the bitmap is looked at
@@ -86,7 +86,7 @@ look_leaves v sh line d b can fits also = by v.fixed.shape can.shape can fits al
       → (has_lines d ≡ true → FitsLook (after v (Load (word_of_descriptor sh (chunk_of_line sh line)) d)) (word_of_chunk sh (chunk_of_line sh line)) b) → Leaves v line d b (after_all v (finds sh line d b))
   by s e = subst (λ sh. CanLook v sh line → FitsLook v (word_of_descriptor sh (chunk_of_line sh line)) d
       → (has_lines d ≡ true → FitsLook (after v (Load (word_of_descriptor sh (chunk_of_line sh line)) d)) (word_of_chunk sh (chunk_of_line sh line)) b) → Leaves v line d b (after_all v (finds sh line d b))) can.shape
-      (λ can fits also. leaves v line d b can fits (λ h. subst (λ u. FitsLook u (word_of_chunk v.fixed.shape (chunk_of_line v.fixed.shape line)) b) (first_is v line d b can) (also h)))
+      (λ can fits also. leaves v line d b can fits.grown fits (λ h. subst (λ u. FitsLook u (word_of_chunk v.fixed.shape (chunk_of_line v.fixed.shape line)) b) (first_is v line d b can fits.grown) (also h)))
 
 pub looks_tell : LooksTell
 looks_tell v sh line d b can fits also = let l = look_leaves v sh line d b can fits also in (l.stays, l.tells)

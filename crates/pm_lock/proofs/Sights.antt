@@ -1,11 +1,12 @@
 -- WHAT A LANE FINDS IN A WORD, in a world: it fits what the lane knows of the blocks that it has.
-use Rattle.std.proofs.Common.{inl, inr, ◌≡◌, ℕ, zero, suc, ◌+◌, ◌<◌, ◌≤◌, ◌⊎◌, ⊎_elim, nat_le, nat_lt, Bool, true, false, cond, refl, sym, ap, ◌∙◌, subst, arith, ne_eqb, eq-eqb}
+use Rattle.std.proofs.Common.{inl, inr, ◌≡◌, ℕ, zero, suc, ◌+◌, ◌<◌, ◌≤◌, ◌⊎◌, ⊎_elim, nat_le, nat_lt, Bool, true, false, cond, Contains, refl, sym, ap, ◌∙◌, subst, arith, ne_eqb, eq-eqb}
 use Rattle.std.specs.Prelude.{eqb}
 use Rattle.std.proofs.lemmas.Bool.{both_ways, and_parts, cases_lt, cond-true, eqb-true, ltb-true, or_cases, false_from_ne_true}
 use Rattle.pm_view.specs.Places.{Block, Small, Big, in_span}
 use Rattle.pm_view.specs.Steps.Step.{Load}
-use Rattle.pm_view.specs.View.{View}
+use Rattle.pm_view.specs.View.{Numbered, View}
 use Rattle.pm_view.specs.Views.{after}
+use Rattle.pm_world.specs.Causes.{times_missed}
 use Rattle.pm_world.specs.Course.{past_after}
 use Rattle.pm_world.specs.InWorld.{InWorld}
 use Rattle.pm_world.specs.Lanes.{HoldFits, own, valid}
@@ -21,7 +22,8 @@ use Rattle.pm_world.proofs.CrashDescriptors.{some_below}
 use Rattle.pm_world.proofs.EveryStep.{every_step}
 use Rattle.pm_world.proofs.Frame.{found_has, mine_own, not_making, own_has}
 use Rattle.pm_world.proofs.InWorlds.{seen_agrees, seen_is_sound}
-use Rattle.pm_lock.specs.Objects.{FitsLook, HasSound, has}
+use Rattle.pm_lock.specs.Objects.{FitsLook, HasSound, MissesGrow, has}
+use Rattle.pm_lock.proofs.Numbering.{drawn_entry}
 
 module _ (o : Opening) (mem : Memory) (views : Views) (g : Past) (k : ℕ) (x : World o mem views g) (ink : k < o.lanes) where
   shape_is : (views k).fixed.shape ≡ o.shape
@@ -125,10 +127,21 @@ seen_after v w x i = record {
 sound_in : (v : View) (w x : ℕ) → InWorld v w x → HasSound v
 sound_in v w x i = subst HasSound i.here (has_sound i.opening i.memory i.views i.past v.fixed.lane i.world i.runs)
 
+-- what it counts as misses grew since it took the numbers of its entries
+misses_grow : (v : View) (w x : ℕ) → InWorld v w x → MissesGrow v
+misses_grow v w x i = subst MissesGrow i.here (λ e there B.
+    let k : ℕ = v.fixed.lane in
+    let fits = i.world.each_lane k i.runs in
+    let d = drawn_entry k i.past.drew i.past.length e (subst (λ es. Contains es e) fits.entries there) in
+    subst (λ sh. times_missed sh B e.claims ≤ times_missed sh B (i.views k).claims) (sym fits.shape)
+    (subst (λ (n : Numbered). times_missed i.opening.shape B n.claims ≤ times_missed i.opening.shape B (i.views k).claims) d.is
+    (i.causes.counts.missed k d.call B d.below d.of)))
+
 pub seen_fits : (v : View) (w x : ℕ) → InWorld v w x → FitsLook v w x
 seen_fits v w x i = record {
   agrees = seen_agrees v w x i;
   sound = (seen_is_sound v w x i).1;
   has_before = sound_in v w x i;
   has_after = sound_in (after v (Load w x)) w x (seen_after v w x i);
+  grown = misses_grow v w x i;
 }

@@ -13,7 +13,7 @@ use Rattle.pm_view.specs.Claims.{Claim, Knows, SawBitmap, SawDescriptor, class, 
 use Rattle.pm_view.specs.Places.{Block, Small, Big, Root}
 use Rattle.pm_view.specs.View.{View}
 use Rattle.pm_world.specs.Causes.{misses_in_bitmap, misses_in_descriptor, times_missed}
-use Rattle.pm_lock.specs.Objects.{CanLook, LookTells, MissesAt, StandsAt, ToldNoRun, chunk_of_line, shows, shows_small}
+use Rattle.pm_lock.specs.Objects.{CanLook, IsMissedSince, LookTells, MissesAt, MissesGrow, StandsAt, ToldNoRun, chunk_of_line, shows, shows_small}
 use Rattle.pm_world.proofs.StepMark.{some_class}
 use Rattle.pm_world.proofs.WordPlaces.{page_apart}
 use Rattle.pm_lock.proofs.Looks.{chunk_line}
@@ -36,7 +36,7 @@ all_fit = (λ i q. omega arith, (λ i q. omega arith, (λ i q. omega arith, (λ 
 pub run_fits : (lines i : ℕ) → i < blocks_of lines → 1 + (lines * i + lines) ≤ 64
 run_fits lines i q = fit_in blocks_by_class all_fit lines i q
 
-module _ (v : View) (line d b : ℕ) (can : CanLook v v.fixed.shape line) where
+module _ (v : View) (line d b : ℕ) (can : CanLook v v.fixed.shape line) (grown : MissesGrow v) where
   abbrev sh : Shape
   sh = v.fixed.shape
 
@@ -68,6 +68,10 @@ module _ (v : View) (line d b : ℕ) (can : CanLook v v.fixed.shape line) where
   abbrev pub told_bitmap : List Claim
   told_bitmap = Knows (word_of_chunk v.fixed.shape (chunk_of_line v.fixed.shape line)) b ∷ SawBitmap (chunk_of_line v.fixed.shape line) b ∷ told_descriptor
 
+  -- a block that is missed more often than before is so since each entry
+  missed_since : (claims : List Claim) (B : Block) → times_missed sh B v.claims < times_missed sh B claims → IsMissedSince sh v.claims (record v { claims = claims }) B
+  missed_since claims B more = record { more = more; since = λ e there. let few = grown e there B in omega (arith, few, more) }
+
   -- ---- the chunk is no run
   module _ (no_run : is_run d ≡ false) where
     huge_stands : (is_huge d && at_line == 0) ≡ true → StandsAt (record v { claims = told_descriptor }) line
@@ -82,8 +86,8 @@ module _ (v : View) (line d b : ℕ) (can : CanLook v v.fixed.shape line) where
               (and_from (c == c) (is_huge d && holds v.claims (header_in sh v.claims (Big c))) (eq-eqb c c refl) (and_from (is_huge d) (holds v.claims (header_in sh v.claims (Big c))) p.0 (ap (holds v.claims) begins ∙ can.held)));
         }
 
-    counts : (B : Block) → misses_in_descriptor sh v.claims c d B ≡ true → times_missed sh B v.claims < times_missed sh B told_descriptor
-    counts B m = let n : ℕ = cond (misses_in_descriptor sh v.claims c d B) 1 0 in let one : n ≡ 1 = cond-true (misses_in_descriptor sh v.claims c d B) 1 0 m in let more : times_missed sh B v.claims < n + times_missed sh B v.claims = omega (arith, one) in more
+    counts : (B : Block) → misses_in_descriptor sh v.claims c d B ≡ true → IsMissedSince sh v.claims (record v { claims = told_descriptor }) B
+    counts B m = missed_since told_descriptor B (let n : ℕ = cond (misses_in_descriptor sh v.claims c d B) 1 0 in let one : n ≡ 1 = cond-true (misses_in_descriptor sh v.claims c d B) 1 0 m in let more : times_missed sh B v.claims < n + times_missed sh B v.claims = omega (arith, one) in more)
 
     -- each block of the chunk's run is missed, as the chunk is no run; and a huge one
     huge_missed : (is_huge d && at_line == 0) ≡ false → MissesAt v line (record v { claims = told_descriptor })
@@ -154,8 +158,8 @@ module _ (v : View) (line d b : ℕ) (can : CanLook v v.fixed.shape line) where
             (and_from (leb 1 n) (leb 1 at) (le-leb 1 n some) (le-leb 1 at (omega (arith, is))))
             (and_from ((at - 1) % n == 0) (bit_at b ((at - 1) / n) == 1) (eq-eqb ((at - 1) % n) 0 rest) (ap (λ m. bit_at b m == 1) whole ∙ t))
 
-    counts_more : (B : Block) → (misses_in_bitmap sh told_descriptor c b B || misses_in_descriptor sh v.claims c d B) ≡ true → times_missed sh B v.claims < times_missed sh B told_bitmap
-    counts_more B m = at (misses_in_bitmap sh told_descriptor c b B) (misses_in_descriptor sh v.claims c d B) m where
+    counts_more : (B : Block) → (misses_in_bitmap sh told_descriptor c b B || misses_in_descriptor sh v.claims c d B) ≡ true → IsMissedSince sh v.claims (record v { claims = told_bitmap }) B
+    counts_more B m = missed_since told_bitmap B (at (misses_in_bitmap sh told_descriptor c b B) (misses_in_descriptor sh v.claims c d B) m) where
       at : (x y : Bool) → (x || y) ≡ true → times_missed sh B v.claims < cond x 1 0 + (cond y 1 0 + times_missed sh B v.claims)
       at true y e = let n : ℕ = cond y 1 0 in let more : times_missed sh B v.claims < 1 + (n + times_missed sh B v.claims) = omega arith in more
       at false true e = let more : times_missed sh B v.claims < 0 + (1 + times_missed sh B v.claims) = omega arith in more

@@ -7,15 +7,15 @@ use Rattle.pm_layout.specs.Chunks.{chunk_at, chunks_of, is_chunk_page, word_of_c
 use Rattle.pm_layout.specs.Sizes.{blocks_of}
 use Rattle.pm_model.specs.Places.{can_begin}
 use Rattle.pm_objects.specs.declared.ids.Oid.{Oid}
-use Rattle.pm_view.specs.Claims.{SawDescriptor, class, first, found, header_in, holds, is_held_at, is_huge, is_run, locked, making, mine, reads, span}
+use Rattle.pm_view.specs.Claims.{Claim, SawDescriptor, class, first, found, header_in, holds, is_held_at, is_huge, is_run, locked, making, mine, reads, span}
 use Rattle.pm_view.specs.Log.{is_early}
 use Rattle.pm_view.specs.Places.{Block, Small, Big, Root, header, in_span}
 use Rattle.pm_view.specs.Steps.{Step}
 use Rattle.pm_view.specs.Steps.Step.{Load}
-use Rattle.pm_view.specs.View.{View}
+use Rattle.pm_view.specs.View.{Numbered, View}
 use Rattle.pm_view.specs.Views.{after, after_all, part_in, value_in}
-use Rattle.pm_world.specs.Causes.{CountsNew, drawn_by, times_missed}
-use Rattle.pm_world.specs.World.{Past}
+use Rattle.pm_world.specs.Causes.{CountsNew, times_missed}
+use Rattle.pm_world.specs.World.{Past, numbered_by}
 use Rattle.pm_world.specs.InWorld.{AgreesAt, InWorld, IsSound}
 use Rattle.pm_world.specs.Lanes.{is_occupancy}
 use Rattle.pm_world.specs.Lawful.{place_in}
@@ -99,13 +99,20 @@ pub record HasSound (v : View) : Type 0 where
       × (class v.claims c ≡ 0)
   pub small : (c i : ℕ) → has v (Small c i) ≡ true → class v.claims c ≢ 0
 
+-- the lane counts at least as many misses of each block as it had counted as it took the numbers of
+-- its entries
+abbrev pub MissesGrow : View → Type 0
+MissesGrow v = (e : Numbered) → Contains v.entries e → (B : Block)
+    → times_missed v.fixed.shape B e.claims ≤ times_missed v.fixed.shape B v.claims
+
 -- what the lane knows of runs agrees with the word, and the blocks that the lane has are as it
--- knows them, before the look and after it
+-- knows them, before the look and after it; and its misses have grown
 pub record FitsLook (v : View) (w x : ℕ) : Type 0 where
   pub agrees : AgreesAt v (part_in v w) x
   pub sound : IsSound (after v (Load w x))
   pub has_before : HasSound v
   pub has_after : HasSound (after v (Load w x))
+  pub grown : MissesGrow v
 
 -- SO IT IS IN A WORLD
 abbrev pub SeenFits : Type 0
@@ -153,6 +160,13 @@ HasBlock sh classes (Small c i) = (c < chunks_of sh) × (i < blocks_of (classes 
 HasBlock sh classes (Big f) = f < chunks_of sh
 HasBlock sh classes Root = ⊥
 
+-- the block was missed since these claims: more often than in them, and than as the lane took the
+-- number of any of its entries
+pub record IsMissedSince (sh : Shape) (old : List Claim) (w : View) (B : Block) : Type 0 where
+  pub more : times_missed sh B old < times_missed sh B w.claims
+  pub since : (e : Numbered) → Contains w.entries e
+      → times_missed sh B e.claims < times_missed sh B w.claims
+
 -- NONE DOES: whatever the classes of the runs are that the lane does not know, each block that
 -- would begin there was missed since
 abbrev pub MissesAt : View → ℕ → View → Type 0
@@ -160,7 +174,7 @@ MissesAt v line w = (classes : ℕ → ℕ)
     → ((c : ℕ) → class w.claims c ≢ 0 → classes c ≡ class w.claims c)
     → (B : Block) → HasBlock v.fixed.shape classes B
     → header v.fixed.shape (record { first = λ c. c; class = classes }) B ≡ line
-    → times_missed v.fixed.shape B v.claims < times_missed v.fixed.shape B w.claims
+    → IsMissedSince v.fixed.shape v.claims w B
 
 -- or its chunk was told to be a run of blocks without lines, as it is in no pool without a fault
 pub record ToldNoRun (v : View) (line : ℕ) : Type 0 where
@@ -208,8 +222,7 @@ Looked at sh line old new there = (v : View) → at old v → CanLook v sh line
 -- A MISS IS NEW in a call, number n of the lane's history or to be: so that it has its cause
 abbrev pub MissesAreNew : Type 0
 MissesAreNew = (g : Past) (lane n : ℕ) (v w : View) (line : ℕ) → MissesAt v line w
-    → ((p : ℕ) (B : Block) → p < n → drawn_by g p ≡ lane
-    → times_missed v.fixed.shape B (g.drew p).claims ≤ times_missed v.fixed.shape B v.claims)
+    → w.entries ≡ numbered_by lane g.drew n
     → (classes : ℕ → ℕ) → ((c : ℕ) → class w.claims c ≢ 0 → classes c ≡ class w.claims c)
     → (B : Block) → HasBlock v.fixed.shape classes B
     → header v.fixed.shape (record { first = λ c. c; class = classes }) B ≡ line
