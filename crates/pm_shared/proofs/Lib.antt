@@ -24,3 +24,4 @@ pub mod Pools
 pub mod Bare
 pub mod TakenChunks
 pub mod TestLanes
+pub mod BareRuns
