@@ -50,6 +50,8 @@ pub mod OpenPools
 pub mod SimHeap
 pub mod SimFacts
 pub mod EntryFacts
+pub mod KnownClasses
+pub mod NoObjects
 pub mod SimOps
 pub mod Rollbacks
 pub mod SceneMoves

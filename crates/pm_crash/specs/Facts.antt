@@ -1,29 +1,33 @@
 -- FROM A CALL'S EFFECT TO ITS FACT: what a crate of calls has to show of one call, block by block.
-use Rattle.std.specs.Prelude.{◌≡◌, ℕ, ◌+◌, ◌*◌, ◌<◌, true, false, Contains, List, [], ◌∷◌, Option, None, Some}
+use Rattle.std.specs.Prelude.{◌≡◌, ◌≢◌, ◌⊎◌, ℕ, ◌+◌, ◌*◌, ◌<◌, true, false, Contains, List, [], ◌∷◌, Option, None, Some}
 use Rattle.pm_header.specs.declared.header.Header.{Header}
 use Rattle.pm_objects.specs.declared.calls.Operation.{Operation}
 use Rattle.pm_objects.specs.declared.calls.Want.{Want}
 use Rattle.pm_objects.specs.declared.history.Value.TheVariants.{Refused}
 use Rattle.pm_objects.specs.declared.pool.PoolView.{PoolView}
-use Rattle.pm_objects.specs.declared.refusal.Refusal.TheVariants.{Busy}
+use Rattle.pm_objects.specs.declared.ids.Oid.{Oid}
+use Rattle.pm_objects.specs.declared.refusal.Refusal.TheVariants.{Busy, NoObject}
 use Rattle.pm_model.specs.CallStep.{CallRun, CallStep, State}
 use Rattle.pm_model.specs.Inside.{wants_of}
 use Rattle.pm_model.specs.Items.{Item, Items, plain_pool}
 use Rattle.pm_model.specs.Pending.{Pending}
+use Rattle.pm_model.specs.Transaction.{is_gone}
 use Rattle.pm_view.specs.Places.{Block, Place, RootWord}
 use Rattle.pm_view.specs.Steps.{Step}
 use Rattle.pm_view.specs.Steps.Step.{Draw}
 use Rattle.pm_view.specs.View.{View, Constants, Numbered, Told, idle}
 use Rattle.pm_view.specs.Views.{after}
-use Rattle.pm_world.specs.Causes.{was_refused}
+use Rattle.pm_world.specs.Causes.{drawn_by, was_refused}
 use Rattle.pm_world.specs.Memory.{Memory}
 use Rattle.pm_world.specs.World.{Opening, Views, Past, World}
 use Rattle.pm_world.specs.States.{State as Bits, Diff, after_diff, diff, given}
 use Rattle.pm_world.specs.Sights.{call_in}
+use Rattle.pm_crash.specs.Answers.{NoObjectAt, ReportCauses}
 use Rattle.pm_crash.specs.Calls.{Fact, IsRunOf, StepsFrom, pending_of, pending_then, state_of}
 use Rattle.pm_crash.specs.Footprints.{MayPrecede, Footprints}
 use Rattle.pm_crash.specs.Freshness.{root_told}
 use Rattle.pm_crash.specs.HeapChanges.{ChangesHeap}
+use Rattle.pm_crash.specs.Missed.{ClassesStayKnown, SawEmptyRun, WhyNoObject, ids_named, lists_before}
 use Rattle.pm_crash.specs.Replayed.{HasFacts}
 use Rattle.pm_crash.specs.Objects.{StandsIn, is_allocated, item_of, offset_of}
 use Rattle.pm_crash.specs.Spelled.{Holds, number}
@@ -107,6 +111,12 @@ BusyWasTried call seen = (op : Operation)
     → last_of call ≡ Some (record { operation = op; reply = Some (Refused Busy) })
     → WasTried (wants_of op) seen
 
+-- where it was recorded as NoObject, the call's lane saw why
+abbrev pub MissWasSeen : View → Type 0
+MissWasSeen v = (op : Operation)
+    → last_of v.call ≡ Some (record { operation = op; reply = Some (Refused NoObject) })
+    → WhyNoObject v op
+
 -- ---- THE ENTRIES OF A LANE HAVE THEIR FACTS
 
 -- an entry with those before it, as a view: what its call rested on, changed and told
@@ -121,15 +131,16 @@ view_drawn fixed e earlier = record (idle fixed e.log.generation) {
 unfoldable pub EntriesHaveFacts : Constants → List Numbered → Type 0
 EntriesHaveFacts fixed [] = Unit {0}
 EntriesHaveFacts fixed (e ∷ earlier) =
-    (Fact (view_drawn fixed e earlier) × BusyWasTried e.call e.seen) × EntriesHaveFacts fixed earlier
+    (Fact (view_drawn fixed e earlier) × BusyWasTried e.call e.seen
+    × MissWasSeen (view_drawn fixed e earlier)) × EntriesHaveFacts fixed earlier
 
 abbrev pub HaveFacts : View → Type 0
 HaveFacts v = EntriesHaveFacts v.fixed v.entries
 
 -- A CALL THAT HAS ITS FACT as it takes its number leaves a lane whose entries have theirs
 abbrev pub DrawsKeepFacts : Type 0
-DrawsKeepFacts = (v : View) (n : ℕ) → Fact v → BusyWasTried v.call v.seen → HaveFacts v
-    → HaveFacts (after v (Draw n))
+DrawsKeepFacts = (v : View) (n : ℕ) → Fact v → BusyWasTried v.call v.seen → MissWasSeen v
+    → HaveFacts v → HaveFacts (after v (Draw n))
 
 -- SO THE CALLS OF A HISTORY HAVE THEIR FACTS where the entries of each lane's view do
 abbrev pub HistoriesHaveFacts : Type 0
@@ -142,3 +153,37 @@ abbrev pub HistoriesTriedLocks : Type 0
 HistoriesTriedLocks = (o : Opening) (mem : Memory) (views : Views) (g : Past)
     → World o mem views g → ((k : ℕ) → k < o.lanes → HaveFacts (views k))
     → (n : ℕ) → n < g.length → BusyWasTried (g.drew n).call (g.drew n).seen
+
+-- ---- THE CALLS OF A HISTORY THAT ENDED AS NoObject
+
+-- their lanes saw why
+abbrev pub HistoriesSawMisses : Type 0
+HistoriesSawMisses = (o : Opening) (id : ℕ) (mem : Memory) (views : Views) (g : Past)
+    → World o mem views g → Footprints o id views g
+    → ((k : ℕ) → k < o.lanes → HaveFacts (views k))
+    → (n : ℕ) → n < g.length → MissWasSeen (g.drew n)
+
+-- WHY NO OBJECT WITH THIS ID was there, for call n of the history in a pool with id `pool`: it is of
+-- another pool; or after some number, not before the lane's last, no object stood at its offset; or
+-- its lane saw an empty run; or the call itself freed it
+abbrev pub NoneWasThere : Opening → ℕ → Past → ℕ → Oid → Type 0
+NoneWasThere o pool g n id = (id.pool ≢ pool)
+    ⊎ (NoObjectAt o g (drawn_by g n) n id.off
+    ⊎ (SawEmptyRun (g.drew n).claims ⊎ (is_gone (lists_before (g.drew n)) id.off ≡ true)))
+
+-- so it is of an object that the call's last operation names
+pub record HasNoObjectCause (o : Opening) (pool : ℕ) (g : Past) (n : ℕ) (op : Operation)
+    : Type 0 where
+  pub id : Oid
+  pub named : Contains (ids_named (lists_before (g.drew n)).pending op) id
+  pub why : NoneWasThere o pool g n id
+
+-- EACH SUCH CALL HAS ITS CAUSE; or what was pending asked something of an object to be freed already
+abbrev pub NoObjectsHaveCauses : Type 0
+NoObjectsHaveCauses = (o : Opening) (pool : ℕ) (mem : Memory) (views : Views) (g : Past)
+    → World o mem views g → Footprints o pool views g → ReportCauses o mem views g
+    → ((k : ℕ) → k < o.lanes → ClassesStayKnown (views k))
+    → ((k : ℕ) → k < o.lanes → HaveFacts (views k))
+    → (n : ℕ) (op : Operation) → n < g.length
+    → last_of (g.drew n).call ≡ Some (record { operation = op; reply = Some (Refused NoObject) })
+    → HasNoObjectCause o pool g n op ⊎ ((lists_before (g.drew n)).pending.late ≡ true)

@@ -15,6 +15,7 @@ pub mod Objects
 pub mod HeapChanges
 pub mod Writes
 pub mod Edits
+pub mod Missed
 pub mod Facts
 pub mod OwnBlocks
 pub mod Scenes

@@ -1,5 +1,7 @@
 ghost use Rattle.pm_crash.specs.Facts.{DrawsKeepFacts, HistoriesHaveFacts, HistoriesTriedLocks};
+ghost use Rattle.pm_crash.specs.Facts.{HistoriesSawMisses, NoObjectsHaveCauses};
 ghost use Rattle.pm_crash.specs.Facts.{EffectsAreFacts, EffectsAreSteps, QuietCallsAreSteps};
+ghost use Rattle.pm_crash.specs.Missed.{RunsKeepClassesKnown};
 ghost use Rattle.pm_crash.specs.Laws.{CallIsStep, EverySetMayBeKept, HistoryHolds};
 
 /// A law: a call whose fact holds is a step of the plain model, from whatever pool the kept bits
@@ -28,10 +30,23 @@ pub fn effects_are_facts()
 
 /// A law: a lane whose call has its fact as it takes its number, and whose entries have theirs, has
 /// entries that all have theirs then. Of a world where the entries of each lane have their facts, each
-/// call of the history has its own; and one whose last operation was told as `Busy` had tried a lock
-/// that this operation wants, and the try was refused. No code runs.
+/// call of the history has its own; one whose last operation was told as `Busy` had tried a lock
+/// that this operation wants, and the try was refused; and of one that was recorded as `NoObject` its
+/// lane saw why. No code runs.
 pub fn entries_have_facts()
     ensures draws { DrawsKeepFacts }
     ensures histories { HistoriesHaveFacts }
     ensures tried { HistoriesTriedLocks }
+    ensures missed { HistoriesSawMisses }
+{}
+
+/// A law: in a history a call whose last operation was recorded as `NoObject` has its cause. An object
+/// that this operation names is of another pool; or no object stood at its offset after some number,
+/// not before the lane's last and below the call's own; or the call itself freed it; or the lane saw
+/// a run of blocks without lines. Or the call published what asks something of an object that is to
+/// be freed already. The classes of runs that a lane knew as it took a number it knows to the end of
+/// every run of lawful steps. No code runs.
+pub fn missing_objects_have_causes()
+    ensures causes { NoObjectsHaveCauses }
+    ensures classes { RunsKeepClassesKnown }
 {}

@@ -31,6 +31,7 @@ pub use footprints::footprints_stand;
 pub use freshness::histories_are_fresh;
 pub use histories::{
     a_call_is_a_step, a_history_holds_its_replay, effects_are_facts, entries_have_facts,
+    missing_objects_have_causes,
 };
 pub use images::images_mean_replays;
 pub use lanes::{

@@ -9,3 +9,6 @@ returns-clause-histories _ = entries.histories_have_facts
 
 pub returns-clause-tried : goal.returns-clause-tried
 returns-clause-tried _ = entries.histories_tried_locks
+
+pub returns-clause-missed : goal.returns-clause-missed
+returns-clause-missed _ = entries.histories_saw_misses
