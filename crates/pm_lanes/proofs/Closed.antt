@@ -49,7 +49,7 @@ use Rattle.pm_lanes.specs.Opens.{IsOpened}
 
 module _ (before layout : List ℕ) (b : Beginning)
     (opened : IsOpened before layout b.words.items b.shape b.pool) where
-  again : IsMeaning b.words.items opened.pool
+  pub again : IsMeaning b.words.items opened.pool
   again = meaning_kept before b.words.items opened.pool opened.means opened.recovered
 
   lanes_are : b.shape.lanes ≡ again.lanes
@@ -58,7 +58,7 @@ module _ (before layout : List ℕ) (b : Beginning)
   zones_are : b.shape.zones ≡ again.zones
   zones_are = opened.of_zones ∙ ap (λ (p : PoolView). p.zones) again.is_pool
 
-  id_is : b.pool ≡ again.header.id
+  pub id_is : b.pool ≡ again.header.id
   id_is = opened.of_id ∙ ap (λ (p : PoolView). p.id) again.is_pool
 
   stand : (i : ℕ) → recovered_at b.words.items again.lanes i ≡ slice_index b.words.items i
@@ -83,7 +83,7 @@ module _ (before layout : List ℕ) (b : Beginning)
   in_shape P p = subst (λ n. P n b.shape.zones) (sym lanes_are)
       (subst (λ n. P again.lanes n) (sym zones_are) p)
 
-  opens : OpensPool (opening_of b) again.header opened.pool
+  pub opens : OpensPool (opening_of b) again.header opened.pool
   opens = record {
     has_header = in_shape (λ l z. HasHeader b.words.items l z again.header) again.has_header;
     fits = in_shape (λ l z. IsHeaderOf l z again.header) again.fits;
@@ -107,7 +107,7 @@ module _ (b : Beginning) (back : List View) (words : List ℕ) (closed : Closes 
   described = classes.runs o closed.run.turns first last closed.run.begins.world closed.run.run
       (classes.begins o first.mem closed.run.begins.whole closed.run.begins.words_are)
 
-  footprints : (id : ℕ) → b.pool ≡ id → Footprints o id last.views last.past
+  pub footprints : (id : ℕ) → b.pool ≡ id → Footprints o id last.views last.past
   footprints id is =
       let same = closed.run.begins.views_are in
       onward.runs o id closed.run.turns first last closed.run.begins.world closed.run.run
@@ -131,7 +131,7 @@ module _ (b : Beginning) (back : List View) (words : List ℕ) (closed : Closes 
       subst (λ j. P (last.views j)) is.lane_is
       (subst P (sym own.1) (each is.place is.view is.there))
 
-  facts : (id : ℕ) → b.pool ≡ id → AllAreBack b.lanes back → AllHaveFacts back
+  pub facts : (id : ℕ) → b.pool ≡ id → AllAreBack b.lanes back → AllHaveFacts back
       → HasFacts last.past
   facts id is all each = entries.histories_have_facts o id last.mem last.views last.past
       closed.world (footprints id is) (of_lanes HaveFacts all each)

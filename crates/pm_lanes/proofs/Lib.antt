@@ -1,5 +1,6 @@
 mod Closed
 mod BusyCalls
+mod MissedCalls
 mod Names
 mod Recovered
 mod Causes

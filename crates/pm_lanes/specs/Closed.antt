@@ -1,22 +1,26 @@
 -- WHAT A POOL IS LEFT AS by lanes that ran, came back, and whose table closed, where power fails
 -- then: docs/MODEL.md, "Crash".
-use Rattle.std.specs.Prelude.{◌≡◌, ◌≢◌, ℕ, suc, ◌+◌, ◌*◌, ◌<◌, ◌≤◌, All, Bool, true, Contains, List, []}
+use Rattle.std.specs.Prelude.{◌≡◌, ◌≢◌, ◌⊎◌, ℕ, suc, ◌+◌, ◌*◌, ◌<◌, ◌≤◌, All, Bool, true, Contains, List, []}
 use Rattle.std.specs.Prelude.{length, slice_index, slice_index_or, None, Option, Some}
 use mathlib.Core.Option.{some}
 use lib.ListN.{get_elem?}
+use Rattle.pm_crash.specs.Answers.{LeadsWithout}
 use Rattle.pm_crash.specs.Facts.{HaveFacts, last_of}
 use Rattle.pm_crash.specs.Fates.{EndsOpen, is_judged_kept}
 use Rattle.pm_crash.specs.Images.{MeansReplay}
+use Rattle.pm_crash.specs.Missed.{ids_named, lists_before}
 use Rattle.pm_crash.specs.Replayed.{HasFacts, Replay, kept_calls, kept_pending}
 use Rattle.pm_image.specs.Logs.{generation_word}
 use Rattle.pm_memory.specs.Changes.{AreUndrained}
 use Rattle.pm_memory.specs.Keep.{IsKeptImage}
 use Rattle.pm_model.specs.Inside.{wants_of}
+use Rattle.pm_model.specs.Transaction.{is_gone}
 use Rattle.pm_objects.specs.declared.calls.Operation.{Operation}
 use Rattle.pm_objects.specs.declared.calls.Want.{Want}
 use Rattle.pm_objects.specs.declared.history.Value.TheVariants.{Refused}
 use Rattle.pm_objects.specs.declared.pool.PoolView.{PoolView}
-use Rattle.pm_objects.specs.declared.refusal.Refusal.TheVariants.{Busy}
+use Rattle.pm_objects.specs.declared.ids.Oid.{Oid}
+use Rattle.pm_objects.specs.declared.refusal.Refusal.TheVariants.{Busy, NoObject}
 use Rattle.pm_shared.specs.Closings.{Closes}
 use Rattle.pm_shared.specs.declared.rule.Beginning.{Beginning}
 use Rattle.pm_shared.specs.Openings.{opening_of}
@@ -183,6 +187,41 @@ BusyCallsHaveCauses = (b : Beginning) (back : List View) (words : List ℕ) (cal
     → last_of (closed.last.past.drew call).call
     ≡ Some (record { operation = op; reply = Some (Refused Busy) })
     → HasBusyCause b closed.last call op
+
+-- ---- CALLS THAT ENDED AS NoObject
+
+-- NO OBJECT STOOD AT AN OFFSET for call `call` of the history: up to some number, not before that of
+-- the lane's last entry and below the call's own, the calls that the image does not lose lead from
+-- this pool to one without an object there
+pub record LackedObject (b : Beginning) (last : Moment) (pool : PoolView) (image : List ℕ)
+    (call off : ℕ) : Type 0 where
+  pub number : ℕ
+  pub least : (p : ℕ) → p < call → drawn_by last.past p ≡ drawn_by last.past call → 1 + p ≤ number
+  pub below : number < 1 + call
+  pub leads : LeadsWithout last.past (keeps_call b last image) pool number off
+
+-- THE CAUSE OF NoObject in call `call` of the history, whose last operation was this: it names an
+-- object of another pool, or one that was not there, or one that the call itself freed
+pub record HasMissCause (b : Beginning) (last : Moment) (pool : PoolView) (image : List ℕ)
+    (call : ℕ) (op : Operation) : Type 0 where
+  pub id : Oid
+  pub named : Contains (ids_named (lists_before (last.past.drew call)).pending op) id
+  pub why : (id.pool ≢ b.pool)
+      ⊎ (LackedObject b last pool image call id.off
+      ⊎ (is_gone (lists_before (last.past.drew call)) id.off ≡ true))
+
+-- EACH CALL WHOSE LAST OPERATION WAS RECORDED AS NoObject has its cause; or what it published asked
+-- something of an object that was to be freed already
+abbrev pub MissedCallsHaveCauses : Type 0
+MissedCallsHaveCauses = (before layout words image : List ℕ) (b : Beginning) (back : List View)
+    (call : ℕ) (op : Operation)
+    → (opened : IsOpened before layout b.words.items b.shape b.pool)
+    → (closed : Closes b back words) → AllAreBack b.lanes back → AllHaveFacts back
+    → call < closed.last.past.length
+    → last_of (closed.last.past.drew call).call
+    ≡ Some (record { operation = op; reply = Some (Refused NoObject) })
+    → HasMissCause b closed.last opened.pool image call op
+    ⊎ ((lists_before (closed.last.past.drew call)).pending.late ≡ true)
 
 -- ---- THE FATES OF CALLS
 

@@ -1,6 +1,6 @@
 ghost use Rattle.pm_lanes.specs.Closed.{AnsweredCallsAreKept, ClosedPoolsMeanTheirHistories};
 ghost use Rattle.pm_lanes.specs.Closed.{BusyCallsHaveCauses, ClosedPoolsHaveFacts, ClosedPoolsReplay};
-ghost use Rattle.pm_lanes.specs.Closed.{HeadersAreKept, KeptImagesSurvive};
+ghost use Rattle.pm_lanes.specs.Closed.{HeadersAreKept, KeptImagesSurvive, MissedCallsHaveCauses};
 ghost use Rattle.pm_lanes.specs.Closed.{EntriesAreCalls, OpenCallsAreJudged, OtherCallsAreKept};
 ghost use Rattle.pm_lanes.specs.Closed.{GenerationsAreKept, SeenNumbersAreDrawn};
 ghost use Rattle.pm_lanes.specs.Closed.{SeenStopsAreReached, StopsAreReached};
@@ -54,8 +54,17 @@ pub fn numbers_are_shown()
 {}
 
 /// A law: of a table that closed, whose lanes all came back, each with facts for its calls, a call
-/// whose last operation was told as `Busy` has its cause: this operation wants the lock of an object
-/// that a call of another lane had at the same time. No code runs.
+/// whose last operation was recorded as `Busy` has its cause: this operation requests the lock of an
+/// object that a call of another lane had at the same time. No code runs.
 pub fn busy_calls_have_causes()
     ensures { BusyCallsHaveCauses }
+{}
+
+/// A law: of a pool that was opened, whose lanes all came back, each with facts for its calls, and
+/// whose table closed, a call whose last operation was recorded as `NoObject` has its cause: this
+/// operation names an object of another pool, or one that did not stand after some number, not
+/// before that of the lane's last entry and below the call's own; or one that the call itself freed;
+/// or the call published what asks something of an object that is to be freed already. No code runs.
+pub fn missed_calls_have_causes()
+    ensures { MissedCallsHaveCauses }
 {}
