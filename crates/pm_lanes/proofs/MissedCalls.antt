@@ -1,6 +1,6 @@
 -- A CALL THAT ENDED AS NoObject has its cause: its lane saw why, and the run of the lanes tells after
 -- which number no object stood there.
-use Rattle.std.proofs.Common.{◌≡◌, ◌⊎◌, ℕ, ◌<◌, ◌%◌, ⊎_elim, List, inl, inr, refl, arith}
+use Rattle.std.proofs.Common.{◌≡◌, ◌⊎◌, ℕ, true, ◌<◌, ◌%◌, ⊎_elim, List, inl, inr, refl, arith}
 use Rattle.std.proofs.lemmas.Bool.{eqb-true}
 use Rattle.pm_objects.specs.declared.calls.Operation.{Operation}
 use Rattle.pm_view.specs.View.{View}
