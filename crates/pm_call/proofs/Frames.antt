@@ -48,7 +48,7 @@ saw_still sh (DrainedTo left ∷ ns) t line value e = saw_still sh ns t line val
 saw_still sh (Looked c x ∷ ns) t line value e = saw_still sh ns t line value e
 
 -- the view with notes, and with other changes and another log
-abbrev pub noting : View → List Note → List Undrained → ℕ → Log → View
+abbrev pub noting : View → List Note → List Undrained → List Step → Log → View
 noting v ns changes calls log = record v { claims = noted ns v.claims; changes = changes; calls = calls; log = log }
 
 module _ (v : View) (ns : List Note) (changes : List Undrained) (calls : List Step) (log : Log) (are : AreNotes v.fixed.shape v.claims ns) (none : (c : ℕ) → making v.fixed.shape v.claims c ≡ false) where
