@@ -22,6 +22,7 @@ use Rattle.pm_lock.specs.Objects.{line_of}
 use Rattle.pm_lock.specs.Locking.{lock_of}
 use Rattle.pm_lock.specs.Plans.{planned}
 use Rattle.pm_lock.specs.Wants.{has_unplaced, is_listed, planned_all, planned_for, planned_unless}
+use Rattle.pm_call.proofs.MissedObjects.{none_there}
 use Rattle.pm_call.proofs.KeptGrows.{locking}
 use Rattle.pm_call.proofs.PendingLooks.{now_open}
 use Rattle.pm_lock.specs.Acquiring.{Acquired, AcquiredAs, CanAcquire}
@@ -199,6 +200,7 @@ module _ {M : Type 0} (at : M → View → Type 0) (old : Lane M) where
                 opens = l.opens;
                 unspent = refl;
                 why = inr l.late;
+                missing = λ off e. absurd (both_ways false refl e);
                 unlisted = none_entered t h;
               }
 
@@ -321,6 +323,8 @@ module _ {M : Type 0} (at : M → View → Type 0) (old : Lane M) where
                 tried.tried);
             unspent = tried.unspent;
             why = inl first;
+            missing = λ off e. let m = tried.missing off e in
+                none_there s (wants_to_set s) tried.all tried.view tried.tried m.0 off m.1 m.2;
             unlisted = is.entries;
           }
 

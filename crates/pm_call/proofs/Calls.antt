@@ -77,7 +77,7 @@ module _ {M : Type 0} (at : M → View → Type 0) (old mid new : Lane M) (op : 
 
   -- what was tried is refused
   gives_for : is_inside op ≡ true → is_action op ≡ false → (s : Standing) (r : Refusal) → IsRefused s op r → GivesUp s op (Some (Refused r))
-  gives_for inside plain s r refused = inl (record { inside = inside; plain = plain; seen = unseen; root = None; looks = refused.looks; refusal = r; first = refused.first; replied = refl; busy = λ e. absurd (both_ways false refl e) })
+  gives_for inside plain s r refused = inl (record { inside = inside; plain = plain; seen = unseen; root = None; looks = refused.looks; refusal = r; first = refused.first; replied = refl; busy = λ e. absurd (both_ways false refl e); missing = λ off e. absurd (both_ways false refl e) })
 
   refused_here : {T : Type 0} (plan : View → Plan) (Is : View → T → Type 0) (s : Standing) (r : Refusal) → is_inside op ≡ true → is_action op ≡ false → r ≢ refusal.Stopped
       → Came {T = T} at mid op plan Is (Err r) s → IsAtBut at mid (λ t. GivesUp t op (Some (Refused r)))

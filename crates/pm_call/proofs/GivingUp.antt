@@ -6,30 +6,32 @@ use Rattle.pm_layout.specs.Areas.{word_of_generation, word_of_seal}
 use Rattle.pm_model.specs.Inside.{Ran, is_action, is_refusal}
 use Rattle.pm_model.specs.Pending.{Pending}
 use Rattle.pm_model.specs.Shown.{aborts, is_abort}
-use Rattle.pm_model.specs.Transaction.{is_working}
+use Rattle.pm_model.specs.Transaction.{idle, is_working}
 use Rattle.pm_objects.specs.declared.calls.Operation.{Operation}
 use Rattle.pm_objects.specs.declared.history.Value.{Value}
 use Rattle.pm_objects.specs.declared.history.Value.TheVariants.{Refused}
 use Rattle.pm_objects.specs.declared.ids.Oid.{Oid}
-use Rattle.pm_objects.specs.declared.refusal.Refusal.TheVariants.{Busy}
+use Rattle.pm_objects.specs.declared.refusal.Refusal.TheVariants.{Busy, NoObject}
 use Rattle.pm_view.specs.Claims.{class, header_in}
 use Rattle.pm_view.specs.Log.{Open, new_log}
 use Rattle.pm_view.specs.Places.{Place, InRun, InHuge, Descr, RootWord, Block, Small, Big, Root, word_of}
 use Rattle.pm_view.specs.Steps.Step.{Draw, Tell}
-use Rattle.pm_view.specs.View.{View}
+use Rattle.pm_view.specs.View.{Told, View}
 use Rattle.pm_view.specs.Views.{actions_told, after, after_all}
 use Rattle.pm_world.specs.LaneFields.{Standing, last_number, moved}
 use Rattle.pm_world.specs.Lawful.{MayDraw}
 use Rattle.pm_world.specs.Sights.{is_pictured}
 use Rattle.pm_world.specs.declared.lane.HeldLock.{HeldLock}
-use Rattle.pm_crash.specs.Calls.{Fact, pending_with}
-use Rattle.pm_crash.specs.Facts.{BusyWasTried, HaveFacts}
+use Rattle.pm_crash.specs.Calls.{Fact, pending_of, pending_with}
+use Rattle.pm_crash.specs.Facts.{BusyWasTried, HaveFacts, MissWasSeen}
 use Rattle.pm_crash.specs.Looked.{word_place, words_in}
+use Rattle.pm_crash.specs.Missed.{lists_before}
+use Rattle.pm_crash.specs.OpenRuns.{after_told, no_pool}
 use Rattle.pm_crash.specs.Sim.{Sim}
 use Rattle.pm_crash.specs.SimFacts.{IsOver}
 use Rattle.pm_model.specs.Refusals.{Seen}
 use Rattle.pm_crash.specs.SimOps.{RollsBack, IsAborted, IsRefusedBy}
-use Rattle.pm_crash.proofs.EntryFacts.{draws_keep_facts, told_busy}
+use Rattle.pm_crash.proofs.EntryFacts.{before_recorded, draws_keep_facts, records_miss, told_busy}
 use Rattle.pm_crash.proofs.Rollbacks.{sim_rolls_back}
 use Rattle.pm_crash.proofs.SimFacts.{calls_without_log, no_entries, without_entries_have_facts}
 use Rattle.pm_crash.proofs.Simulation.{no_turn}
@@ -44,6 +46,7 @@ use Rattle.pm_call.specs.Plans.{gives_up, takes_back, tells}
 use Rattle.pm_call.proofs.BusyTests.{busy_was_seen, told_refusal}
 use Rattle.pm_call.proofs.Ending.{abort_unrefused, begun_still, refusal_traced, refused_actions, refused_pending}
 use Rattle.pm_call.proofs.Frames.{noting}
+use Rattle.pm_call.proofs.MissedObjects.{found_none_noted, why_recorded}
 use Rattle.pm_call.proofs.RolledBack.{is_changed, rolls_back}
 use Rattle.pm_call.proofs.OverCalls.{ClaimsStand, claims_at_work, claims_ended, claims_noted, ended_pending, over_by, size_apart, size_no_generation}
 use Rattle.pm_call.proofs.Staying.{has_pending}
@@ -163,8 +166,20 @@ module _ (s : Standing) (locks : List HeldLock) (is : IsAtWith s s.level locks) 
       (λ (a : IsAbort op reply). absurd (let z : None ≡ Some (Refused Busy) = sym a.replied ∙ e in cc))
       gives)
 
+  -- its lane saw why, where it is recorded as NoObject
+  lists_same : lists_before told ≡ Rattle.pm_crash.specs.Sim.lists_of v
+  lists_same = ap (λ (call : List Told). after_told call (idle no_pool (pending_of v.entries))) (before_recorded v.call (record { operation = op; reply = reply }))
+
+  missed : MissWasSeen told
+  missed = records_miss told v.call (record { operation = op; reply = reply }) refl (λ e. ⊎_elim
+      (λ (r : IsRefusedWith s op reply). why_recorded v told r.seen r.root op refl lists_same
+      (λ off m. found_none_noted v b.notes [] b.calls (new_log Open b.generation) off (r.missing off m))
+      (r.first ∙ ap (λ x. Some x) (told_refusal r.refusal NoObject (sym r.replied ∙ e))))
+      (λ (a : IsAbort op reply). absurd (let z : None ≡ Some (Refused NoObject) = sym a.replied ∙ e in cc))
+      gives)
+
   facts : (n : ℕ) → HaveFacts (done n)
-  facts n = draws_keep_facts told n fact tried is.facts
+  facts n = draws_keep_facts told n fact tried missed is.facts
 
   -- ---- and the lane holds what it held
   pub actions_same : actions_told op reply v.actions ≡ v.actions

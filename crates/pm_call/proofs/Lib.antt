@@ -5,6 +5,7 @@ mod Frames
 pub mod RecordedWords
 pub mod TakenBack
 mod BusyTests
+pub mod MissedObjects
 pub mod Ending
 pub mod RolledBack
 pub mod GivingUp

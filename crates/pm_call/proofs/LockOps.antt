@@ -23,6 +23,7 @@ use Rattle.pm_call.specs.LockOps.{BeganInner, LockedAs, LockedWanted}
 use Rattle.pm_call.specs.Locking.{IsLocking, LeadsLocks, MayLock, TakesLocks, locks_with}
 use Rattle.pm_call.specs.WantedTaken.{RefusesWants, WantedTaken}
 use Rattle.pm_call.specs.WantedTried.{AreFew, IsPlaced}
+use Rattle.pm_call.proofs.MissedObjects.{none_there}
 use Rattle.pm_call.proofs.LockRefusals.{deep_begins_give_up, refused_locks_give_up}
 use Rattle.pm_call.proofs.LockedObjects.{objects_may_be_locked}
 use Rattle.pm_call.proofs.TriedLocks.{tried_locks_leave_work}
@@ -90,6 +91,7 @@ module _ {M : Type 0} (at : M → View → Type 0) (old : Lane M) where
 
       gives : GivesUp left op (Some (Refused r))
       gives = refused_locks_give_up left why.all op wants level why.seen r left_works locks why.first why.busy
+          (λ off e. let m = why.missing off e in none_there s wants why.all why.view why.tried m.0 off m.1 m.2)
 
     pub may_refuse : (mid : Lane M) (r : Refusal) → Here → WantedTaken at old mid wants (Err r) → IsAtBut at mid (λ s. GivesUp s op (Some (Refused r)))
     unfolding WantedTaken

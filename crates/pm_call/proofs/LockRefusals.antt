@@ -136,11 +136,11 @@ locks_look s all op at sized freed = record {
     changed p e = let d = at.recorded p e in (d.object.block, d.index, d.at, d.within, inr (d.found, d.object.object.inside, d.data_))
 
 pub refused_locks_give_up : RefusedLocksGiveUp
-refused_locks_give_up s all (Lock want) wants level seen r at is first tried =
-    inl (record { inside = refl; plain = refl; seen = seen; root = None; looks = locks_look s all (Lock want) at refl refl; refusal = r; first = lock_refusals s all (Lock want) wants level seen at is ∙ first; replied = refl; busy = λ e. subst (λ ws. WasTried ws s.view.seen) is.0 (tried e) })
-refused_locks_give_up s all (Begin these) wants level seen r at is first tried =
-    inl (record { inside = refl; plain = refl; seen = seen; root = None; looks = locks_look s all (Begin these) at refl refl; refusal = r; first = lock_refusals s all (Begin these) wants level seen at is ∙ first; replied = refl; busy = λ e. subst (λ ws. WasTried ws s.view.seen) is.0 (tried e) })
-refused_locks_give_up s all op wants level seen r at is first tried = absurd is
+refused_locks_give_up s all (Lock want) wants level seen r at is first tried missing =
+    inl (record { inside = refl; plain = refl; seen = seen; root = None; looks = locks_look s all (Lock want) at refl refl; refusal = r; first = lock_refusals s all (Lock want) wants level seen at is ∙ first; replied = refl; busy = λ e. subst (λ ws. WasTried ws s.view.seen) is.0 (tried e); missing = missing })
+refused_locks_give_up s all (Begin these) wants level seen r at is first tried missing =
+    inl (record { inside = refl; plain = refl; seen = seen; root = None; looks = locks_look s all (Begin these) at refl refl; refusal = r; first = lock_refusals s all (Begin these) wants level seen at is ∙ first; replied = refl; busy = λ e. subst (λ ws. WasTried ws s.view.seen) is.0 (tried e); missing = missing })
+refused_locks_give_up s all op wants level seen r at is first tried missing = absurd is
 
 -- ---- a begin at the deepest level
 pub first_here : (t : Test) (rest : List Test) → t.1 ≡ true → first_of (t ∷ rest) ≡ Some t.0
@@ -160,4 +160,5 @@ deep_begins_give_up s wants at deep = inl (record {
       ∙ first_here _ _ (le-leb 64 (lists_of s.view).level (let l = at.lists.level_is in omega (arith, l, deep))));
   replied = refl;
   busy = λ e. absurd (both_ways false refl e);
+  missing = λ off e. absurd (both_ways false refl e);
 })

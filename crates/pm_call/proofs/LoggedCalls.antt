@@ -43,7 +43,7 @@ use Rattle.pm_crash.specs.SimFacts.{IsOver}
 use Rattle.pm_crash.specs.Writes.{written_word}
 use Rattle.pm_crash.proofs.Composing.{growths_compose}
 use Rattle.pm_crash.proofs.SimCommits.{sim_commits}
-use Rattle.pm_crash.proofs.EntryFacts.{draws_keep_facts, told_plainly}
+use Rattle.pm_crash.proofs.EntryFacts.{draws_keep_facts, records_no_miss, told_plainly}
 use Rattle.pm_crash.proofs.SimFacts.{sims_are_facts, transactions_end, was_recorded}
 use Rattle.pm_crash.proofs.SimWrites.{not_descriptor}
 use Rattle.pm_crash.proofs.Telling.{tells_grow}
@@ -376,4 +376,4 @@ module _ (s : Standing) (level : ℕ) (at : IsAt s level) where
         }
 
         pub logged_facts : (n : ℕ) → HaveFacts (after told (Draw n))
-        logged_facts n = draws_keep_facts told n logged_fact (told_plainly s.view.call Commit told.seen) at.facts
+        logged_facts n = draws_keep_facts told n logged_fact (told_plainly s.view.call Commit told.seen) (records_no_miss told s.view.call Commit refl) at.facts

@@ -23,7 +23,7 @@ use Rattle.pm_world.specs.Logs.{AreWhole, ends_with}
 use Rattle.pm_crash.specs.Calls.{Fact}
 use Rattle.pm_crash.specs.Footprints.{has_found}
 use Rattle.pm_crash.specs.Sim.{lists_of}
-use Rattle.pm_crash.proofs.EntryFacts.{draws_keep_facts, told_plainly}
+use Rattle.pm_crash.proofs.EntryFacts.{draws_keep_facts, records_no_miss, told_plainly}
 use Rattle.pm_plan.proofs.Notes as notes
 use Rattle.pm_plan.specs.Plans.{Ready, in_turn, one}
 use Rattle.pm_plan.proofs.Plans.{after_all-append, ready_both}
@@ -333,7 +333,7 @@ module _ (s : Standing) (level : ℕ) (here : IsAt s level)
       over_end = over_by (moved s final) refl refl known_end
           (sym (ap (λ (y : View). value_in y
           (word_of_seal s.view.fixed.shape s.view.fixed.lane)) same_end) ∙ performed.seal)
-          (draws_keep_facts told n fact (told_plainly g.call op told.seen) here.facts)
+          (draws_keep_facts told n fact (told_plainly g.call op told.seen) (records_no_miss told g.call op refl) here.facts)
           (has_pending told (uncalled final) (drawn_now g op None n) refl pending)
           final_claims
 

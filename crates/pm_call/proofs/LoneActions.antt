@@ -10,7 +10,7 @@ use Rattle.pm_objects.specs.declared.calls.Operation.TheVariants.{SetValue, Canc
 use Rattle.pm_objects.specs.declared.history.Value.{Value}
 use Rattle.pm_objects.specs.declared.history.Value.TheVariants.{Refused}
 use Rattle.pm_objects.specs.declared.refusal.Refusal.{Refusal}
-use Rattle.pm_objects.specs.declared.refusal.Refusal.TheVariants.{ActionsFull, Busy, Unaligned}
+use Rattle.pm_objects.specs.declared.refusal.Refusal.TheVariants.{ActionsFull, Busy, NoObject, Unaligned}
 use Rattle.pm_objects.specs.declared.ids.Oid.{Oid}
 use Rattle.pm_view.specs.Steps.Step.{Tell}
 use Rattle.pm_view.specs.View.{Told, View}
@@ -18,6 +18,8 @@ use Rattle.pm_view.specs.Views.{after}
 use Rattle.pm_world.specs.LaneFields.{Standing, listed}
 use Rattle.pm_crash.specs.Calls.{Fact, pending_after, pending_of}
 use Rattle.pm_crash.specs.SimOutside.{IsActionDone, refusal_alone}
+use Rattle.pm_crash.specs.Facts.{MissWasSeen}
+use Rattle.pm_crash.proofs.EntryFacts.{records_miss}
 use Rattle.pm_crash.proofs.SimOutside.{actions_are_facts}
 use Rattle.pm_call.specs.Did.{unseen}
 use Rattle.pm_call.specs.Locking.{IsOpened}
@@ -76,18 +78,30 @@ replies_told v (SetValue id off value) reply is replies = replies
 replies_told v Cancel reply is replies = replies
 replies_told v op reply is replies = absurd is
 
--- it is never told as Busy
-unbusy_set : (reply : Option Value) (aligned full : Bool)
-    → MatchOption (cond (not aligned) (Some Unaligned) (cond full (Some ActionsFull) None)) (reply ≡ None) (λ r. IsRefused r reply) → reply ≢ Some (Refused Busy)
-unbusy_set reply false full is e = absurd (let z : Unaligned ≡ Busy = told_refusal Unaligned Busy (sym is.replied ∙ e) in cc)
-unbusy_set reply true true is e = absurd (let z : ActionsFull ≡ Busy = told_refusal ActionsFull Busy (sym is.replied ∙ e) in cc)
-unbusy_set reply true false is e = absurd (let z : None ≡ Some (Refused Busy) = sym is ∙ e in cc)
+-- it is never refused as Busy, nor as NoObject
+unrefused_set : (reply : Option Value) (aligned full : Bool)
+    → MatchOption (cond (not aligned) (Some Unaligned) (cond full (Some ActionsFull) None)) (reply ≡ None) (λ r. IsRefused r reply) → (reply ≢ Some (Refused Busy)) × (reply ≢ Some (Refused NoObject))
+unrefused_set reply false full is = (
+  λ e. absurd (let z : Unaligned ≡ Busy = told_refusal Unaligned Busy (sym is.replied ∙ e) in cc),
+  λ e. absurd (let z : Unaligned ≡ NoObject = told_refusal Unaligned NoObject (sym is.replied ∙ e) in cc),
+)
+unrefused_set reply true true is = (
+  λ e. absurd (let z : ActionsFull ≡ Busy = told_refusal ActionsFull Busy (sym is.replied ∙ e) in cc),
+  λ e. absurd (let z : ActionsFull ≡ NoObject = told_refusal ActionsFull NoObject (sym is.replied ∙ e) in cc),
+)
+unrefused_set reply true false is = (
+  λ e. absurd (let z : None ≡ Some (Refused Busy) = sym is ∙ e in cc),
+  λ e. absurd (let z : None ≡ Some (Refused NoObject) = sym is ∙ e in cc),
+)
 
-unbusy_action : (v : View) (op : Operation) (reply : Option Value) → IsWordAction op → MatchOption (refusal_alone unseen v op) (IsActionDone v op reply) (λ r. IsRefused r reply) → reply ≢ Some (Refused Busy)
+unrefused_action : (v : View) (op : Operation) (reply : Option Value) → IsWordAction op → MatchOption (refusal_alone unseen v op) (IsActionDone v op reply) (λ r. IsRefused r reply) → (reply ≢ Some (Refused Busy)) × (reply ≢ Some (Refused NoObject))
 unfolding first_of
-unbusy_action v (SetValue id off value) reply is replies = unbusy_set reply (off % 8 == 0) (nat_le max_actions (pending_count (pending_of v.entries))) replies
-unbusy_action v Cancel reply is replies = λ e. absurd (let z : None ≡ Some (Refused Busy) = sym replies ∙ e in cc)
-unbusy_action v op reply is replies = absurd is
+unrefused_action v (SetValue id off value) reply is replies = unrefused_set reply (off % 8 == 0) (nat_le max_actions (pending_count (pending_of v.entries))) replies
+unrefused_action v Cancel reply is replies = (
+  λ e. absurd (let z : None ≡ Some (Refused Busy) = sym replies ∙ e in cc),
+  λ e. absurd (let z : None ≡ Some (Refused NoObject) = sym replies ∙ e in cc),
+)
+unrefused_action v op reply is replies = absurd is
 
 module _ (s : Standing) (is : IsOpened s) (op : Operation) (reply : Option Value) (word : IsWordAction op) (replies : RepliesAlone s op reply) where
   fact : Fact (after s.view (Tell op reply))
@@ -102,10 +116,13 @@ module _ (s : Standing) (is : IsOpened s) (op : Operation) (reply : Option Value
   ends_action n =
       let o = opened_is_open s is in
       let pending = asked_alone s.view is.call is.pending op reply word replies in
+      let unrefused = unrefused_action s.view op reply word replies in
+      let missed : MissWasSeen (after s.view (Tell op reply)) =
+      records_miss (after s.view (Tell op reply)) s.view.call (record { operation = op; reply = reply }) refl (λ e. absurd (unrefused.1 e)) in
       record {
-        ready = steps_ready s s.locks o op reply fact (unbusy_action s.view op reply word replies) pending n;
-        between = record { over = ends_over s s.locks o op reply fact (unbusy_action s.view op reply word replies) pending n; unlocked = is.locks; unlisted = is.entries };
-        number = ends_number s s.locks o op reply fact (unbusy_action s.view op reply word replies) pending n;
+        ready = steps_ready s s.locks o op reply fact unrefused.0 missed pending n;
+        between = record { over = ends_over s s.locks o op reply fact unrefused.0 missed pending n; unlocked = is.locks; unlisted = is.entries };
+        number = ends_number s s.locks o op reply fact unrefused.0 missed pending n;
       }
 
 pub actions_may_be_told : ActionsMayBeTold

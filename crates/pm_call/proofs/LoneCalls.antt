@@ -14,6 +14,7 @@ use Rattle.pm_world.specs.LaneFields.{Standing, last_number, moved}
 use Rattle.pm_world.specs.declared.lane.HeldLock.{HeldLock}
 use Rattle.pm_world.specs.Lawful.{KeepsRoot, MayDraw}
 use Rattle.pm_crash.specs.Calls.{Fact}
+use Rattle.pm_crash.specs.Facts.{MissWasSeen}
 use Rattle.pm_crash.proofs.EntryFacts.{draws_keep_facts, told_busy}
 use Rattle.pm_crash.proofs.Simulation.{no_turn}
 use Rattle.pm_plan.specs.Plans.{Ready, in_turn, one}
@@ -28,7 +29,7 @@ use Rattle.pm_call.proofs.OverCalls.{ClaimsStand, claims_ended, drawn_now, over_
 use Rattle.pm_call.proofs.Staying.{has_pending}
 
 -- ---- THE CALL ENDS, where it has its fact, and the lane lists what is pending then
-module _ (s : Standing) (all : List HeldLock) (o : IsOpenWith s all) (op : Operation) (reply : Option Value) (fact : Fact (after s.view (Tell op reply))) (unbusy : reply ≢ Some (Refused Busy)) (pending : HasPending (after s.view (Tell op reply))) where
+module _ (s : Standing) (all : List HeldLock) (o : IsOpenWith s all) (op : Operation) (reply : Option Value) (fact : Fact (after s.view (Tell op reply))) (unbusy : reply ≢ Some (Refused Busy)) (missed : MissWasSeen (after s.view (Tell op reply))) (pending : HasPending (after s.view (Tell op reply))) where
   abbrev v : View
   v = s.view
 
@@ -79,7 +80,7 @@ module _ (s : Standing) (all : List HeldLock) (o : IsOpenWith s all) (op : Opera
   }
 
   is_over : (n : ℕ) → IsOver (moved (with_locks all s) (done n))
-  is_over n = over_by (moved (with_locks all s) (done n)) (log_done n) o.drained o.can.working.known o.can.sealed (draws_keep_facts told n fact (told_busy v.call (record { operation = op; reply = reply }) told.seen (λ e. absurd (unbusy e))) o.can.facts)
+  is_over n = over_by (moved (with_locks all s) (done n)) (log_done n) o.drained o.can.working.known o.can.sealed (draws_keep_facts told n fact (told_busy v.call (record { operation = op; reply = reply }) told.seen (λ e. absurd (unbusy e))) missed o.can.facts)
       (has_pending told (uncalled (done n)) (drawn_now v op reply n) refl pending)
       (claims_ended v op reply n all claims)
 

@@ -19,6 +19,8 @@ use Rattle.pm_crash.specs.Calls.{Fact, pending_of}
 use Rattle.pm_crash.specs.Looked.{KnowsSize}
 use Rattle.pm_crash.specs.OpenRuns.{after_told}
 use Rattle.pm_crash.specs.Sim.{lists_of}
+use Rattle.pm_crash.specs.Facts.{MissWasSeen}
+use Rattle.pm_crash.proofs.EntryFacts.{records_no_miss}
 use Rattle.pm_crash.proofs.SimPublish.{enters_none}
 use Rattle.pm_crash.proofs.Simulation.{nothing_yet, sim_begins}
 use Rattle.pm_plan.specs.Plans.{Ready}
@@ -239,12 +241,15 @@ module _ (t : Standing) (h : HoldsWords t) where
       unbusy : None ≢ Some (Refused Busy)
       unbusy e = absurd cc
 
+      missed : MissWasSeen (after t.view (Tell Publish None))
+      missed = records_no_miss (after t.view (Tell Publish None)) t.view.call Publish refl
+
       pub leaves_numbered : (found : ℕ → ℕ) → LeavesPublished t found n
       leaves_numbered found = leaves_by found n (subst (Leaves found n) (sym none) (
-        steps_ready (with_locks [] t) t.locks opens Publish None fact unbusy pending n,
-        ends_over (with_locks [] t) t.locks opens Publish None fact unbusy pending n,
-        ends_number (with_locks [] t) t.locks opens Publish None fact unbusy pending n,
-        ends_actions (with_locks [] t) t.locks opens Publish None fact unbusy pending n,
+        steps_ready (with_locks [] t) t.locks opens Publish None fact unbusy missed pending n,
+        ends_over (with_locks [] t) t.locks opens Publish None fact unbusy missed pending n,
+        ends_number (with_locks [] t) t.locks opens Publish None fact unbusy missed pending n,
+        ends_actions (with_locks [] t) t.locks opens Publish None fact unbusy missed pending n,
         ap (λ (v : View). v.fixed) (ended_so t.view Publish None n),
       ))
 

@@ -21,7 +21,7 @@ use Rattle.pm_crash.specs.Facts.{HaveFacts}
 use Rattle.pm_crash.specs.Looked.{IsChanged}
 use Rattle.pm_crash.specs.Sim.{lists_of}
 use Rattle.pm_crash.specs.SimCommits.{sets_at}
-use Rattle.pm_crash.proofs.EntryFacts.{draws_keep_facts, told_plainly}
+use Rattle.pm_crash.proofs.EntryFacts.{draws_keep_facts, records_no_miss, told_plainly}
 use Rattle.pm_crash.proofs.Rollbacks.{committed_calls}
 use Rattle.pm_crash.proofs.Simulation.{no_turn}
 use Rattle.pm_crash.proofs.Telling.{tells_grow}
@@ -114,7 +114,7 @@ module _ (s : Standing) (at : At s) (one_ : s.level ≡ 1) (none : s.entries ≡
   }
 
   facts : (n : ℕ) → HaveFacts (done n)
-  facts n = draws_keep_facts told n fact (told_plainly p.call Commit told.seen) here.facts
+  facts n = draws_keep_facts told n fact (told_plainly p.call Commit told.seen) (records_no_miss told p.call Commit refl) here.facts
 
   -- ---- and then it holds what it held
   done_claims : (n : ℕ) → ClaimsStand (done n) s.locks
@@ -123,7 +123,7 @@ module _ (s : Standing) (at : At s) (one_ : s.level ≡ 1) (none : s.entries ≡
   done_pending : (n : ℕ) → HasPending (uncalled (done n))
   done_pending n = ended_pending p Commit None n (λ q. refl) refl here.pending
 
-  over_then : (n : ℕ) (notes : List Note) (calls generation : ℕ) → AreNotes v.fixed.shape p.claims notes
+  over_then : (n : ℕ) (notes : List Note) (calls : List Step) (generation : ℕ) → AreNotes v.fixed.shape p.claims notes
       → ((u : ℕ) → u ≢ word_of_generation v.fixed.shape v.fixed.lane → value_in (noting (done n) notes [] calls (new_log Idle generation)) u ≡ value_in (done n) u)
       → value_in (noting (done n) notes [] calls (new_log Idle generation)) (word_of_generation v.fixed.shape v.fixed.lane) ≡ Some generation
       → value_in (noting (done n) notes [] calls (new_log Idle generation)) (word_of_seal v.fixed.shape v.fixed.lane) ≡ Some 0

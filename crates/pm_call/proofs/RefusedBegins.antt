@@ -3,6 +3,7 @@ use Rattle.std.proofs.Common.{◌≡◌, inl, ℕ, suc, ◌==◌, ◌&&◌, nat_
 use Rattle.std.proofs.lemmas.Bool.{and_left, and_right, both_ways}
 use Rattle.std.proofs.lemmas.List.Elements.{All-nil}
 use Rattle.pm_model.specs.Inside.{Ran, is_untraced}
+use Rattle.pm_model.specs.Items.{is_among}
 use Rattle.pm_model.specs.Refusals.{Seen, first_of}
 use Rattle.pm_model.specs.Transaction.{idle, is_working}
 use Rattle.pm_objects.specs.declared.calls.Operation.{Operation}
@@ -12,7 +13,7 @@ use Rattle.pm_objects.specs.declared.history.Value.{Value}
 use Rattle.pm_objects.specs.declared.history.Value.TheVariants.{Refused}
 use Rattle.pm_objects.specs.declared.ids.Oid.{Oid}
 use Rattle.pm_objects.specs.declared.refusal.Refusal.{Refusal}
-use Rattle.pm_objects.specs.declared.refusal.Refusal.TheVariants.{Busy}
+use Rattle.pm_objects.specs.declared.refusal.Refusal.TheVariants.{Busy, NoObject}
 use Rattle.pm_view.specs.Changes.{Undrained}
 use Rattle.pm_view.specs.Counts.{lines_up_to, unflushed_lines}
 use Rattle.pm_view.specs.Entries.{Entry, latest, redos, turn}
@@ -27,14 +28,15 @@ use Rattle.pm_world.specs.Lawful.{KeepsRoot, MayDraw}
 use Rattle.pm_world.specs.Sights.{is_recorded}
 use Rattle.pm_world.specs.declared.lane.HeldLock.{HeldLock}
 use Rattle.pm_crash.specs.Calls.{Fact, pending_of, told_by}
-use Rattle.pm_crash.specs.Facts.{BusyWasTried, HaveFacts}
+use Rattle.pm_crash.specs.Facts.{BusyWasTried, HaveFacts, MissWasSeen}
 use Rattle.pm_crash.specs.Looked.{items_seen, pool_seen, refusal_by}
+use Rattle.pm_crash.specs.Missed.{FoundNone}
 use Rattle.pm_crash.specs.OpenRuns.{after_told, no_pool}
 use Rattle.pm_crash.specs.Sim.{Sim, lists_of, tx_with}
 use Rattle.pm_crash.specs.SimFacts as sims
 use Rattle.pm_crash.specs.SimFacts.{is_begun}
 use Rattle.pm_crash.specs.SimOps.{LookedAt}
-use Rattle.pm_crash.proofs.EntryFacts.{draws_keep_facts, told_busy}
+use Rattle.pm_crash.proofs.EntryFacts.{before_recorded, draws_keep_facts, records_miss, told_busy}
 use Rattle.pm_crash.proofs.SimFacts.{calls_without_log, no_entries, without_entries_have_facts}
 use Rattle.pm_crash.proofs.SimOps.{sim_refuses}
 use Rattle.pm_crash.proofs.Simulation.{no_turn}
@@ -50,6 +52,7 @@ use Rattle.pm_call.specs.Plans.{ends_call, gives_up, takes_back}
 use Rattle.pm_call.proofs.BusyTests.{busy_was_seen, told_refusal}
 use Rattle.pm_call.proofs.Ending.{first_traced}
 use Rattle.pm_call.proofs.LockRefusals.{first_skip, tests_same}
+use Rattle.pm_call.proofs.MissedObjects.{why_recorded}
 use Rattle.pm_call.proofs.OpenedCalls.{opened_lanes_may_lock}
 use Rattle.pm_call.proofs.OverCalls.{ClaimsStand, claims_ended, ended_pending, over_as, over_by}
 use Rattle.pm_call.proofs.RefusedWants.{tests_at}
@@ -104,7 +107,8 @@ module _ (s : Standing) (all : List HeldLock) (is : CanLockWith s all) (call : s
     (records : s.view.log.records ≡ []) (drained : s.view.changes ≡ [])
     (wants : List Want) (seen : Seen) (r : Refusal)
     (first : refusal_by seen s.view None (Begin wants) ≡ Some r)
-    (traced : is_untraced r ≡ false) (unbusy : seen.busy ≡ false) where
+    (traced : is_untraced r ≡ false) (unbusy : seen.busy ≡ false)
+    (missing : (off : ℕ) → is_among seen.missing off ≡ true → FoundNone s.view off) where
   abbrev v : View
   v = s.view
 
@@ -185,8 +189,17 @@ module _ (s : Standing) (all : List HeldLock) (is : CanLockWith s all) (call : s
       (busy_was_seen seen (tx_with v (pool_seen v None) (items_seen v)) op
       (first ∙ ap (λ x. Some x) (told_refusal r Busy e)))))
 
+  -- its lane saw why, where it is recorded as NoObject
+  missed : MissWasSeen told
+  missed = records_miss told v.call (record { operation = op; reply = reply }) refl
+      (λ e. why_recorded v told seen None op refl
+      (ap (λ (calls : List Told). after_told calls (idle no_pool (pending_of v.entries)))
+      (before_recorded v.call (record { operation = op; reply = reply })))
+      missing
+      (first ∙ ap (λ x. Some x) (told_refusal r NoObject e)))
+
   facts : (n : ℕ) → HaveFacts (done n)
-  facts n = draws_keep_facts told n fact tried is.facts
+  facts n = draws_keep_facts told n fact tried missed is.facts
 
   log_is : v.log ≡ new_log Open v.log.generation
   log_is = λ i. record {
@@ -260,7 +273,7 @@ opened_none_back s wants all x is tried =
     ∙ is.records) (ap (λ (y : View). y.changes) same ∙ is.drained)
 
 pub refused_begins_end : RefusedBeginsEnd
-refused_begins_end s wants all x seen r n is tried spent busy first =
+refused_begins_end s wants all x seen r n is tried spent busy first missing =
     let can = opened_lanes_may_lock s is in
     let same = view_on s wants all x tried in
     let may : CanLockWith (moved s x) all = leaves_open s wants all x can tried in
@@ -269,7 +282,7 @@ refused_begins_end s wants all x seen r n is tried spent busy first =
     ∙ is.records) (ap (λ (y : View). y.changes) same ∙ is.drained) wants seen r
     (refusals_with (moved s x) all may call wants seen spent busy
     ∙ (ap first_of (tests_at s wants seen x (fixed_on s wants all x tried)) ∙ first))
-    (locks_traced seen s wants r first) busy n
+    (locks_traced seen s wants r first) busy missing n
 
 pub refused_begins_are_past : {M : Type 0} (at : M → View → Type 0) → RefusedBeginsArePast at
 refused_begins_are_past at lane s wants r one up = record {

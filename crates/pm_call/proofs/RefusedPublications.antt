@@ -11,24 +11,27 @@ use Rattle.pm_objects.specs.declared.history.Value.{Value}
 use Rattle.pm_objects.specs.declared.history.Value.TheVariants.{Refused}
 use Rattle.pm_objects.specs.declared.ids.Oid.{Oid}
 use Rattle.pm_objects.specs.declared.refusal.Refusal.{Refusal}
-use Rattle.pm_objects.specs.declared.refusal.Refusal.TheVariants.{Busy, Spent}
+use Rattle.pm_objects.specs.declared.refusal.Refusal.TheVariants.{Busy, NoObject, Spent}
 use Rattle.pm_view.specs.Places.{Block, Small, Big, Root}
 use Rattle.pm_view.specs.Steps.Step.{Tell}
 use Rattle.pm_view.specs.View.{Told, View}
 use Rattle.pm_view.specs.Views.{after}
 use Rattle.pm_crash.specs.Calls.{Fact}
+use Rattle.pm_crash.specs.Facts.{MissWasSeen}
 use Rattle.pm_crash.specs.Freshness.{root_told}
 use Rattle.pm_crash.specs.Looked.{IsObject, KnowsSize, KnowsWord, items_seen, pool_seen}
 use Rattle.pm_crash.specs.Sim.{known_offset}
 use Rattle.pm_crash.specs.SimOps.{Finds}
 use Rattle.pm_crash.specs.SimOutside.{outside_before}
 use Rattle.pm_crash.specs.SimPublish.{IsLateRefusal, LooksToPublish, early_refusal, pending_before}
+use Rattle.pm_crash.proofs.EntryFacts.{records_miss}
 use Rattle.pm_crash.proofs.SimPublish.{refused_publications_are_facts}
 use Rattle.pm_call.specs.Outside.{IsPublishRefusal, RefusedPublicationsEnd, TriedLocksLeaveOpen}
 use Rattle.pm_call.specs.Waiting.{HasPending}
 use Rattle.pm_call.proofs.BusyTests.{busy_applies, told_refusal}
 use Rattle.pm_call.proofs.Ending.{first_traced, refused_actions, refused_pending}
 use Rattle.pm_call.proofs.LoneCalls.{ends_actions, ends_number, ends_over, steps_ready}
+use Rattle.pm_call.proofs.MissedObjects.{publish_recorded}
 use Rattle.pm_call.proofs.OpenedCalls.{opened_lanes_may_lock}
 use Rattle.pm_call.proofs.Staying.{pending_told}
 use Rattle.pm_call.proofs.TriedLocks.{leaves_open, view_on}
@@ -84,11 +87,11 @@ module _ (v : View) (seen : Seen) (r : Refusal) (unspent : seen.spent ≡ false)
 
 -- THE LAWS
 pub refused_publications_end : RefusedPublicationsEnd
-refused_publications_end s all seen r n o unspent is = record {
-  ready = steps_ready s all o Publish reply fact unbusy pending n;
-  over = ends_over s all o Publish reply fact unbusy pending n;
-  number = ends_number s all o Publish reply fact unbusy pending n;
-  pending = ends_actions s all o Publish reply fact unbusy pending n;
+refused_publications_end s all seen r n o unspent is missing = record {
+  ready = steps_ready s all o Publish reply fact unbusy missed pending n;
+  over = ends_over s all o Publish reply fact unbusy missed pending n;
+  number = ends_number s all o Publish reply fact unbusy missed pending n;
+  pending = ends_actions s all o Publish reply fact unbusy missed pending n;
 }
   where
     reply : Option Value
@@ -113,6 +116,10 @@ refused_publications_end s all seen r n o unspent is = record {
         (λ (l : IsLateRefusal s.view seen r). both_ways false refl
         (busy_applies (tests_outside seen (outside_before s.view (record (pool_seen s.view (root_told l.value)) { items = items_seen s.view })) Publish) (l.first ∙ ap (λ z. Some z) same)))
         is
+
+    missed : MissWasSeen (after s.view (Tell Publish (Some (Refused r))))
+    missed = records_miss (after s.view (Tell Publish (Some (Refused r)))) s.view.call (record { operation = Publish; reply = reply }) refl
+        (λ e. publish_recorded s.view r seen o.call missing (told_refusal r NoObject e) is)
 
     pending : HasPending (after s.view (Tell Publish (Some (Refused r))))
     pending = pending_told s.view Publish (Some (Refused r)) (λ p. refused_pending Publish r p) (refused_actions Publish r s.view.actions) o.can.pending

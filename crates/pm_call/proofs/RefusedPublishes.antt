@@ -56,7 +56,7 @@ module _ {M : Type 0} (at : M → View → Type 0) (mid : Lane M) (s : Standing)
 module _ {M : Type 0} (at : M → View → Type 0) (old : Lane M) (r : Refusal) where
   ends : (s : Standing) (n : ℕ) → MayRefuse s r → EndsRefused s Publish (Some (Refused r)) n
   ends s n m =
-      refused_publications_end (with_locks [] s) s.locks m.seen r n m.opens m.unspent m.why
+      refused_publications_end (with_locks [] s) s.locks m.seen r n m.opens m.unspent m.why m.missing
 
   pub may_tell : (s : Standing) × Rests at old s × MayRefuse s r
       → MayEnd (at old.memory) Publish (Some (Refused r))

@@ -14,6 +14,7 @@ use Rattle.pm_view.specs.Claims.{Claim, making, pictured}
 use Rattle.pm_view.specs.Entries.{first_of_two, turn}
 use Rattle.pm_view.specs.Log.{Open, Recorded, new_log, old_of}
 use Rattle.pm_view.specs.Places.{Place, Big, word_of, Block, Root, Small}
+use Rattle.pm_view.specs.Steps.{Step}
 use Rattle.pm_view.specs.Steps.Step.{Tell}
 use Rattle.pm_view.specs.View.{View}
 use Rattle.pm_view.specs.Views.{after, value_in}
@@ -70,7 +71,7 @@ pub header_new : (v : View) → IsSound v → (records : List Recorded) → ((p 
 header_new v sound records recorded B found = false_from_ne_true (is_recorded records (word_place v B 1))
     (λ e. let q = recorded (word_place v B 1) e in header_apart v sound B q.object.block 1 q.index found q.found (omega arith) q.data_ q.within q.at)
 
-module _ (v : View) (ns : List Note) (calls g : ℕ) (are : AreNotes v.fixed.shape v.claims ns) (unmaking : (c : ℕ) → making v.fixed.shape v.claims c ≡ false) where
+module _ (v : View) (ns : List Note) (calls : List Step) (g : ℕ) (are : AreNotes v.fixed.shape v.claims ns) (unmaking : (c : ℕ) → making v.fixed.shape v.claims c ≡ false) where
   abbrev sh : Shape
   sh = v.fixed.shape
 

@@ -41,6 +41,7 @@ use Rattle.pm_call.specs.Opening.{WasBegun, BeginWasRefused, WaitWasStopped}
 use Rattle.pm_call.specs.Plans.{ends_call, gives_up}
 use Rattle.pm_call.specs.Stages.{at_level}
 use Rattle.pm_call.specs.WantedTaken.{IsMissed}
+use Rattle.pm_call.proofs.MissedObjects.{none_there}
 use Rattle.pm_call.proofs.FirstLocks as first_locks
 use Rattle.pm_call.proofs.LocksGot.{got_locks_are_taken, missed_locks_are_tried, none_looked}
 use Rattle.pm_call.proofs.OpenedCalls.{opened_lanes_may_lock, transactions_may_begin}
@@ -286,7 +287,7 @@ module _ {M : Type 0} (at : M → View → Type 0) (mid : Lane M) (wants : List 
       leaves : (n : ℕ) → LeavesOver (with_locks h.all (moved s h.view)) (Begin wants)
           (Some (Refused r)) n
       leaves n = refused_begins_end s wants h.all h.view h.seen r n is h.tried h.unspent h.unbusy
-          h.first
+          h.first (λ off e. let m = h.missing off e in none_there s wants h.all h.view h.tried m.0 off m.1 m.2)
 
       only : (n : ℕ) → gives_up (Begin wants) reply n h.view ≡ ends_call (Begin wants) reply n
           h.view

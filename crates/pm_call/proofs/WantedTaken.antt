@@ -79,7 +79,10 @@ pub missed_before : (v u : View) (plan : List HeldLock) → IsTaken v plan u →
 missed_before v u plan taken line w m =
     let then : View = record v { claims = took plan v.claims; seen = u.seen } in
     let n : MissesAt then line w = subst (λ (y : View). MissesAt y line w) taken m in
-    λ classes same B has head. subst (λ k. k < times_missed v.fixed.shape B w.claims) ((taken_keep v then plan refl).missed B) (n classes same B has head)
+    λ classes same B has head. let missed = n classes same B has head in record {
+      more = subst (λ k. k < times_missed v.fixed.shape B w.claims) ((taken_keep v then plan refl).missed B) missed.more;
+      since = missed.since;
+    }
 
 module _ (s : Standing) (wants : List Want) (at : At s) where
   each_got : HoldsEach (got_all s wants) (s.locks ++ to_take s wants)

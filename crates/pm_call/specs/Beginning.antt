@@ -1,6 +1,7 @@
 -- AN OUTERMOST BEGIN IS REFUSED, as laws: by what the lane tried and looked at the plain model's
 -- first refusal is found; and such a begin is an entry of the history, which ends its call.
-use Rattle.std.specs.Prelude.{◌≡◌, ℕ, false, List, None, Some}
+use Rattle.std.specs.Prelude.{◌≡◌, ℕ, true, false, List, None, Some}
+use Rattle.pm_model.specs.Items.{is_among}
 use Rattle.pm_model.specs.Refusals.{Seen, first_of}
 use Rattle.pm_model.specs.declared.stage.Stage.TheVariants as stage
 use Rattle.pm_objects.specs.declared.calls.Operation.TheVariants.{Begin}
@@ -13,6 +14,7 @@ use Rattle.pm_world.specs.LaneFields.{Standing, moved}
 use Rattle.pm_world.specs.declared.lane.HeldLock.{HeldLock}
 use Rattle.pm_world.specs.declared.lane.Lane.{Lane}
 use Rattle.pm_crash.specs.Looked.{refusal_by}
+use Rattle.pm_crash.specs.Missed.{FoundNone}
 use Rattle.pm_call.specs.Did.{next}
 use Rattle.pm_call.specs.GivenUp.{LeavesOver, WasGivenUp, with_locks}
 use Rattle.pm_call.specs.LockRefusals.{TriedLocks, locking_tests}
@@ -26,12 +28,14 @@ BeginRefusals = (s : Standing) (wants : List Want) (seen : Seen) → IsOpened s
     → seen.spent ≡ false → seen.busy ≡ false
     → refusal_by seen s.view None (Begin wants) ≡ first_of (locking_tests seen s wants)
 
--- A REFUSED ONE ends its call, whatever locks the lane got: it is told, and takes its number
+-- A REFUSED ONE ends its call, whatever locks the lane got: it is told, and takes its number. No
+-- object was found where one was seen to be missing
 abbrev pub RefusedBeginsEnd : Type 0
 RefusedBeginsEnd = (s : Standing) (wants : List Want) (all : List HeldLock) (x : View)
     (seen : Seen) (r : Refusal) (n : ℕ)
     → IsOpened s → TriedLocks s wants all x → seen.spent ≡ false → seen.busy ≡ false
     → first_of (locking_tests seen s wants) ≡ Some r
+    → ((off : ℕ) → is_among seen.missing off ≡ true → FoundNone x off)
     → LeavesOver (with_locks all (moved s x)) (Begin wants) (Some (Refused r)) n
 
 -- SO ITS LEVEL, the first, may end

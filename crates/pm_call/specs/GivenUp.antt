@@ -2,6 +2,7 @@
 use Rattle.std.specs.Prelude.{◌≡◌, ◌⊎◌, ℕ, suc, ◌+◌, true, false, List, [], ◌∷◌, Option, Some, None, Result, Ok, Err}
 use Rattle.pm_memory.specs.Runs.{Stops}
 use Rattle.pm_memory.specs.declared.lane_mem.Stopped.{Stopped}
+use Rattle.pm_model.specs.Items.{is_among}
 use Rattle.pm_model.specs.Refusals.{Seen}
 use Rattle.pm_model.specs.Inside.{is_action, is_inside, wants_of}
 use Rattle.pm_objects.specs.declared.calls.Operation.{Operation}
@@ -23,6 +24,7 @@ use Rattle.pm_undo.specs.Undoing.{KeepsLog, LogMoves}
 use Rattle.pm_undo.specs.Working.{IsWorking}
 use Rattle.pm_crash.specs.Facts.{WasTried}
 use Rattle.pm_crash.specs.Looked.{refusal_by}
+use Rattle.pm_crash.specs.Missed.{FoundNone}
 use Rattle.pm_crash.specs.SimOps.{LookedAt}
 use Rattle.pm_call.specs.At.{IsAtWith, entries_so_far}
 use Rattle.pm_call.specs.Did.{Cut, IsOver, given_up, next}
@@ -42,6 +44,8 @@ pub record IsRefusedWith (s : Standing) (op : Operation) (reply : Option Value) 
   pub replied : reply ≡ Some (Refused refusal)
   -- a lock that was seen to be another lane's was tried in the call, and is wanted
   pub busy : seen.busy ≡ true → WasTried (wants_of op) s.view.seen
+  -- where an object was seen to be missing none was found
+  pub missing : (off : ℕ) → is_among seen.missing off ≡ true → FoundNone s.view off
 
 -- an abort
 pub record IsAbort (op : Operation) (reply : Option Value) : Type 0 where

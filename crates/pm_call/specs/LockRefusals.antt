@@ -18,6 +18,7 @@ use Rattle.pm_world.specs.LaneFields.{Standing, moved}
 use Rattle.pm_world.specs.declared.lane.HeldLock.{HeldLock}
 use Rattle.pm_crash.specs.Facts.{WasTried}
 use Rattle.pm_crash.specs.Looked.{refusal_by}
+use Rattle.pm_crash.specs.Missed.{FoundNone}
 use Rattle.pm_lock.specs.Acquiring.{AreFinds}
 use Rattle.pm_lock.specs.Holding.{IsTaken}
 use Rattle.pm_lock.specs.Objects.{HasLooked, IsOfWorld}
@@ -55,13 +56,15 @@ LockRefusals = (s : Standing) (all : List HeldLock) (op : Operation) (wants : Li
     → refusal_by seen s.view None op ≡ first_of (locking_tests seen s wants)
 
 -- SO A REFUSED ONE gives the transaction up, where a lock that is wanted was tried if it was seen to
--- be another lane's
+-- be another lane's, and no object was found where one was seen to be missing
 abbrev pub RefusedLocksGiveUp : Type 0
 RefusedLocksGiveUp = (s : Standing) (all : List HeldLock) (op : Operation) (wants : List Want)
     (level : ℕ) (seen : Seen) (r : Refusal)
     → IsAtWith s s.level all → IsLocking op wants s.level level
     → first_of (locking_tests seen s wants) ≡ Some r
-    → (seen.busy ≡ true → WasTried wants s.view.seen) → GivesUp s op (Some (Refused r))
+    → (seen.busy ≡ true → WasTried wants s.view.seen)
+    → ((off : ℕ) → is_among seen.missing off ≡ true → FoundNone s.view off)
+    → GivesUp s op (Some (Refused r))
 
 -- and so does a begin at the deepest level
 abbrev pub DeepBeginsGiveUp : Type 0

@@ -1,7 +1,7 @@
 -- A CALL OUTSIDE A TRANSACTION, as laws: that a word be set is asked for, or what is pending is
 -- cancelled; or a publish is refused. It is told with its reply, and takes its number.
 -- pmemobj_set_value(3), pmemobj_cancel(3), pmemobj_publish(3).
-use Rattle.std.specs.Prelude.{◌≡◌, ◌⊎◌, ℕ, suc, ◌^◌, ◌<◌, false, List, [], Option, Some, MatchOption}
+use Rattle.std.specs.Prelude.{◌≡◌, ◌⊎◌, ℕ, suc, ◌^◌, ◌<◌, true, false, List, [], Option, Some, MatchOption}
 use Rattle.pm_objects.specs.declared.calls.Operation.{Operation}
 use Rattle.pm_objects.specs.declared.calls.Operation.TheVariants.{SetValue, Publish, Cancel}
 use Rattle.pm_objects.specs.declared.history.Value.{Value}
@@ -9,10 +9,12 @@ use Rattle.pm_objects.specs.declared.history.Value.TheVariants.{Refused}
 use Rattle.pm_objects.specs.declared.calls.Want.{Want}
 use Rattle.pm_objects.specs.declared.refusal.Refusal.{Refusal}
 use Rattle.pm_model.specs.Inside.{IsRefused}
+use Rattle.pm_model.specs.Items.{is_among}
 use Rattle.pm_model.specs.Refusals.{Seen}
 use Rattle.pm_view.specs.View.{View}
 use Rattle.pm_world.specs.LaneFields.{Standing, last_number, moved}
 use Rattle.pm_world.specs.declared.lane.HeldLock.{HeldLock}
+use Rattle.pm_crash.specs.Missed.{FoundNone}
 use Rattle.pm_crash.specs.SimOutside.{IsActionDone, refusal_alone}
 use Rattle.pm_crash.specs.SimPublish.{IsLateRefusal, early_refusal}
 use Rattle.pm_plan.specs.Plans.{Ready}
@@ -73,8 +75,10 @@ pub record EndsRefused (s : Standing) (op : Operation) (reply : Option Value) (n
   pub number : last_number (next s (ends_call op reply n)).view.entries ≡ suc n
   pub pending : (next s (ends_call op reply n)).view.actions ≡ s.view.actions
 
--- THE LAW: so it may be told, whatever number the call takes
+-- THE LAW: so it may be told, whatever number the call takes, where no object was found at the
+-- offsets at which one was seen to be missing
 abbrev pub RefusedPublicationsEnd : Type 0
 RefusedPublicationsEnd = (s : Standing) (all : List HeldLock) (seen : Seen) (r : Refusal) (n : ℕ)
     → IsOpenWith s all → seen.spent ≡ false → IsPublishRefusal s.view seen r
+    → ((off : ℕ) → is_among seen.missing off ≡ true → FoundNone s.view off)
     → EndsRefused (with_locks all s) Publish (Some (Refused r)) n

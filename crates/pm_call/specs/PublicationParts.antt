@@ -3,6 +3,7 @@
 use Rattle.std.specs.Prelude.{◌≡◌, ℕ, Bool, true, false, Contains, List, [], ◌∷◌, take, Some, Result, Ok, Err}
 use Rattle.std.specs.List.{flat_map}
 use Rattle.pm_memory.specs.Runs.{Stops}
+use Rattle.pm_model.specs.Items.{is_among}
 use Rattle.pm_model.specs.Pending.{SetWord, want_to_write}
 use Rattle.pm_model.specs.Refusals.{Seen}
 use Rattle.pm_objects.specs.declared.calls.Operation.TheVariants.{Publish}
@@ -17,6 +18,7 @@ use Rattle.pm_world.specs.declared.lane.Lane.{Lane}
 use Rattle.pm_world.specs.declared.lane.PendingAction.{PendingAction}
 use Rattle.pm_world.specs.declared.lane.PendingAction.TheVariants.{Set}
 use Rattle.pm_crash.specs.Facts.{HaveFacts}
+use Rattle.pm_crash.specs.Missed.{FoundNone}
 use Rattle.pm_plan.specs.Plans.{Ready}
 use Rattle.pm_call.specs.Did.{After, next}
 use Rattle.pm_call.specs.Finishing.{TellsNumber}
@@ -86,6 +88,7 @@ pub record MayRefuse (t : Standing) (r : Refusal) : Type 0 where
   pub opens : IsOpenWith (with_locks [] t) t.locks
   pub unspent : seen.spent ≡ false
   pub why : IsPublishRefusal t.view seen r
+  pub missing : (off : ℕ) → is_among seen.missing off ≡ true → FoundNone t.view off
   pub unlisted : t.entries ≡ []
 
 -- ---- ITS PARTS

@@ -202,6 +202,7 @@ module _ {M : Type 0} (at : M → View → Type 0) (old mid new : Lane M) where
     first = refused.first;
     replied = refl;
     busy = λ e. absurd (both_ways false refl e);
+    missing = λ off e. absurd (both_ways false refl e);
   })
 
   pub refusal_stands : (r : Refusal) → IsAt at old → Checked at old mid Publishes Publish (Err r)
