@@ -7,6 +7,8 @@ pub mod LaneWorks
 pub mod Levels
 pub mod LineEnds
 pub mod MadeCalls
+pub mod NoFrees
+pub mod Missed
 pub mod Ran
 pub mod Reported
 pub mod Reports

@@ -15,6 +15,16 @@ pub record CallLaws : Type 0 where
   pub rising : (lines : List ScriptLine) → LinesRise lines → All LinesRise (calls_of lines)
   pub lanes : (lane : ℕ) (lines : List ScriptLine) → LinesRise lines → LinesRise (of_lane lane lines)
 
+-- the lines of each call of a lane are of words that lanes run, as the script's are
+pub lines_run : ((lines : List ScriptLine) → All (All (Contains lines)) (calls_of lines))
+    → (script : List ScriptLine) → All RunsOnLanes script
+    → (lane : ℕ) → All (All RunsOnLanes) (calls_of_lane lane script)
+lines_run among script words lane k d low j e l =
+    let lines : List ScriptLine = of_lane lane script in
+    All-contains RunsOnLanes lines (get_or (get_or (calls_of lines) k d) j e)
+    (All-filter (λ (line : ScriptLine). line.lane == lane) RunsOnLanes script words)
+    (among lines k d low j e l)
+
 module _ (laws : CallLaws) (script : List ScriptLine) (rise : LinesRise script)
     (words : All RunsOnLanes script)
     (are : (lane : ℕ) → AreCalls (operations (of_lane lane script))) where
@@ -22,10 +32,7 @@ module _ (laws : CallLaws) (script : List ScriptLine) (rise : LinesRise script)
   calls_made lane k d low =
       let lines : List ScriptLine = of_lane lane script in record {
         whole = laws.whole lines (are lane) k d low;
-        words = λ j e l. All-contains RunsOnLanes lines
-            (get_or (get_or (calls_of lines) k d) j e)
-            (All-filter (λ (line : ScriptLine). line.lane == lane) RunsOnLanes script words)
-            (laws.among lines k d low j e l);
+        words = lines_run laws.among script words lane k d low;
         rising = laws.rising lines (laws.lanes lane script rise) k d low;
       }
 

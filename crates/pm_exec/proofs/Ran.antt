@@ -11,10 +11,12 @@ use Rattle.pm_image.specs.Blocks.{blocks}
 use Rattle.pm_image.specs.Logs.{recovered_at}
 use Rattle.pm_lanes.specs.Closed.{AllAreBack, ClosedPoolsMeanTheirHistories, ClosedPoolsReplay, MaySurvive, NoRecordTorn, OpenCallsAreJudged, OtherCallsAreKept, keeps_call}
 use Rattle.pm_lanes.specs.Opens.{IsOpened}
+use Rattle.pm_lanes.proofs.Closed.{footprints}
 use Rattle.pm_objects.specs.declared.history.Entry.{Entry}
 use Rattle.pm_objects.specs.declared.history.Fate.TheVariants as fate
 use Rattle.pm_objects.specs.declared.history.TxErr.TheVariants as error
-use Rattle.pm_objects.specs.declared.refusal.Refusal.TheVariants.{Busy}
+use Rattle.pm_objects.specs.declared.refusal.Refusal.{Refusal}
+use Rattle.pm_objects.specs.declared.refusal.Refusal.TheVariants.{Busy, NoObject}
 use Rattle.pm_model.specs.History.{IsHistory, is_answered}
 use Rattle.pm_run.specs.Fates.{AreJudged}
 use Rattle.pm_run.specs.Runs.{HaveRun, LaneRan}
@@ -26,7 +28,7 @@ use Rattle.pm_view.specs.View.{View}
 use Rattle.pm_world.specs.World.{Past}
 use Rattle.pm_call.specs.Histories.{Ended, calls_ended}
 use Rattle.pm_crash.specs.Fates.{is_judged_kept}
-use Rattle.pm_exec.specs.Answers.{AddsRange, IsAnswer, lines_of}
+use Rattle.pm_exec.specs.Answers.{AddsRange, IsAnswer, lines_of, refused_as}
 use Rattle.pm_calls.specs.Calls.{call_of, calls_from, calls_of_lane, level_behind, line_of, with_line}
 use Rattle.pm_calls.specs.declared.names.Names.{Names}
 use Rattle.pm_exec.specs.Entries.{HasNumber, HaveAllNumbers}
@@ -41,11 +43,12 @@ use Rattle.pm_exec.specs.Works.{AddedNext, DidCalls, all_answers, lines_left}
 use Rattle.pm_exec.specs.declared.answer.Answer.{Answer}
 use Rattle.pm_exec.specs.declared.work.LaneWork.{LaneWork}
 use Rattle.pm_exec.proofs.Choices.{IsAnsweredWork, are_judged, but_fates, judged_flags, refated, still_in_order}
-use Rattle.pm_exec.proofs.Reported.{EndedAt, InOrder, LaneSays, NumberOf, OfSome, are_entries, are_history, are_of_lane, as_long, least_number, number_below, refused_at}
+use Rattle.pm_exec.proofs.Reported.{EndedAt, InOrder, LaneSays, NumberOf, OfSome, are_entries, are_history, are_of_lane, as_long, least_number, number_below, entries_up_to, has_operation, lane_at, refused_at}
 use Rattle.pm_exec.proofs.Reports.{LaneLeft, all_answered, as_many, entries_with, first_calls, lane_says}
 use Rattle.pm_exec.proofs.Entries.{all_in, in_all}
 use Rattle.pm_exec.proofs.Stopped.{LaneLaws, has_stopped, none_left}
 use Rattle.pm_exec.proofs.Rising.{Has, all_has, has_all, has_at, place_of}
+use Rattle.pm_exec.proofs.Missed.{Shown, entry_plain, has_missed}
 
 abbrev IsSomeLine : List ScriptLine → Type 0
 IsSomeLine lines = 1 ≤ length lines
@@ -310,6 +313,23 @@ module _ {G : Type 0} {names : Names} (laws : PoolLaws) (b : Beginning) (keep_nu
                 (all_answered names k (flag_of k) (work_of k).answers.items did.answered);
           }
 
+      -- each entry of words that lanes run shows its call
+      pub shown : ((k : ℕ) → All (All RunsOnLanes) (calls_of_lane k script)) → Shown g keep entries
+      shown words = record {
+        count = all_are_there;
+        numbers = in_order.numbers;
+        lane_is = lane_at g keep b.lanes in_history entries_at says entries in_order;
+        has = has_operation g keep b.lanes in_history entries_at says entries in_order;
+        plain = λ i d low o among.
+            let lane : ℕ = (get_or entries i d).call.lane in
+            let inside : i < g.length = subst (λ n. i < n) all_are_there low in
+            let of_lane : lane < b.lanes = subst (λ k. k < b.lanes) (sym (lane_at g keep b.lanes in_history entries_at says entries in_order i d low)) (in_history i inside) in
+            entry_plain names lane script entries (get_or entries i d) (words lane) (lane_history lane of_lane).calls
+            (has_at entries i d (get_or entries i d) low refl) refl o among;
+        before = (footprints b ran.back ran.words ran.closed b.pool refl).entries;
+        up_to = entries_up_to g keep b.lanes in_history entries_at says entries in_order;
+      }
+
       -- ---- WHAT IT MEANS
 
       module _ (origin layout : List ℕ) (opened : IsOpened origin layout b.words.items b.shape b.pool) where
@@ -387,8 +407,9 @@ pub ran_on_lanes : {G : Type 0} → PoolLaws → LaneLaws → (origin layout : L
     → AreWorksFor (names_of opened.pool) script.lines b.lanes before
     → ((k : ℕ) (w : LaneWork G) (low : k < b.lanes) → DidCalls (get_or before k w) (get_or after k w) (ran.each k w low).view)
     → AreInOrder after flags out.entries.items → out.lanes.items ≡ ends_of after
+    → ((k : ℕ) → All (All RunsOnLanes) (calls_of_lane k script.lines))
     → RanOnLanes origin layout script stops keep out
-ran_on_lanes {G} laws more origin layout script stops keep out b before after flags left opened lanes stops_are ran works dids order ends =
+ran_on_lanes {G} laws more origin layout script stops keep out b before after flags left opened lanes stops_are ran works dids order ends words =
     let enough : 1 ≤ length after = let s = ran.closed.world.some_lanes in let n = ran.works in omega (arith, s, n) in
     let w = first_item after enough in
     let did = λ (k : ℕ) (low : k < b.lanes). dids k w low in
@@ -426,6 +447,13 @@ ran_on_lanes {G} laws more origin layout script stops keep out b before after fl
             cause = more.busy b ran.back ran.words call ended.ended.operation ran.closed ran.all ran.facts
                 (subst (λ n. call < n) (all_are_there laws b keep script.lines before after out.image.items flags ran works w did out.image.items flags ran.survives ran.judged entries order) low) ended.ended.last;
           };
+      missing = λ call d low is.
+          let ended = ends_refused laws b keep script.lines before after out.image.items flags ran works w did out.image.items flags ran.survives ran.judged entries order call d NoObject low is in
+          has_missed b ran.closed.last opened.pool out.image.items opened.of_id entries
+          (shown laws b keep script.lines before after out.image.items flags ran works w did out.image.items flags ran.survives ran.judged entries order words) call d low
+          ended.ended.operation ended.ended.last
+          (more.missed origin layout ran.words out.image.items b ran.back call ended.ended.operation opened ran.closed ran.all ran.facts
+          (subst (λ n. call < n) (all_are_there laws b keep script.lines before after out.image.items flags ran works w did out.image.items flags ran.survives ran.judged entries order) low) ended.ended.last);
       spent = λ k line low is.
           let high : k < b.lanes = subst (λ n. k < n) (sym lanes) low in
           let lane = ran.each k w high in

@@ -149,7 +149,7 @@ pub record EndedAt (g : Past) (call : ℕ) (e : Entry) (r : Refusal) : Type 0 wh
   pub ended : EndedAs r (g.drew call).call
   pub among : Contains e.call.operations ended.operation
 
-last_has : (told : List Told) (t : Told) → last_of told ≡ Some t → Has told t
+pub last_has : (told : List Told) (t : Told) → last_of told ≡ Some t → Has told t
 last_has [] t is = absurd cc
 last_has (s ∷ told) t is = by (last_of told) refl is (last_has told t)
   where
@@ -297,6 +297,15 @@ module _ (g : Past) (keep : ℕ → Bool) (lanes : ℕ) (of_lanes : (n : ℕ) �
         omega (arith, fits, is)) in
         omega (arith, most, least)
 
+    -- an entry is of its call's lane, and has its operations
+    pub lane_at : (i : ℕ) (d : Entry) → i < length entries → (get_or entries i d).call.lane ≡ (g.drew i).fixed.lane
+    lane_at i d low = let s = stands_at i d low in s.shows.lane_is ∙ sym s.of_lane
+
+    pub has_operation : (i : ℕ) (d : Entry) → i < length entries → (t : Told) → Has (g.drew i).call t → Contains (get_or entries i d).call.operations t.operation
+    has_operation i d low t there =
+        let s = stands_at i d low in
+        shown_has (get_or entries i d).call (get_or entries i d).reply s.lane (g.drew i).call t s.shows.shown there
+
     -- ---- CALLS THAT WERE REFUSED
 
     pub refused_at : (i : ℕ) (d : Entry) (r : Refusal) → i < length entries → refused_as (get_or entries i d).fate ≡ Some r → EndedAt g i (get_or entries i d) r
@@ -378,6 +387,11 @@ module _ (g : Past) (keep : ℕ → Bool) (lanes : ℕ) (of_lanes : (n : ℕ) �
         (filter_more (λ (e : Entry). not (is_lost e.fate)) entries n d inside) in
         subst (λ (l : List Entry). AllZip ShowsCall l (kept_calls keep g.drew (suc n))) (sym split)
         (keeps_step ShowsCall (filter (λ (e : Entry). not (is_lost e.fate)) (take n entries)) (kept_calls keep g.drew n) e (g.drew n) (not (is_lost e.fate)) (keep n) (not_twice (is_lost e.fate) (keep n) lost) up shows)
+
+    -- the entries up to a number show the calls up to it that are kept
+    pub entries_up_to : (d : Entry) (n : ℕ) → n ≤ length entries → (runs : List CallRun) → AllZip IsRunOf (kept_calls keep g.drew n) runs → AllZip IsEntry (without_lost (take n entries)) runs
+    entries_up_to d n low runs are =
+        zip_through ShowsCall IsRunOf IsEntry is_entry (without_lost (take n entries)) (kept_calls keep g.drew n) runs (kept_up_to d n low) are
 
     all_kept : (xs : List Entry) → xs ≡ entries → AllZip ShowsCall (without_lost entries) (kept_calls keep g.drew (length entries))
     all_kept [] is =

@@ -3,6 +3,7 @@ pub mod Entries
 pub mod Known
 pub mod Lines
 pub mod Made
+pub mod Missing
 pub mod Reported
 pub mod Reports
 pub mod Running

@@ -34,6 +34,7 @@ use Rattle.pm_world.specs.Crash.{IsBeingWritten, IsWhole}
 use Rattle.pm_world.specs.Runs.{Moment}
 use Rattle.pm_world.specs.World.{is_header}
 use Rattle.pm_exec.specs.Answers.{AddsRange}
+use Rattle.pm_exec.specs.Missing.{MissesHaveCauses}
 use Rattle.pm_exec.specs.Reports.{IsLaneHistory, entries_of_lane}
 use Rattle.pm_script.specs.declared.script.ScriptLine.{ScriptLine}
 use Rattle.pm_exec.specs.declared.outcome.Outcome.{Outcome}
@@ -155,6 +156,8 @@ pub record RanOnLanes (image layout : List ℕ) (script : Script) (stops : List 
   pub busy : (call : ℕ) (d : Entry) → call < length out.entries.items
       → (slice_index_or out.entries.items call d).fate ≡ fate.Aborted (error.Refused Busy)
       → IsBusyCall begin_ closed.last call (slice_index_or out.entries.items call d)
+  -- and so has each that was refused as NoObject
+  pub missing : MissesHaveCauses opened.pool out.entries.items
   -- and a lane that was spent has no number left
   pub spent : (lane line : ℕ) → lane < script.lanes
       → slice_index_or out.lanes.items lane end.Ended ≡ end.Spent line

@@ -23,7 +23,7 @@ use crate::work::LaneWork;
 use pm_calls::{LaneRoom, Names, a_lanes_calls_are_whole, lane_rooms};
 use pm_lanes::{
     OpenFault, busy_calls_have_causes, closed_pools_mean_their_histories, headers_are_kept,
-    numbers_are_shown, open, open_calls_are_judged, stops_are_reached,
+    missed_calls_have_causes, numbers_are_shown, open, open_calls_are_judged, stops_are_reached,
 };
 use pm_layout::ROOT_WORD;
 use pm_objects::Oid;
@@ -153,6 +153,7 @@ pub fn exec<'a, R: Threads + Wait + Sync, G: Gate + Sync>(
     headers_are_kept();
     numbers_are_shown();
     busy_calls_have_causes();
+    missed_calls_have_causes();
     match run_works(rt, alloc, beginning, works, keep) {
         Ok(outcome) => Ok(outcome),
         Err(_) => Err(OpenFault::Memory),

@@ -5,7 +5,7 @@ use Rattle.pm_exec.specs.Reports.{AreWorksFor}
 use Rattle.pm_exec.specs.Runs.{names_of}
 use Rattle.pm_exec.specs.Works.{WorkLeft}
 use Rattle.pm_exec.proofs.LaneWorks.{can_run, did_calls, have_calls, opened_names, works_for}
-use Rattle.pm_exec.proofs.MadeCalls.{CallLaws, rooms_made}
+use Rattle.pm_exec.proofs.MadeCalls.{CallLaws, lines_run, rooms_made}
 use Rattle.pm_exec.proofs.Ran.{PoolLaws, ran_on_lanes}
 use Rattle.pm_exec.proofs.Stopped.{LaneLaws}
 use Rattle.pm_exec.proofs.executing.exec.Goals as goal
@@ -71,8 +71,10 @@ returns-in-Ok-run_works-clause-ran g c =
       drawn = c.numbers_are_shown.ensures.drawn;
       generation = c.numbers_are_shown.ensures.generation;
       busy = c.busy_calls_have_causes.ensures;
+      missed = c.missed_calls_have_causes.ensures;
     } in
     ran_on_lanes laws more c.args.image c.args.layout.now script c.args.failure.stops c.args.failure.keep c.in-Ok-run_works.outcome b works r.after r.flags WorkLeft
     opened c.in-Ok-open.ensures.lanes c.in-Ok-open.ensures.stops r.ran for_
     (λ k w low. did_calls b c.args.failure.keep works r.after c.in-Ok-run_works.outcome.image.items r.flags r.ran count calls k w low)
     r.order r.ends
+    (lines_run c.a_lanes_calls_are_whole.ensures.among script.lines c.requires.words)
