@@ -139,18 +139,15 @@ module _ (b : Beginning) (now : Moment) (pool : PoolView) (image : List ℕ) (po
 
   earlier : (n : ℕ) → n ≤ call → AllPlain P (numbered_by (g.drew call).fixed.lane g.drew n)
   earlier zero most = tt
-  earlier (suc n) most = by_lane ((g.drew n).fixed.lane == (g.drew call).fixed.lane) refl
+  earlier (suc n) most = by_lane ((g.drew n).fixed.lane == (g.drew call).fixed.lane) refl (earlier n (omega (arith, most)))
     where
-      rest : AllPlain P (numbered_by (g.drew call).fixed.lane g.drew n)
-      rest = earlier n (omega (arith, most))
-
-      by_lane : (c : Bool) → ((g.drew n).fixed.lane == (g.drew call).fixed.lane) ≡ c
+      by_lane : (c : Bool) → ((g.drew n).fixed.lane == (g.drew call).fixed.lane) ≡ c → AllPlain P (numbered_by (g.drew call).fixed.lane g.drew n)
           → AllPlain P (cond c (entry_drawn n (g.drew n) ∷ numbered_by (g.drew call).fixed.lane g.drew n) (numbered_by (g.drew call).fixed.lane g.drew n))
-      by_lane true is = (
+      by_lane true is rest = (
         are_plain P (g.drew n).call (recorded n (omega (arith, most)) (eqb-true (g.drew n).fixed.lane (g.drew call).fixed.lane is)),
         rest,
       )
-      by_lane false is = rest
+      by_lane false is rest = rest
 
   frees_none : FreesNone P (lists_before (g.drew call))
   frees_none = lists_none P (g.drew call) (are_plain P (g.drew call).call (recorded call (omega arith) refl))

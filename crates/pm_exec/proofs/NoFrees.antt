@@ -1,6 +1,6 @@
 -- WORDS THAT LANES RUN FREE NO OBJECT: so of what a call's lane has pending nothing is to be freed, and
 -- each word of it was asked for by an operation of the lane.
-use Rattle.std.proofs.Common.{◌≡◌, ◌⊎◌, ℕ, ◌==◌, ◌||◌, Bool, true, false, not, List, [], ◌∷◌, ◌++◌, map, Option, Some, None, inl, inr, refl, sym, ap, ◌∙◌, subst}
+use Rattle.std.proofs.Common.{◌≡◌, ◌⊎◌, ℕ, ◌==◌, ◌||◌, Bool, true, false, not, if◌then◌else◌, List, [], ◌∷◌, ◌++◌, map, Option, Some, None, inl, inr, refl, sym, ap, ◌∙◌, subst}
 use Rattle.std.specs.List.{filter, list_any}
 use Rattle.pm_model.specs.Inside.{after_reply, error_for, is_action, performed, refused}
 use Rattle.pm_model.specs.Items.{is_among}
@@ -190,4 +190,8 @@ module _ (P : Oid → Type 0) where
       let among : Has (map (λ (a : SetWord). a.id) p.sets) id = subst (λ (ids : List Oid). Has (ids ++ map (λ (a : SetWord). a.id) p.sets) id) only.frees there in
       let m = in_map (λ (a : SetWord). a.id) p.sets id among in
       inr (subst P m.is (ids_have p.sets m.of only.ids m.there))
-  named_so op p id plain only there = absurd there
+  named_so (operation.SetValue at off value) p id plain only there = absurd there
+  named_so operation.Cancel p id plain only there = absurd there
+  named_so operation.Commit p id plain only there = absurd there
+  named_so (operation.Abort errnum) p id plain only there = absurd there
+  named_so op p id plain only there = absurd plain

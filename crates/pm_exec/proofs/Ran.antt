@@ -9,9 +9,8 @@ use Rattle.pm_crash.specs.Calls.{state_of}
 use Rattle.pm_crash.specs.Replayed.{kept_pending}
 use Rattle.pm_image.specs.Blocks.{blocks}
 use Rattle.pm_image.specs.Logs.{recovered_at}
-use Rattle.pm_lanes.specs.Closed.{AllAreBack, ClosedPoolsMeanTheirHistories, ClosedPoolsReplay, MaySurvive, NoRecordTorn, OpenCallsAreJudged, OtherCallsAreKept, keeps_call}
+use Rattle.pm_lanes.specs.Closed.{EntriesAreBefore, AllAreBack, ClosedPoolsMeanTheirHistories, ClosedPoolsReplay, MaySurvive, NoRecordTorn, OpenCallsAreJudged, OtherCallsAreKept, keeps_call}
 use Rattle.pm_lanes.specs.Opens.{IsOpened}
-use Rattle.pm_lanes.proofs.Closed.{footprints}
 use Rattle.pm_objects.specs.declared.history.Entry.{Entry}
 use Rattle.pm_objects.specs.declared.history.Fate.TheVariants as fate
 use Rattle.pm_objects.specs.declared.history.TxErr.TheVariants as error
@@ -314,8 +313,8 @@ module _ {G : Type 0} {names : Names} (laws : PoolLaws) (b : Beginning) (keep_nu
           }
 
       -- each entry of words that lanes run shows its call
-      pub shown : ((k : ℕ) → All (All RunsOnLanes) (calls_of_lane k script)) → Shown g keep entries
-      shown words = record {
+      pub shown : EntriesAreBefore → ((k : ℕ) → All (All RunsOnLanes) (calls_of_lane k script)) → Shown g keep entries
+      shown before words = record {
         count = all_are_there;
         numbers = in_order.numbers;
         lane_is = lane_at g keep b.lanes in_history entries_at says entries in_order;
@@ -326,7 +325,7 @@ module _ {G : Type 0} {names : Names} (laws : PoolLaws) (b : Beginning) (keep_nu
             let of_lane : lane < b.lanes = subst (λ k. k < b.lanes) (sym (lane_at g keep b.lanes in_history entries_at says entries in_order i d low)) (in_history i inside) in
             entry_plain names lane script entries (get_or entries i d) (words lane) (lane_history lane of_lane).calls
             (has_at entries i d (get_or entries i d) low refl) refl o among;
-        before = (footprints b ran.back ran.words ran.closed b.pool refl).entries;
+        before = λ i low. before b ran.back ran.words i ran.closed low;
         up_to = entries_up_to g keep b.lanes in_history entries_at says entries in_order;
       }
 
@@ -450,7 +449,7 @@ ran_on_lanes {G} laws more origin layout script stops keep out b before after fl
       missing = λ call d low is.
           let ended = ends_refused laws b keep script.lines before after out.image.items flags ran works w did out.image.items flags ran.survives ran.judged entries order call d NoObject low is in
           has_missed b ran.closed.last opened.pool out.image.items opened.of_id entries
-          (shown laws b keep script.lines before after out.image.items flags ran works w did out.image.items flags ran.survives ran.judged entries order words) call d low
+          (shown laws b keep script.lines before after out.image.items flags ran works w did out.image.items flags ran.survives ran.judged entries order more.before words) call d low
           ended.ended.operation ended.ended.last
           (more.missed origin layout ran.words out.image.items b ran.back call ended.ended.operation opened ran.closed ran.all ran.facts
           (subst (λ n. call < n) (all_are_there laws b keep script.lines before after out.image.items flags ran works w did out.image.items flags ran.survives ran.judged entries order) low) ended.ended.last);

@@ -15,7 +15,7 @@ use Rattle.pm_world.specs.World.{Past, numbered_by}
 use Rattle.pm_call.specs.Histories.{Ended, calls_ended, ended_of}
 use Rattle.pm_crash.specs.Fates.{EndsOpen}
 use Rattle.pm_script.specs.declared.script.ScriptLine.{ScriptLine}
-use Rattle.pm_exec.specs.Answers.{IsAnswer, MayBeKeptOrLost, MayHaveFate, entry_of, lines_of}
+use Rattle.pm_exec.specs.Answers.{IsAnswer, MayBeKeptOrLost, MayHaveFate, entry_of, lines_of, refused_as}
 use Rattle.pm_calls.specs.Calls.{call_of}
 use Rattle.pm_calls.specs.declared.names.Names.{Names}
 use Rattle.pm_exec.specs.Reports.{open_fate}

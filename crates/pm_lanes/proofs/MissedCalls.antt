@@ -16,8 +16,8 @@ use Rattle.pm_shared.proofs.BareRuns.{calls_tell_none}
 use Rattle.pm_shared.specs.Closings.{Closes}
 use Rattle.pm_shared.specs.Openings.{fixed_of, generation_of, opening_of}
 use Rattle.pm_shared.specs.declared.rule.Beginning.{Beginning}
-use Rattle.pm_lanes.specs.Closed.{AllAreBack, AllHaveFacts, HasMissCause, LackedObject}
-use Rattle.pm_lanes.specs.Closed.{MissedCallsHaveCauses}
+use Rattle.pm_lanes.specs.Closed.{AllAreBack, AllHaveFacts, EntriesAreBefore, HasMissCause}
+use Rattle.pm_lanes.specs.Closed.{LackedObject, MissedCallsHaveCauses}
 use Rattle.pm_lanes.specs.Opens.{IsOpened}
 use Rattle.pm_lanes.proofs.Closed.{again, facts, footprints, id_is, of_lanes, opens}
 
@@ -88,3 +88,7 @@ have_causes before layout words image b back call op opened closed all each insi
     (λ k low. classes.runs (opening_of b) (fixed_of b) (generation_of b) run.turns run.begun now
     begins.world begins.views_are run.run k)
     (of_lanes b back words closed HaveFacts all each) call op inside last)
+
+pub entries_before : EntriesAreBefore
+entries_before b back words call closed inside =
+    (footprints b back words closed b.pool refl).entries call inside

@@ -33,7 +33,7 @@ use Rattle.pm_view.specs.View.{Numbered, View, entry_drawn}
 use Rattle.pm_world.specs.Causes.{BusyCause, drawn_by}
 use Rattle.pm_world.specs.Crash.{NoneTorn, Survives, is_kept}
 use Rattle.pm_world.specs.Runs.{Moment}
-use Rattle.pm_world.specs.World.{Past, is_header}
+use Rattle.pm_world.specs.World.{Past, is_header, numbered_by}
 use Rattle.pm_lanes.specs.Opens.{IsOpened}
 
 -- ---- LANES CAME BACK
@@ -222,6 +222,13 @@ MissedCallsHaveCauses = (before layout words image : List ℕ) (b : Beginning) (
     ≡ Some (record { operation = op; reply = Some (Refused NoObject) })
     → HasMissCause b closed.last opened.pool image call op
     ⊎ ((lists_before (closed.last.past.drew call)).pending.late ≡ true)
+
+-- THE ENTRIES OF A LANE as a call of it took its number are its calls before that one
+abbrev pub EntriesAreBefore : Type 0
+EntriesAreBefore = (b : Beginning) (back : List View) (words : List ℕ) (call : ℕ)
+    → (closed : Closes b back words) → call < closed.last.past.length
+    → (closed.last.past.drew call).entries
+    ≡ numbered_by (drawn_by closed.last.past call) closed.last.past.drew call
 
 -- ---- THE FATES OF CALLS
 

@@ -1,7 +1,8 @@
 ghost use Rattle.pm_lanes.specs.Closed.{AnsweredCallsAreKept, ClosedPoolsMeanTheirHistories};
 ghost use Rattle.pm_lanes.specs.Closed.{BusyCallsHaveCauses, ClosedPoolsHaveFacts, ClosedPoolsReplay};
 ghost use Rattle.pm_lanes.specs.Closed.{HeadersAreKept, KeptImagesSurvive, MissedCallsHaveCauses};
-ghost use Rattle.pm_lanes.specs.Closed.{EntriesAreCalls, OpenCallsAreJudged, OtherCallsAreKept};
+ghost use Rattle.pm_lanes.specs.Closed.{EntriesAreBefore, EntriesAreCalls};
+ghost use Rattle.pm_lanes.specs.Closed.{OpenCallsAreJudged, OtherCallsAreKept};
 ghost use Rattle.pm_lanes.specs.Closed.{GenerationsAreKept, SeenNumbersAreDrawn};
 ghost use Rattle.pm_lanes.specs.Closed.{SeenStopsAreReached, StopsAreReached};
 
@@ -64,7 +65,9 @@ pub fn busy_calls_have_causes()
 /// whose table closed, a call whose last operation was recorded as `NoObject` has its cause: this
 /// operation names an object of another pool, or one that did not stand after some number, not
 /// before that of the lane's last entry and below the call's own; or one that the call itself freed;
-/// or the call published what asks something of an object that is to be freed already. No code runs.
+/// or the call published what asks something of an object that is to be freed already. The entries
+/// of a lane as a call of it took its number are its calls before that one. No code runs.
 pub fn missed_calls_have_causes()
-    ensures { MissedCallsHaveCauses }
+    ensures causes { MissedCallsHaveCauses }
+    ensures before { EntriesAreBefore }
 {}

@@ -71,7 +71,8 @@ returns-in-Ok-run_works-clause-ran g c =
       drawn = c.numbers_are_shown.ensures.drawn;
       generation = c.numbers_are_shown.ensures.generation;
       busy = c.busy_calls_have_causes.ensures;
-      missed = c.missed_calls_have_causes.ensures;
+      missed = c.missed_calls_have_causes.ensures.causes;
+      before = c.missed_calls_have_causes.ensures.before;
     } in
     ran_on_lanes laws more c.args.image c.args.layout.now script c.args.failure.stops c.args.failure.keep c.in-Ok-run_works.outcome b works r.after r.flags WorkLeft
     opened c.in-Ok-open.ensures.lanes c.in-Ok-open.ensures.stops r.ran for_
