@@ -9,7 +9,7 @@ use Rattle.pm_crash.specs.Calls.{state_of}
 use Rattle.pm_crash.specs.Replayed.{kept_pending}
 use Rattle.pm_image.specs.Blocks.{blocks}
 use Rattle.pm_image.specs.Logs.{recovered_at}
-use Rattle.pm_lanes.specs.Closed.{EntriesAreBefore, AllAreBack, ClosedPoolsMeanTheirHistories, ClosedPoolsReplay, MaySurvive, NoRecordTorn, OpenCallsAreJudged, OtherCallsAreKept, keeps_call}
+use Rattle.pm_lanes.specs.Closed.{AllAreBack, ClosedPoolsMeanTheirHistories, ClosedPoolsReplay, EntriesAreBefore, MaySurvive, NoRecordTorn, OpenCallsAreJudged, OtherCallsAreKept, keeps_call}
 use Rattle.pm_lanes.specs.Opens.{IsOpened}
 use Rattle.pm_objects.specs.declared.history.Entry.{Entry}
 use Rattle.pm_objects.specs.declared.history.Fate.TheVariants as fate
@@ -28,7 +28,7 @@ use Rattle.pm_world.specs.World.{Past}
 use Rattle.pm_call.specs.Histories.{Ended, calls_ended}
 use Rattle.pm_crash.specs.Fates.{is_judged_kept}
 use Rattle.pm_exec.specs.Answers.{AddsRange, IsAnswer, lines_of, refused_as}
-use Rattle.pm_calls.specs.Calls.{call_of, calls_from, calls_of_lane, level_behind, line_of, with_line}
+use Rattle.pm_calls.specs.Calls.{RunsOnLanes, call_of, calls_from, calls_of_lane, level_behind, line_of, with_line}
 use Rattle.pm_calls.specs.declared.names.Names.{Names}
 use Rattle.pm_exec.specs.Entries.{HasNumber, HaveAllNumbers}
 use Rattle.pm_script.specs.Scripts.{of_lane}
