@@ -1,11 +1,12 @@
 -- WORDS THAT LANES RUN FREE NO OBJECT: so of what a call's lane has pending nothing is to be freed, and
 -- each word of it was asked for by an operation of the lane.
-use Rattle.std.proofs.Common.{◌≡◌, ◌⊎◌, ℕ, ◌==◌, ◌||◌, Bool, true, false, not, if◌then◌else◌, List, [], ◌∷◌, ◌++◌, map, Option, Some, None, inl, inr, refl, sym, ap, ◌∙◌, subst}
+use Rattle.std.proofs.Common.{◌≡◌, ◌⊎◌, ℕ, ◌-◌, nat_le, ◌==◌, ◌||◌, Bool, true, false, not, if◌then◌else◌, List, [], ◌∷◌, ◌++◌, map, Option, Some, None, inl, inr, refl, sym, ap, ◌∙◌, subst}
 use Rattle.std.specs.List.{filter, list_any}
 use Rattle.pm_model.specs.Inside.{after_reply, error_for, is_action, performed, refused}
-use Rattle.pm_model.specs.Items.{is_among}
-use Rattle.pm_model.specs.Pending.{Pending, SetWord, with_set}
-use Rattle.pm_model.specs.Transaction.{Transaction, aborted, committed, ended, is_gone, is_new, idle}
+use Rattle.pm_model.specs.Items.{all_edited, is_among}
+use Rattle.pm_model.specs.Pending.{Pending, SetWord, set_edits, with_set}
+use Rattle.pm_model.specs.declared.stage.Stage.TheVariants as stage
+use Rattle.pm_model.specs.Transaction.{Transaction, aborted, committed, idle, is_gone, is_new, is_none}
 use Rattle.pm_objects.specs.declared.calls.Operation.{Operation}
 use Rattle.pm_objects.specs.declared.calls.Operation.TheVariants as operation
 use Rattle.pm_objects.specs.declared.calls.Want.{Want}
@@ -120,9 +121,11 @@ module _ (P : Oid → Type 0) where
   refused_none true e tx none = none
   refused_none false e tx none = record { freed = refl; dropped = refl; pending = none.pending }
 
-  ended_none : (b : Bool) (tx open_ closed : Transaction) → FreesNone open_ → FreesNone closed → FreesNone (if b then closed else open_)
-  ended_none true tx open_ closed a c = c
-  ended_none false tx open_ closed a c = a
+  ended_none : (outermost : Bool) (tx : Transaction) → FreesNone tx
+      → FreesNone (if outermost then record (idle tx.before tx.pending) { items = all_edited (set_edits tx.sets) tx.items }
+          else record tx { level = tx.level - 1; stage = if is_none tx.error then stage.Work else stage.OnAbort })
+  ended_none true tx none = record { freed = refl; dropped = refl; pending = none.pending }
+  ended_none false tx none = record { freed = none.freed; dropped = none.dropped; pending = none.pending }
 
   performed_none : (op : Operation) (tx : Transaction) → Plain P op → FreesNone tx → FreesNone (performed op tx)
   performed_none (operation.Begin wants) tx plain none = record { freed = none.freed; dropped = none.dropped; pending = none.pending }
@@ -142,8 +145,7 @@ module _ (P : Oid → Type 0) where
     pending = record { frees = refl; late = refl; ids = tt };
   }
   performed_none operation.Cancel tx plain none = record { freed = none.freed; dropped = none.dropped; pending = record { frees = refl; late = refl; ids = tt } }
-  performed_none operation.Commit tx plain none = ended_none _ tx _ _
-      (record { freed = none.freed; dropped = none.dropped; pending = none.pending }) (record { freed = refl; dropped = refl; pending = none.pending })
+  performed_none operation.Commit tx plain none = ended_none (nat_le tx.level 1) (committed tx) (record { freed = none.freed; dropped = none.dropped; pending = none.pending })
   performed_none (operation.Abort errnum) tx plain none = record { freed = refl; dropped = refl; pending = none.pending }
   performed_none op tx plain none = absurd plain
 
