@@ -123,7 +123,7 @@ module _ (P : Oid → Type 0) where
 
   ended_none : (outermost : Bool) (tx : Transaction) → FreesNone tx
       → FreesNone (if outermost then record (idle tx.before tx.pending) { items = all_edited (set_edits tx.sets) tx.items }
-          else record tx { level = tx.level - 1; stage = if is_none tx.error then stage.Work else stage.OnAbort })
+      else record tx { level = tx.level - 1; stage = if is_none tx.error then stage.Work else stage.OnAbort })
   ended_none true tx none = record { freed = refl; dropped = refl; pending = none.pending }
   ended_none false tx none = record { freed = none.freed; dropped = none.dropped; pending = none.pending }
 
