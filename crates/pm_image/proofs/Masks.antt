@@ -11,7 +11,7 @@ use Rattle.std.proofs.lemmas.Nat.{and_assoc, and_comm, and_or_apart, and_or_self
 use Rattle.std.proofs.lemmas.Nat.Bits.{bit_at_or, same_from_bits}
 use Rattle.pm_record.specs.Redo.{redo_mask, redo_of}
 use Rattle.pm_record.specs.declared.redo.Redo.{Redo}
-use Rattle.pm_image.specs.Logs.{entries, entries_for, entry_pair, records}
+use Rattle.pm_image.specs.Logs.{covers, entries, entries_for, entry_pair, records}
 use Rattle.pm_image.specs.LogFaults.{bits_of, clashes, lane_mask, lanes_clash, records_for}
 use Rattle.pm_image.specs.Steps.{AreMarks, entry_for}
 use Rattle.pm_image.proofs.Counting.{two_counted}
@@ -164,3 +164,17 @@ pub clash_by_counts : (image : List ℕ) (lanes place record_count entry_count :
 unfolding clashes
 clash_by_counts image lanes place record_count entry_count records_are entries_are =
     (λ i. ltb 1 (records_are i) || (ltb 0 (records_are i) && ltb 0 (entries_are i)) || clash_counted image lanes place entry_count entries_are i)
+
+-- no log holds a record or an entry
+no_record : (image : List ℕ) (lanes place : ℕ) → flat_map (records image) (range_with_len 0 lanes) ≡ [] → 0 ≡ length (records_for image lanes place)
+unfolding records_for
+no_record image lanes place none = sym (ap (λ us. length (filter (λ u. covers u place) us)) none)
+
+no_entry : (image : List ℕ) (lanes place : ℕ) → flat_map (entries image) (range_with_len 0 lanes) ≡ [] → 0 ≡ length (entries_for image lanes place)
+unfolding entries_for
+no_entry image lanes place none = sym (ap (λ es. length (filter (λ e. eqb e.place place) es)) none)
+
+-- so no two speak of one word
+pub no_clash_without_logs : (image : List ℕ) (lanes place : ℕ) → flat_map (records image) (range_with_len 0 lanes) ≡ [] → flat_map (entries image) (range_with_len 0 lanes) ≡ [] → clashes image lanes place ≡ false
+no_clash_without_logs image lanes place no_records no_entries =
+    sym (clash_by_counts image lanes place 0 0 (no_record image lanes place no_records) (no_entry image lanes place no_entries))

@@ -36,6 +36,10 @@ pub fn first_clash(
     ensures inside { IfOk result (λ clash. IfSome clash (λ i. i < length image.now)) }
     ensures first { IfOk result (λ clash. clash ≡ find (λ i. clashes image.now lanes (8 * i)) (range_with_len 0 (length image.now))) }
 {
+    // most pools have nothing in their logs, and marks take twice the room of the image
+    if logs.records.is_empty() && logs.entries.is_empty() {
+        return Ok(None);
+    }
     let marks = marks_of(alloc, logs, image.len())?;
     for word in 0..image.len() {
         if is_clash(image, lanes, &marks, word) {
