@@ -20,7 +20,7 @@ use Rattle.pm_record.specs.declared.redo.Op.TheVariants as op
 use Rattle.pm_record.specs.declared.redo.Redo.{Redo}
 use Rattle.pm_view.specs.Changes.{Undrained, drained}
 use Rattle.pm_view.specs.Claims.{class}
-use Rattle.pm_view.specs.Counts.{among, counted, is_counted, is_store, max_changes, unflushed_lines}
+use Rattle.pm_view.specs.Counts.{among, is_store, max_changes, unflushed_lines}
 use Rattle.pm_view.specs.Log.{Log, Phase, Idle, Open, Drawn, Sealing, Applying, entered, log_changed, log_drained, log_stored, with_pair}
 use Rattle.pm_view.specs.Parts.{Part, EntryPart, SlotPart, GenerationPart}
 use Rattle.pm_view.specs.Steps.{Step}
@@ -40,8 +40,10 @@ use Rattle.pm_redo.specs.Plans.{applies, applies_all, applies_each, applies_entr
 use Rattle.pm_call.specs.At.{set_entry}
 use Rattle.pm_call.specs.Plans.{commits, ends_call, ends_records, finishes, gives_up, known_sum, logs_entries, performs_call, takes_back, tells, writes_word, writes_words}
 use Rattle.pm_call.specs.Publications.{publishes}
-use Rattle.pm_call.specs.Stores.{EntriesAreStored, HasNoEntry, IsRun, OverHasNoEntry, Planned, RecordsAreFew, RunsMakeFewStores, TableOfStores, WorkHasNoEntry, commit_stores, log_stores, most_in_run, most_stores, publish_stores, runs, steps_of, stores_in}
-use Rattle.pm_call.specs.Stores.Planned.{Uncounted, Tells, Adds, Writes, Reads, Increments, Cancels, Commits, RollsBack, Lone, Publishes}
+use Rattle.pm_call.specs.Stores.{EntriesAreStored, HasNoEntry, IsRun, OverHasNoEntry, RecordsAreFew, RunsMakeFewStores, TableOfStores, WorkHasNoEntry, commit_stores, log_stores, most_in_run, most_stores, publish_stores, runs, stores_in}
+use Rattle.pm_call.specs.Planned.{Planned, entries_to_log, steps_of, words_to_set}
+use Rattle.pm_call.specs.Quiet.{AreQuiet, is_quiet}
+use Rattle.pm_call.specs.Planned.Planned.{Quiet, Tells, Adds, Writes, Reads, Increments, Cancels, Commits, RollsBack, Lone, Publishes}
 
 -- from each view the plan makes at most so many
 abbrev Few : ℕ → Plan → Type 0
@@ -503,20 +505,22 @@ few_publishes (a ∷ words) found n v none =
     let all = few_entries Publish (map set_entry (a ∷ words)) found n v none in
     omega (arith, all, length-map words set_entry)
 
--- what is no counted call is no store
-few_uncounted : (steps : List Step) → stores_in steps ≤ counted steps
-unfolding among counted
-few_uncounted [] = omega arith
-few_uncounted (s ∷ steps) =
-    let first = by s in let rest = few_uncounted steps in omega (arith, first, rest)
+-- what is of no plan stores nothing
+few_quiet : (steps : List Step) → AreQuiet steps → stores_in steps ≤ 0
+unfolding among
+few_quiet [] quiet = omega arith
+few_quiet (s ∷ steps) quiet =
+    let first = by s quiet.0 in let rest = few_quiet steps quiet.1 in omega (arith, first, rest)
   where
-    by : (s : Step) → cond (is_store s) 1 0 ≤ cond (is_counted s) 1 0
-    by (Store w x) = omega arith
-    by s = omega arith
+    by : (s : Step) → is_quiet s ≡ true → cond (is_store s) 1 0 ≤ 0
+    by (Store w x) quiet = absurd (let clash : false ≡ true = quiet in cc)
+    by (Or w bits found) quiet = absurd (let clash : false ≡ true = quiet in cc)
+    by (And w bits found) quiet = absurd (let clash : false ≡ true = quiet in cc)
+    by s quiet = omega arith
 
 few_steps : (p : Planned) (v : View) → HasNoEntry v → stores_in (steps_of p v) ≤ most_stores p v
-few_steps (Uncounted steps none) v h = let few = few_uncounted steps in omega (arith, few, none)
-few_steps (Tells op reply) v h = few_one (Tell op reply) refl v
+few_steps (Quiet steps quiet) v h = few_quiet steps quiet
+few_steps (Tells op reply alone) v h = few_one (Tell op reply) refl v
 few_steps (Adds id off len) v h = let place : ℕ = id.off + off in
     few_told (snapshots place len) (AddRange id off len) None _ v (few_snapshots place len v)
 few_steps (Writes id off bytes) v h = let place : ℕ = id.off + off in
@@ -528,10 +532,10 @@ few_steps (Increments id off by) v h =
     few_told (writes_words place (number_bytes sum)) (Increment id off by) (Some (Number sum)) _ v
     (few_writes place (number_bytes sum) v)
 few_steps Cancels v h = few_told persists_all Cancel None 0 v (few_persist v)
-few_steps (Commits entries found n) v h = few_commits entries found n v (none_entered v h)
-few_steps (RollsBack op reply n) v h = few_rolls_back op reply n v
-few_steps (Lone op reply n) v h = few_ends op reply n v
-few_steps (Publishes words found n) v h = few_publishes words found n v (none_entered v h)
+few_steps (Commits found n) v h = few_commits (entries_to_log v) found n v (none_entered v h)
+few_steps (RollsBack op reply n given) v h = few_rolls_back op reply n v
+few_steps (Lone op reply n alone) v h = few_ends op reply n v
+few_steps (Publishes found n) v h = few_publishes (words_to_set v) found n v (none_entered v h)
 
 -- THE LAWS
 pub table_of_stores : TableOfStores

@@ -12,6 +12,8 @@ pub mod GivingUp
 pub mod RollbackLanes
 pub mod ObjectWords
 pub mod KnownObjects
+pub mod Quiet
+pub mod HasHistories
 pub mod Noting
 pub mod Looking
 pub mod LooksInWorlds

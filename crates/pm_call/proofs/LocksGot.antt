@@ -3,6 +3,7 @@ use Rattle.std.specs.Prelude.{drop, filter, take}
 use Rattle.std.proofs.Common.{◌≡◌, ⊎_elim, inl, inr, ℕ, zero, suc, ◌+◌, ◌<◌, Bool, true, false, Contains, List, [], ◌∷◌, ◌++◌, length, refl, sym, ap, ◌∙◌, subst, arith}
 use Rattle.std.proofs.lemmas.List.{take_all}
 use Rattle.std.proofs.lemmas.List.Elements.{Contains-append_right}
+use Rattle.pm_layout.specs.declared.shape.Shape.{Shape}
 use Rattle.pm_objects.specs.declared.calls.Want.{Want}
 use Rattle.pm_view.specs.Steps.{Step}
 use Rattle.pm_view.specs.Steps.Step.{Raise, StopSeen, TakeRead, TakeWrite}
@@ -20,6 +21,8 @@ use Rattle.pm_lock.proofs.Holds.{tries_taken, waits_taken}
 use Rattle.pm_lock.proofs.RaisedClaims.{are_raised}
 use Rattle.pm_lock.proofs.Stays.{stays_here}
 use Rattle.pm_lock.proofs.Waiting.{all_then, once_more}
+use Rattle.pm_call.specs.Quiet.{AreQuiet, WentQuietly}
+use Rattle.pm_call.proofs.Quiet.{finds_quiet, got_quiet, quiet_both, quiet_by, quiet_none, quiet_then, raises_quiet, takes_quiet, tries_quiet}
 use Rattle.pm_call.specs.LockRefusals.{TriedLocks}
 use Rattle.pm_call.specs.Locking.{to_take, to_write}
 use Rattle.pm_call.specs.LocksGot.{AreGotBy, BusyLocksAreTried, GotLocksAreTaken, MissedLocksAreTried, RefusedRaisesAreTried}
@@ -73,6 +76,17 @@ got_seen v locks steps got n there = ⊎_elim
     (λ (w : AreWaits locks steps). seen_all locks v steps n w there)
     got
 
+-- the locks were got, some looks followed, and then some steps of no plan
+looked_quiet : (v : View) (locks under : List HeldLock) (sh : Shape) (steps looks more : List Step)
+    → AreGotBy locks steps → AreFinds sh under looks → AreQuiet more
+    → WentQuietly v (after_all (after_all (after_all v steps) looks) more)
+looked_quiet v locks under sh steps looks more got finds quiet =
+    let u : View = after_all v steps in
+    let w : View = after_all u looks in
+    quiet_then v w (after_all w more)
+    (quiet_then v u w (quiet_by v steps (got_quiet locks steps got)) (quiet_by u looks (finds_quiet sh under looks finds)))
+    (quiet_by w more quiet)
+
 pub got_locks_are_taken : (at : View → Type 0) → GotLocksAreTaken at
 got_locks_are_taken at s wants steps got found = record {
   taken = after_all s.view steps;
@@ -84,6 +98,9 @@ got_locks_are_taken at s wants steps got found = record {
   objects = found.objects;
   world = found.world;
   raises_ = refl;
+  quiet = looked_quiet s.view (to_take s wants) (to_take s wants) s.view.fixed.shape steps found.steps
+      (raises (to_write s wants) (s.locks ++ to_take s wants)) got found.looks
+      (raises_quiet (to_write s wants) (s.locks ++ to_take s wants));
 }
 
 -- ---- none is raised
@@ -111,6 +128,10 @@ missed_locks_are_tried at s wants steps got missed = record {
   rose_ = 0;
   raises_ = none_raised (after_all (after_all s.view steps) missed.steps) (to_write s wants);
   lists = ap (λ (ls : List HeldLock). s.locks ++ ls) (took_all s wants);
+  quiet = quiet_then s.view (after_all s.view steps) (after_all (after_all s.view steps) missed.steps)
+      (quiet_by s.view steps (got_quiet (to_take s wants) steps got))
+      (quiet_by (after_all s.view steps) missed.steps
+      (finds_quiet s.view.fixed.shape (take (missed.before + 1) (to_take s wants)) missed.steps missed.looks));
 }
 
 -- ---- a refused try only tells
@@ -118,9 +139,9 @@ refused_on : (v u : View) (locks : List HeldLock) (line : ℕ) (write : Bool) �
 refused_on v u locks line true is = ap (λ (y : View). record y { seen = TakeWrite line false ∷ u.seen }) is
 refused_on v u locks line false is = ap (λ (y : View). record y { seen = TakeRead line false ∷ u.seen }) is
 
-pub none_looked : (s : Standing) (wants : List Want) (k : ℕ) (x : View) → IsTaken s.view (take k (to_take s wants)) x → ((n : Step) → Contains s.view.seen n → Contains x.seen n) → TriedLocks s wants (s.locks ++ take k (to_take s wants)) x
+pub none_looked : (s : Standing) (wants : List Want) (k : ℕ) (x : View) → IsTaken s.view (take k (to_take s wants)) x → ((n : Step) → Contains s.view.seen n → Contains x.seen n) → WentQuietly s.view x → TriedLocks s wants (s.locks ++ take k (to_take s wants)) x
 unfolding after_all AreFinds
-none_looked s wants k x is told = record {
+none_looked s wants k x is told quiet = record {
   count = k;
   taken = x;
   takes = is;
@@ -133,6 +154,7 @@ none_looked s wants k x is told = record {
   rose_ = 0;
   raises_ = none_raised x (to_write s wants);
   lists = refl;
+  quiet = quiet;
 }
 
 pub busy_taken : (v : View) (got : List HeldLock) (line : ℕ) (write : Bool) → IsTaken v got (after_all v (tries got ++ takes line write false ∷ []))
@@ -145,6 +167,7 @@ busy_locks_are_tried s wants k line write =
     let got : List HeldLock = take k (to_take s wants) in
     none_looked s wants k (after_all s.view (tries got ++ takes line write false ∷ [])) (busy_taken s.view got line write)
     (λ n there. seen_last s.view (tries got) line write false n (seen_tries got s.view n there))
+    (quiet_by s.view (tries got ++ takes line write false ∷ []) (quiet_both (tries got) (takes line write false ∷ []) (tries_quiet got) (takes_quiet line write false, tt)))
 
 -- ---- some are raised, and a raise is refused
 refused_raise : (v u : View) (writes : ℕ → Bool) (locks : List HeldLock) (line : ℕ) → AreRaised v writes locks u → AreRaised v writes locks (after u (Raise line false))
@@ -180,6 +203,8 @@ refused_raises_are_tried at s wants steps k line got found =
       rose_ = k;
       raises_ = subst (λ (ls : List HeldLock). AreRaised looked (to_write s wants) (take k (s.locks ++ ls)) x) (took_all s wants) (some_raised looked (to_write s wants) (take k (s.locks ++ plan)) line);
       lists = ap (λ (ls : List HeldLock). raised (to_write s wants) (take k (s.locks ++ ls)) ++ drop k (s.locks ++ ls)) (took_all s wants);
+      quiet = looked_quiet s.view plan plan s.view.fixed.shape steps found.steps (raises (to_write s wants) (take k (s.locks ++ plan)) ++ Raise line false ∷ []) got found.looks
+          (quiet_both (raises (to_write s wants) (take k (s.locks ++ plan))) (Raise line false ∷ []) (raises_quiet (to_write s wants) (take k (s.locks ++ plan))) (refl, tt));
     }
 
 -- ---- INSIDE A TRANSACTION each lock is tried once
@@ -187,7 +212,7 @@ module _ (s : Standing) (wants : List Want) where
   got_first : got_all s wants ≡ after_all s.view (tries (take (length (to_take s wants)) (to_take s wants)))
   got_first = ap (λ (ls : List HeldLock). after_all s.view (tries ls)) (took_all s wants)
 
-  pub none_once : TriesOnce (none_looked s wants 0 s.view refl (λ n there. there))
+  pub none_once : TriesOnce (none_looked s wants 0 s.view refl (λ n there. there) (quiet_none s.view))
   unfolding none_looked after_all
   none_once = record { locks = inl refl; raises_ = inl refl }
 

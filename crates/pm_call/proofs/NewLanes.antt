@@ -16,6 +16,7 @@ use Rattle.pm_plan.proofs.AreaParts.{part_generation, part_seal}
 use Rattle.pm_call.specs.Histories.{nothing_told}
 use Rattle.pm_call.specs.Stages.{IsBetween}
 use Rattle.pm_call.specs.Standing.{Stands, StandsWith}
+use Rattle.pm_call.proofs.HasHistories.{opened_history}
 use Rattle.pm_call.proofs.OpenedCalls.{between_may_open}
 use Rattle.pm_call.proofs.Standing.{idle_stands, stands_so}
 
@@ -98,7 +99,7 @@ module _ (fixed : Constants) (generation : ℕ) where
     new_stands at lane rests = idle_stands at lane (nothing_told fixed.lane)
         (unused (opened fixed generation) none) refl rests
         (between_may_open (unused (opened fixed generation) none) new_between)
-        refl refl
+        (opened_history fixed generation) refl
 
 -- SO A LANE STANDS over a memory of which nothing was asked, and told nothing
 pub new_lane_stands_with : {M : Type 0} (at : M → View → Type 0) (memory : M) (shape : Shape)

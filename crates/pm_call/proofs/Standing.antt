@@ -20,25 +20,29 @@ use Rattle.pm_view.specs.Views.{after, after_all, begun}
 use Rattle.pm_world.specs.LaneFields.{Fields, Rests, Standing, Works, at_rest, at_work, fields_of, last_number, moved}
 use Rattle.pm_world.specs.declared.lane.Lane.{Lane}
 use Rattle.pm_plan.specs.Plans.{Plan}
+use Rattle.pm_record.specs.declared.redo.Redo.{Redo}
 use Rattle.pm_call.specs.At.{At}
 use Rattle.pm_call.specs.Between.{IsLaneBetween, MayOpen, saw_number}
 use Rattle.pm_call.specs.Commits.{CommitCut, WasCommitted}
 use Rattle.pm_call.specs.Did.{Cut, Did, DidSo, Ends, GaveUp, IsAt, IsOver, WasUnwritten, next, stage_refusal, work_refusal}
 use Rattle.pm_call.specs.GivenUp.{WasGivenUp}
-use Rattle.pm_call.specs.Histories.{LaneHistory, PlanTellsMore, calls_ended, ended_of, history_of, last_ended, told_by, told_last, told_more, turned, unless}
+use Rattle.pm_call.specs.Histories.{IsPlanOf, LaneHistory, PlanTellsMore, calls_ended, ended_of, history_of, last_ended, told_by, told_last, told_more, turned, unless}
 use Rattle.pm_call.specs.Opening.{NoneIsLeft}
+use Rattle.pm_call.specs.Planned.{entries_to_log, is_given_up}
+use Rattle.pm_call.specs.Planned.Planned.{Commits, RollsBack}
 use Rattle.pm_call.specs.Plans.{commits, gives_up}
 use Rattle.pm_call.specs.Stages.{Ended, EndedAs, EndedBy, EndedSo, IsLanePast, IsPastAt, Leaves, at_level, closed, end_refusal, fields_past, stage_end_refusal, unlisted}
-use Rattle.pm_call.specs.Unwritten.{WritesNoRecord, is_adding}
+use Rattle.pm_call.specs.Unwritten.{WritesNoRecord, is_adding, is_adding_in}
 use Rattle.pm_crash.specs.Fates.{EndsOpen}
-use Rattle.pm_call.specs.Standing.{IsLaneStopped, IsOverFor, Stands, StandsWith}
+use Rattle.pm_call.specs.Standing.{HasHistory, IsLaneStopped, IsOverFor, Stands, StandsWith, StoppedWith}
+use Rattle.pm_call.proofs.HasHistories.{by_operations, goes_on, plan_ends, plan_stopped, plan_tells}
 use Rattle.pm_call.proofs.OpenedCalls.{between_may_open, look_may_open}
 use Rattle.pm_call.proofs.SilentPlans.{silent_step}
 use Rattle.pm_call.proofs.Slotless.{slotless_so_far, unslotted_unwritten, working_unslotted}
 use Rattle.pm_call.proofs.SlotlessPlans.{slotless_gives_up}
 use Rattle.pm_call.proofs.StoppedLanes.{commit_is_stopped, cut_is_stopped}
 use Rattle.pm_call.proofs.StoppedNumbers.{commits_unended, ends_open, ends_untold, gives_up_unnumbered}
-use Rattle.pm_call.proofs.ToldLooks.{gives_told, looks_told, saw_history, told_history, told_open}
+use Rattle.pm_call.proofs.ToldLooks.{gives_told, looks_told, nothing_history, saw_history, told_history, told_open}
 use Rattle.pm_call.proofs.ToldPlans.{commits_tell, rollbacks_tell}
 
 -- ---- WHAT IS REFUSED, by the lane's fields
@@ -112,12 +116,13 @@ module _ {M : Type 0} (at : M → View → Type 0) (lane : Lane M) where
 
   pub stopped_stands : (h : LaneHistory) → lane.stopped ≡ true → (x : IsLaneStopped at lane)
       → calls_ended x.view ≡ h.done → x.view.fixed.lane ≡ h.lane → EndsOpen lane.drawn x.view
-      → (h.adding ≡ false → WritesNoRecord x.view) → StandsWith at lane h
-  stopped_stands h is stopped calls of ends unwritten = record {
+      → (is_adding_in h.within ≡ false → WritesNoRecord x.view) → StoppedWith x.view h
+      → StandsWith at lane h
+  stopped_stands h is stopped calls of ends unwritten plans = record {
     work = λ e. absurd (let s = stops stage_refusal in cc);
     past = λ e. absurd (let s = stops stage_end_refusal in cc);
     between = λ e low. absurd (cc);
-    stopped = λ e. (stopped, calls, of, ends, unwritten);
+    stopped = λ e. (stopped, calls, of, ends, unwritten, plans);
     last = λ e. absurd (cc);
   }
     where
@@ -127,18 +132,18 @@ module _ {M : Type 0} (at : M → View → Type 0) (lane : Lane M) where
       stops by = ap (λ b. if b then Some refusal.Stopped else by lane.stage lane.level) is
 
   pub working_stands : (h : LaneHistory) (s : Standing) → Works at lane s → At s
-      → history_of s.view ≡ h → StandsWith at lane h
+      → HasHistory s.view h → StandsWith at lane h
   working_stands h s works is same = record {
     work = λ e. (record { standing = s; works = works; stands = is }, same);
     past = λ e. absurd (either_way (s.level == 0) _ _ (sym (ap end_by works.fields) ∙ e));
     between = λ e low. absurd (let l = level_of (at_work s) works.fields in
         let some = is.some in omega (arith, l, low, some));
     stopped = λ e. goes (at_work s) works.fields refl e;
-    last = λ e. numbers s.view h (last_of (at_work s) works.fields) same;
+    last = λ e. numbers s.view h (last_of (at_work s) works.fields) same.is;
   }
 
   pub past_stands : (h : LaneHistory) (s : Standing) (st : Stage) (x : TxErr)
-      → IsPastAt at lane s st x → history_of s.view ≡ h → IsOverFor s.level x h
+      → IsPastAt at lane s st x → HasHistory s.view h → IsOverFor s.level x h
       → StandsWith at lane h
   past_stands h s st x is same over = record {
     work = λ e. absurd (not_in_work st s.level is.past.past (sym (ap work_by is.sees.fields) ∙ e));
@@ -146,11 +151,11 @@ module _ {M : Type 0} (at : M → View → Type 0) (lane : Lane M) where
     between = λ e low. absurd (let l = level_of (fields_past st x s) is.sees.fields in
         let some = is.past.some in omega (arith, l, low, some));
     stopped = λ e. goes (fields_past st x s) is.sees.fields refl e;
-    last = λ e. numbers s.view h (last_of (fields_past st x s) is.sees.fields) same;
+    last = λ e. numbers s.view h (last_of (fields_past st x s) is.sees.fields) same.is;
   }
 
   pub idle_stands : (h : LaneHistory) (s : Standing) → s.level ≡ 0 → Rests at lane s → MayOpen s
-      → history_of s.view ≡ h → h.call ≡ [] → StandsWith at lane h
+      → HasHistory s.view h → h.call ≡ [] → StandsWith at lane h
   idle_stands h s outside rests may same none = record {
     work = λ e. absurd (either_way (s.level == 0) _ _ (sym (ap work_by rests.fields) ∙ e));
     past = λ e. absurd (let n : stage_end_refusal stage.None 0 ≡ None =
@@ -158,12 +163,12 @@ module _ {M : Type 0} (at : M → View → Type 0) (lane : Lane M) where
         (sym (ap end_by rests.fields) ∙ e) in cc);
     between = λ e low. (record { standing = s; rests = rests; between = may }, same, none);
     stopped = λ e. goes (at_rest s) rests.fields refl e;
-    last = λ e. numbers s.view h (ap (λ (g : Fields). g.last) rests.fields) same;
+    last = λ e. numbers s.view h (ap (λ (g : Fields). g.last) rests.fields) same.is;
   }
 
   -- no number is left for a call
   pub spent_stands : (h : LaneHistory) (s : Standing) → s.level ≡ 0 → MayOpen s
-      → NoneIsLeft at lane s → history_of s.view ≡ h → h.call ≡ [] → StandsWith at lane h
+      → NoneIsLeft at lane s → HasHistory s.view h → h.call ≡ [] → StandsWith at lane h
   spent_stands h s outside may none same empty = ⊎_elim
       (λ z. idle_stands h s outside z.1 may same empty)
       (λ z. idle_stands h (saw_number s z.0) outside z.2 (look_may_open s z.0 may)
@@ -174,17 +179,19 @@ module _ {M : Type 0} (at : M → View → Type 0) (lane : Lane M) where
 
   -- in an operation, from where its history was this
   pub stopped_in : (h : LaneHistory) (v : View) (op : Operation) → lane.stopped ≡ true
-      → (x : IsLaneStopped at lane) → x.view.fixed ≡ v.fixed → history_of v ≡ h
+      → (x : IsLaneStopped at lane) → x.view.fixed ≡ v.fixed → HasHistory v h
       → calls_ended x.view ≡ (told_by lane.drawn op None h).done → EndsOpen lane.drawn x.view
       → ((n : ℕ) → lane.drawn ≡ Some n → is_adding op ≡ false)
       → (is_adding op ≡ false → WritesNoRecord x.view)
+      → StoppedWith x.view (told_by lane.drawn op None h)
       → StandsWith at lane (told_by lane.drawn op None h)
-  stopped_in h v op is x fixed same calls ends plain unwritten =
+  stopped_in h v op is x fixed same calls ends plain unwritten plans =
       stopped_stands (told_by lane.drawn op None h) is x calls
-      (ap (λ (f : Constants). f.lane) fixed ∙ ap (λ (y : LaneHistory). y.lane) same
-      ∙ of_lane lane.drawn) ends (adds lane.drawn refl)
+      (ap (λ (f : Constants). f.lane) fixed ∙ ap (λ (y : LaneHistory). y.lane) same.is
+      ∙ of_lane lane.drawn) ends (adds lane.drawn refl) plans
     where
-      adds : (d : Option ℕ) → lane.drawn ≡ d → (told_by d op None h).adding ≡ false
+      adds : (d : Option ℕ) → lane.drawn ≡ d
+          → is_adding_in (told_by d op None h).within ≡ false
           → WritesNoRecord x.view
       adds None e = unwritten
       adds (Some n) e = λ added. unwritten (plain n e)
@@ -195,12 +202,12 @@ module _ {M : Type 0} (at : M → View → Type 0) (lane : Lane M) where
 
   -- in one that goes on
   pub cut_stands : (h : LaneHistory) (s : Standing) (op : Operation) (plan : Plan)
-      → (cut : Cut at lane s plan true) → history_of s.view ≡ h
+      → (cut : Cut at lane s plan true) → HasHistory s.view h → IsPlanOf plan op s.view
       → calls_ended (after_all s.view (take cut.stops.made (plan s.view))) ≡ h.done
       → (after_all s.view (take cut.stops.made (plan s.view))).number ≡ None
       → (is_adding op ≡ false → WasUnwritten cut)
       → StandsWith at lane (told_by lane.drawn op None h)
-  cut_stands h s op plan cut same calls none unwritten =
+  cut_stands h s op plan cut same of calls none unwritten =
       let w : View = after_all s.view (take cut.stops.made (plan s.view)) in
       let drawn : lane.drawn ≡ None = ap (λ (f : Fields). f.drawn) cut.fields in
       stopped_in h s.view op (ap (λ (f : Fields). f.stopped) cut.fields)
@@ -209,33 +216,45 @@ module _ {M : Type 0} (at : M → View → Type 0) (lane : Lane M) where
       (calls ∙ sym (ap (λ d. (told_by d op None h).done) drawn))
       (ends_untold lane.drawn w drawn none)
       (λ n e. absurd (let clash : None ≡ Some n = sym drawn ∙ e in cc)) unwritten
+      (plan_stopped of.by op s.view w h (told_by lane.drawn op None h) of.operation
+      (by_operations lane.drawn op None h (goes_on s.view h same)) same cut.stops.made
+      (ap (λ (steps : List Step). after_all s.view (take cut.stops.made steps)) of.same))
 
   -- as it gave its call up
   pub cut_rollback_stands : (h : LaneHistory) (s : Standing) (op : Operation)
-      (reply : Option Value) (n : ℕ) → s.view.number ≡ None → history_of s.view ≡ h
+      (reply : Option Value) (n : ℕ) → is_given_up op reply ≡ true → s.view.number ≡ None
+      → HasHistory s.view h
       → Cut at lane s (gives_up op reply n) true → StandsWith at lane (told_by lane.drawn op None h)
-  cut_rollback_stands h s op reply n none same cut =
+  cut_rollback_stands h s op reply n given none same cut =
       let w : View = after_all s.view (take cut.stops.made (gives_up op reply n s.view)) in
       let told = gives_up_unnumbered op reply n s.view cut.stops.made cut.stops.due in
       cut_stands h s op (gives_up op reply n) cut same
-      (ap (λ (x : LaneHistory). x.done) (told_history s.view w h told same))
+      (record { by = RollsBack op reply n given; operation = refl; same = refl })
+      (ap (λ (x : LaneHistory). x.done) (told_history s.view w h told same.is))
       (told_open s.view w told none)
       (λ _. unslotted_unwritten w (slotless_so_far s.view (gives_up op reply n s.view)
       cut.stops.made (working_unslotted s.view cut.working)
       (slotless_gives_up s.view op reply n cut.working)))
 
-  pub cut_commit_stands : (h : LaneHistory) (s : Standing) → s.view.number ≡ None
-      → history_of s.view ≡ h → CommitCut at lane s true
+  -- where its entries are those of the words that it published
+  pub cut_commit_stands : (h : LaneHistory) (s : Standing) → s.entries ≡ entries_to_log s.view
+      → s.view.number ≡ None → HasHistory s.view h → CommitCut at lane s true
       → StandsWith at lane (told_by lane.drawn Commit None h)
-  cut_commit_stands h s none same cut = stopped_in h s.view Commit
+  cut_commit_stands h s sets none same cut = stopped_in h s.view Commit
       (ap (λ (f : Fields). f.stopped) cut.fields) (commit_is_stopped at lane s true cut)
       (all_fixed s.view (take cut.stops.made (commits s.entries cut.found cut.number s.view))) same
       ((commits_tell s.entries cut.found cut.number).on_the_way s.view cut.stops.made none
-      ∙ λ i. (told_by (sym cut.numbered.drawn i) Commit None (same i)).done)
+      ∙ λ i. (told_by (sym cut.numbered.drawn i) Commit None (same.is i)).done)
       (ends_open lane.drawn
       (after_all s.view (take cut.stops.made (commits s.entries cut.found cut.number s.view)))
       cut.numbered.drawn (commits_unended s.entries cut.found cut.number s.view none cut.ready
       cut.stops.made cut.stops.fewer)) (λ n e. refl) (λ _. cut.unwritten)
+      (plan_stopped (Commits cut.found cut.number) Commit s.view
+      (after_all s.view (take cut.stops.made (commits s.entries cut.found cut.number s.view))) h
+      (told_by lane.drawn Commit None h) refl
+      (by_operations lane.drawn Commit None h (goes_on s.view h same)) same cut.stops.made
+      (ap (λ (es : List Redo). after_all s.view
+      (take cut.stops.made (commits es cut.found cut.number s.view))) sets))
 
   -- ---- its call is over, and its locks are held still
 
@@ -263,21 +282,18 @@ module _ {M : Type 0} (at : M → View → Type 0) (lane : Lane M) where
   leaves_aborted x aborted n s over = (over_unlisted s over, refl)
 
   -- the history as the lane's field tells the number
-  pub by_last : (h before : LaneHistory) (v : View) (n : ℕ) (op : Operation)
-      (reply : Option Value) → lane.last ≡ last_number v.entries
-      → history_of v ≡ told_last (suc n) op reply before → before ≡ h
-      → history_of v ≡ told_last lane.last op reply h
-  by_last h before v n op reply last is same =
-      let number : lane.last ≡ suc n =
-      numbers v (told_last (suc n) op reply before) last is in
-      is ∙ λ i. told_last (sym number i) op reply (same i)
+  pub by_last : (h : LaneHistory) (v : View) (n : ℕ) (op : Operation) (reply : Option Value)
+      → lane.last ≡ last_number v.entries → HasHistory v (told_last (suc n) op reply h)
+      → HasHistory v (told_last lane.last op reply h)
+  by_last h v n op reply last has = subst (λ k. HasHistory v (told_last k op reply h))
+      (sym (numbers v (told_last (suc n) op reply h) last has.is)) has
 
   -- it was aborted, at whatever level
   pub aborted_call_stands : (h : LaneHistory) (s : Standing) (op : Operation)
       (reply : Option Value) (x : TxErr) → 1 ≤ s.level → s.level ≤ 64 → x ≢ error.None
-      → s.view.number ≡ None → history_of s.view ≡ h → WasGivenUp at lane s op reply x
-      → StandsWith at lane (told_last lane.last op reply h)
-  aborted_call_stands h s op reply x some most aborted none same up =
+      → is_given_up op reply ≡ true → s.view.number ≡ None → HasHistory s.view h
+      → WasGivenUp at lane s op reply x → StandsWith at lane (told_last lane.last op reply h)
+  aborted_call_stands h s op reply x some most aborted given none same up =
       let t : Standing = next s (gives_up op reply up.number) in
       past_stands (told_last lane.last op reply h) (unlisted t) stage.OnAbort x (record {
         sees = record { memory = up.sees.memory; fields = up.sees.fields };
@@ -288,23 +304,24 @@ module _ {M : Type 0} (at : M → View → Type 0) (lane : Lane M) where
           leaves = leaves_aborted x aborted s.level t up.over;
         };
       })
-      (by_last h (history_of s.view) t.view up.number op reply
-      (ap (λ (g : Fields). g.last) up.sees.fields)
-      ((rollbacks_tell op reply up.number).whole s.view none) same)
+      (by_last h t.view up.number op reply (ap (λ (g : Fields). g.last) up.sees.fields)
+      (plan_ends (RollsBack op reply up.number given) op reply s.view t.view h refl refl same
+      (suc up.number) ((rollbacks_tell op reply up.number).whole s.view none)))
       (over_for s.level x (told_last lane.last op reply h) refl)
 
   pub refused_stands : (h : LaneHistory) (s : Standing) → 1 ≤ s.level → s.level ≤ 64
-      → (op : Operation) (r : Refusal) → s.view.number ≡ None → history_of s.view ≡ h
+      → (op : Operation) (r : Refusal) → s.view.number ≡ None → HasHistory s.view h
       → GaveUp at lane s op r → StandsWith at lane (told_last lane.last op (Some (Refused r)) h)
   refused_stands h s some most op r none same up =
-      aborted_call_stands h s op (Some (Refused r)) (error.Refused r) some most (λ e. cc) none same
+      aborted_call_stands h s op (Some (Refused r)) (error.Refused r) some most (λ e. cc) refl none same
       (record { number = up.number; ready = up.ready; sees = up.sees; over = up.over })
 
   -- it was committed at its outermost level
   pub committed_call_stands : (h : LaneHistory) (s : Standing) → s.level ≡ 1
-      → s.view.number ≡ None → history_of s.view ≡ h → WasCommitted at lane s
+      → s.entries ≡ entries_to_log s.view → s.view.number ≡ None → HasHistory s.view h
+      → WasCommitted at lane s
       → StandsWith at lane (told_last lane.last Commit None h)
-  committed_call_stands h s outermost none same by =
+  committed_call_stands h s outermost sets none same by =
       let t : Standing = next s (commits s.entries by.found by.number) in
       past_stands (told_last lane.last Commit None h) (unlisted t) stage.OnCommit error.None (record {
         sees = record { memory = by.sees.memory; fields = by.sees.fields };
@@ -316,9 +333,10 @@ module _ {M : Type 0} (at : M → View → Type 0) (lane : Lane M) where
               (over_unlisted t by.over, refl);
         };
       })
-      (by_last h (history_of s.view) t.view by.number Commit None
-      (ap (λ (g : Fields). g.last) by.sees.fields)
-      ((commits_tell s.entries by.found by.number).whole s.view none) same)
+      (by_last h t.view by.number Commit None (ap (λ (g : Fields). g.last) by.sees.fields)
+      (plan_ends (Commits by.found by.number) Commit None s.view t.view h refl
+      (ap (λ (es : List Redo). after_all s.view (commits es by.found by.number s.view)) sets) same
+      (suc by.number) ((commits_tell s.entries by.found by.number).whole s.view none)))
       (over_for s.level error.None (told_last lane.last Commit None h) refl)
 
 -- ---- WHAT A LANE THAT STANDS MAY BE ASKED
@@ -350,18 +368,20 @@ module _ {M : Type 0} (at : M → View → Type 0) (old new : Lane M) (h : LaneH
       (tells : (v : View) → PlanTellsMore (plan v) op (said v))
       (replies : (v : View) (x : T) → Is v x → said v v ≡ reply x) where
     ends_stands : (s : Standing) → 1 ≤ s.level → s.level ≤ 64 → s.view.number ≡ None
-        → history_of s.view ≡ h → (result : Result T Refusal) → Ends at new op plan Is result s
+        → HasHistory s.view h → (result : Result T Refusal) → Ends at new op plan Is result s
         → StandsWith at new (turned new op reply result h)
     ends_stands s some most none same (Ok x) ends =
+        let of = (tells s.view).planned s.view in
         working_stands at new (told_more op (reply x) h) (next s (plan s.view)) ends.0.works
-        ends.0.stands ((tells s.view).whole s.view none
-        ∙ λ i. told_more op (replies s.view x ends.1 i) (same i))
+        ends.0.stands (plan_tells of.by op (reply x) s.view (next s (plan s.view)).view h
+        of.operation (ap (after_all s.view) of.same) same ((tells s.view).whole s.view none
+        ∙ λ i. told_more op (replies s.view x ends.1 i) (history_of s.view)))
     ends_stands s some most none same (Err refusal.Stopped) ends = ⊎_elim
-        (λ c. cut_stands at new h s op (plan s.view) c.1.0 same
+        (λ c. cut_stands at new h s op (plan s.view) c.1.0 same ((tells s.view).planned s.view)
         ((tells s.view).on_the_way s.view c.1.0.stops.made none
-        ∙ ap (λ (x : LaneHistory). x.done) same)
+        ∙ ap (λ (x : LaneHistory). x.done) same.is)
         ((tells s.view).unnumbered s.view c.1.0.stops.made none) c.1.1)
-        (λ c. cut_rollback_stands at new h s op (Some (Refused c.0)) c.1 none same c.3)
+        (λ c. cut_rollback_stands at new h s op (Some (Refused c.0)) c.1 refl none same c.3)
         ends
     ends_stands s some most none same (Err r) ends =
         refused_stands at new h s some most op r none same ends
@@ -380,24 +400,24 @@ module _ {M : Type 0} (at : M → View → Type 0) (old new : Lane M) (h : LaneH
           let t = d s here.0.works here.0.stands in
           let looked = looks_told t.looks s.view t.view t.looked in
           ends_stands (moved s t.view) here.0.stands.some here.0.stands.most
-          (told_open s.view t.view looked here.0.stands.number.none)
-          (told_history s.view t.view h looked here.1) result t.holds
+          (told_open s.view t.view looked.told here.0.stands.number.none)
+          (nothing_history s.view t.view h looked here.1) result t.holds
 
   -- ---- the end of a level
 
-  end_stands : (s : Standing) (x : TxErr) (n : ℕ) → history_of s.view ≡ h → IsOverFor n x h
+  end_stands : (s : Standing) (x : TxErr) (n : ℕ) → HasHistory s.view h → IsOverFor n x h
       → EndedAs at new x n s → StandsWith at new h
   end_stands s x zero same over ends = absurd ends
   end_stands s x (suc zero) same over ends =
       idle_stands at new h (closed s) refl ends.0 (between_may_open (closed s) ends.1)
-      (told_history s.view (closed s).view h (gives_told s.view s.locks) same) over
+      (nothing_history s.view (closed s).view h (gives_told s.view s.locks) same) over
   end_stands s error.None (suc (suc n)) same over ends =
       working_stands at new h (at_level (suc n) s) ends.0 ends.1 same
   end_stands s x (suc (suc n)) same over ends =
       past_stands at new h (at_level (suc n) s) stage.OnAbort x ends same (over_for (suc n) x h over)
 
   answer_stands : (s : Standing) (x : TxErr) (result : Result TxErr Refusal)
-      → history_of s.view ≡ h → IsOverFor s.level x h → EndedBy at new result x s
+      → HasHistory s.view h → IsOverFor s.level x h → EndedBy at new result x s
       → StandsWith at new h
   answer_stands s x (Ok answer) same over d = end_stands s x s.level same over d.1
   answer_stands s x (Err r) same over d = absurd d

@@ -3,7 +3,7 @@ use Rattle.std.proofs.Common.{◌≡◌, ℕ, zero, suc, Bool, true, false, List
 use Rattle.pm_objects.specs.declared.calls.Want.{Want}
 use Rattle.pm_view.specs.Log.{Phase, Idle, Open, Drawn, Sealing, Applying, Clearing, Retiring, Voiding}
 use Rattle.pm_view.specs.Steps.{Step}
-use Rattle.pm_view.specs.Steps.Step.{Give, Raise, StopSeen}
+use Rattle.pm_view.specs.Steps.Step.{Give, NumberSeen, Raise, StopSeen}
 use Rattle.pm_view.specs.View.{View}
 use Rattle.pm_view.specs.Views.{after_all, begun}
 use Rattle.pm_world.specs.LaneFields.{Standing}
@@ -17,20 +17,38 @@ use Rattle.pm_call.specs.Histories.{LaneHistory, history_of}
 use Rattle.pm_call.specs.LockRefusals.{TriedLocks}
 use Rattle.pm_call.specs.Locking.{TakesLocks, to_take}
 use Rattle.pm_call.specs.Opening.{WaitWasStopped}
+use Rattle.pm_call.specs.Quiet.{WentQuietly}
+use Rattle.pm_call.specs.Standing.{HasHistory}
+use Rattle.pm_call.proofs.HasHistories.{quiet_history}
 use Rattle.pm_call.proofs.HeldWords.{looks_claims}
+use Rattle.pm_call.proofs.Quiet.{gives_quiet, looks_quiet, quiet_both, quiet_by, quiet_one, quiet_then, stops_quiet, waits_quiet}
 use Rattle.pm_call.proofs.SilentPlans.{AreSilent, IsAsTold, is_silent, silent_both, silent_map, silent_steps, told_then}
 use Rattle.pm_call.proofs.ToldPlans.{silent_history}
 use Rattle.pm_call.proofs.TriedLocks.{view_on}
 
+-- what a lane told stays as it is, over steps of no plan
+pub record SaidNothing (v w : View) : Type 0 where
+  pub told : IsAsTold v w
+  pub went : WentQuietly v w
+
+pub nothing_then : (u v w : View) → SaidNothing u v → SaidNothing v w → SaidNothing u w
+nothing_then u v w one more = record {
+  told = told_then u v w one.told more.told;
+  went = quiet_then u v w one.went more.went;
+}
+
 -- ---- LOOKS
 
-pub looks_told : (n : ℕ) (v w : View) → Looks n v w → IsAsTold v w
+pub looks_told : (n : ℕ) (v w : View) → Looks n v w → SaidNothing v w
 looks_told n v w looks =
     let same = looks_claims n v w looks in record {
-      call = ap (λ (y : View). y.call) same;
-      entries = ap (λ (y : View). y.entries) same;
-      number = ap (λ (y : View). y.number) same;
-      fixed = ap (λ (y : View). y.fixed) same;
+      told = record {
+        call = ap (λ (y : View). y.call) same;
+        entries = ap (λ (y : View). y.entries) same;
+        number = ap (λ (y : View). y.number) same;
+        fixed = ap (λ (y : View). y.fixed) same;
+      };
+      went = looks_quiet n v w looks;
     }
 
 -- how many numbers were drawn: where no call is open none is as one opens
@@ -40,7 +58,7 @@ begun_history Idle v none = λ i. record {
   lane = v.fixed.lane;
   done = (history_of v).done;
   call = (sym none) i;
-  adding = false;
+  within = None;
 }
 begun_history Open v none = refl
 begun_history (Drawn n) v none = refl
@@ -50,19 +68,24 @@ begun_history Clearing v none = refl
 begun_history (Retiring n) v none = refl
 begun_history Voiding v none = refl
 
-pub saw_history : (s : Standing) (n : ℕ) (h : LaneHistory) → history_of s.view ≡ h → h.call ≡ []
-    → history_of (saw_number s n).view ≡ h
-saw_history s n h is none = begun_history s.view.log.phase s.view
-    (ap (λ (x : LaneHistory). x.call) is ∙ none) ∙ is
+pub saw_history : (s : Standing) (n : ℕ) (h : LaneHistory) → HasHistory s.view h → h.call ≡ []
+    → HasHistory (saw_number s n).view h
+saw_history s n h has none = quiet_history s.view (saw_number s n).view h
+    (quiet_one s.view (NumberSeen n) refl)
+    (begun_history s.view.log.phase s.view (ap (λ (x : LaneHistory). x.call) has.is ∙ none) ∙ has.is)
+    has
 
 -- ---- LOCKS
 
-pub gives_told : (v : View) (locks : List HeldLock) → IsAsTold v (after_all v (gives locks))
-gives_told v locks = silent_steps v (gives locks)
-    (silent_map (λ (l : HeldLock). Give l.line) (λ l. refl) locks)
+pub gives_told : (v : View) (locks : List HeldLock) → SaidNothing v (after_all v (gives locks))
+gives_told v locks = record {
+  told = silent_steps v (gives locks)
+      (silent_map (λ (l : HeldLock). Give l.line) (λ l. refl) locks);
+  went = quiet_by v (gives locks) (gives_quiet locks);
+}
 
 pub taken_told : (s : Standing) (wants : List Want) (x : View) → TakesLocks s wants x
-    → IsAsTold s.view x
+    → SaidNothing s.view x
 taken_told s wants x tk =
     let looked : View = after_all tk.taken tk.looks in
     let got : IsAsTold s.view tk.taken = subst (IsAsTold s.view) (sym tk.takes)
@@ -72,14 +95,25 @@ taken_told s wants x tk =
     let rose : IsAsTold looked x = subst (IsAsTold looked) (sym tk.raises_)
     (silent_steps looked (map (λ (l : HeldLock). Raise l.line true) _)
     (silent_map (λ (l : HeldLock). Raise l.line true) (λ l. refl) _)) in
-    told_then s.view looked x (told_then s.view tk.taken looked got seen) rose
+    record {
+      told = told_then s.view looked x (told_then s.view tk.taken looked got seen) rose;
+      went = tk.quiet;
+    }
 
 pub tried_told : (s : Standing) (wants : List Want) (all : List HeldLock) (x : View)
-    → TriedLocks s wants all x → IsAsTold s.view x
-tried_told s wants all x tk = subst (IsAsTold s.view) (sym (view_on s wants all x tk))
-    (record { call = refl; entries = refl; number = refl; fixed = refl })
+    → TriedLocks s wants all x → SaidNothing s.view x
+tried_told s wants all x tk = record {
+  told = subst (IsAsTold s.view) (sym (view_on s wants all x tk))
+      (record { call = refl; entries = refl; number = refl; fixed = refl });
+  went = tk.quiet;
+}
 
 -- so the history is as it was, and the call as open
+pub nothing_history : (v w : View) (h : LaneHistory) → SaidNothing v w → HasHistory v h
+    → HasHistory w h
+nothing_history v w h nothing has =
+    quiet_history v w h nothing.went (silent_history v w nothing.told ∙ has.is) has
+
 pub told_history : (v w : View) (h : LaneHistory) → IsAsTold v w → history_of v ≡ h
     → history_of w ≡ h
 told_history v w h told is = silent_history v w told ∙ is
@@ -117,11 +151,17 @@ stops_silent n line write =
 
 pub wait_told : {M : Type 0} (at : M → View → Type 0) (lane : Lane M) (s : Standing)
     (wants : List Want) → (w : WaitWasStopped at lane s wants)
-    → IsAsTold s.view (after_all s.view (w.steps ++ stops w.refused
+    → SaidNothing s.view (after_all s.view (w.steps ++ stops w.refused
     (lock_at (to_take s wants) w.count).line (lock_at (to_take s wants) w.count).write))
 wait_told at lane s wants w =
     let l : HeldLock = lock_at (to_take s wants) w.count in
-    silent_steps s.view (w.steps ++ stops w.refused l.line l.write)
-    (silent_both w.steps (stops w.refused l.line l.write)
-    (waits_silent (take w.count (to_take s wants)) w.steps w.waits)
-    (stops_silent w.refused l.line l.write))
+    let steps : List Step = w.steps ++ stops w.refused l.line l.write in record {
+      told = silent_steps s.view steps
+          (silent_both w.steps (stops w.refused l.line l.write)
+          (waits_silent (take w.count (to_take s wants)) w.steps w.waits)
+          (stops_silent w.refused l.line l.write));
+      went = quiet_by s.view steps
+          (quiet_both w.steps (stops w.refused l.line l.write)
+          (waits_quiet (take w.count (to_take s wants)) w.steps w.waits)
+          (stops_quiet w.refused l.line l.write));
+    }

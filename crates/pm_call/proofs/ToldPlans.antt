@@ -1,7 +1,7 @@
 -- WHAT THE PLANS OF OPERATIONS TELL: each is of silent steps, and of the one that tells it; and
 -- where
 -- it ends its call the number is taken at once then.
-use Rattle.std.proofs.Common.{◌≡◌, ◌⊎◌, ℕ, zero, suc, ◌+◌, inl, inr, ⊎_elim, List, [], ◌∷◌, ◌++◌, map, take, refl, sym, ap, ◌∙◌, subst, Option, None, Some, false}
+use Rattle.std.proofs.Common.{◌≡◌, ◌⊎◌, ℕ, zero, suc, ◌+◌, inl, inr, ⊎_elim, List, [], ◌∷◌, ◌++◌, map, take, refl, sym, ap, ◌∙◌, subst, Option, None, Some}
 use Rattle.pm_model.specs.Items.{number_bytes}
 use Rattle.pm_objects.specs.declared.calls.Operation.{Operation}
 use Rattle.pm_objects.specs.declared.calls.Operation.TheVariants.{AddRange, Cancel, Commit, Increment, Publish, Read, Write}
@@ -17,7 +17,8 @@ use Rattle.pm_plan.specs.Plans.{Plan, in_turn, known_word, one, persists_all}
 use Rattle.pm_undo.specs.Plans.{snapshots}
 use Rattle.pm_redo.specs.Plans.{performs, writes_log}
 use Rattle.pm_call.specs.At.{set_entry}
-use Rattle.pm_call.specs.Histories.{AddsTell, CancelsTell, CommitsTell, IncrementsTell, InnerCommitsTell, LaneHistory, LogsTell, LoneCallsTell, PlanTellsLast, PlanTellsMore, PublishesTell, ReadsTell, RollbacksTell, WritesTell, calls_ended, ended_of, history_of, open_call, told, told_by, told_last, told_more}
+use Rattle.pm_call.specs.Histories.{AddsTell, CancelsTell, CommitsTell, IncrementsTell, InnerCommitsTell, IsPlanOf, LaneHistory, LogsTell, LoneCallsTell, PlanTellsLast, PlanTellsMore, PublishesTell, ReadsTell, RollbacksTell, WritesTell, calls_ended, ended_of, history_of, open_call, told, told_by, told_last, told_more}
+use Rattle.pm_call.specs.Planned.Planned.{Adds, Cancels, Increments, Reads, Tells, Writes}
 use Rattle.pm_call.specs.Plans.{commits, ends_call, ends_records, finishes, gives_up, known_sum, logs_entries, performs_call, puts_sum, takes_back, tells, writes_words}
 use Rattle.pm_call.proofs.SilentPlans.{AreSilent, IsAsTold, IsSilentPlan, silent_back, silent_both, silent_ends_records, silent_log, silent_performs, silent_persists, silent_snapshots, silent_step, silent_steps, silent_writes}
 
@@ -30,7 +31,7 @@ silent_history v w s = λ i. record {
   lane = (s.fixed i).lane;
   done = calls_same v w s i;
   call = open_call (s.number i) (s.call i);
-  adding = false;
+  within = None;
 }
 
 pub after_append : (v : View) (first last : List Step)
@@ -43,6 +44,15 @@ pub silent_take : (k : ℕ) (steps : List Step) → AreSilent steps → AreSilen
 silent_take zero steps are = tt
 silent_take (suc k) [] are = tt
 silent_take (suc k) (s ∷ steps) are = (are.0, silent_take k steps are.1)
+
+-- what a plan tells, whatever operation it is the plan of
+record TellsMoreOf (plan : Plan) (op : Operation) (reply : View → Option Value) : Type 0 where
+  whole : (v : View) → v.number ≡ None
+      → history_of (after_all v (plan v)) ≡ told_more op (reply v) (history_of v)
+  on_the_way : (v : View) (k : ℕ) → v.number ≡ None
+      → calls_ended (after_all v (take k (plan v))) ≡ calls_ended v
+  unnumbered : (v : View) (k : ℕ) → v.number ≡ None
+      → (after_all v (take k (plan v))).number ≡ None
 
 -- ---- AN OPERATION IS TOLD after silent steps
 
@@ -69,7 +79,7 @@ module _ (op : Operation) (reply : Option Value) where
             lane = (m.fixed i).lane;
             done = m.calls i;
             call = (opens ∙ ap (λ (call : List Told). call ++ told op reply ∷ []) (sym before)) i;
-            adding = false;
+            within = None;
           }
 
   after_one : (v : View) (steps : List Step)
@@ -98,10 +108,9 @@ module _ (op : Operation) (reply : Option Value) where
   number_way v (s ∷ a) (suc k) are =
       number_way (after v s) a k are.1 ∙ (silent_step v s are.0).number
 
-  pub plan_more : (a : Plan) → IsSilentPlan a
-      → PlanTellsMore (in_turn a (tells op reply)) op (λ v. reply)
+  silent_more : (a : Plan) → IsSilentPlan a → TellsMoreOf (in_turn a (tells op reply)) op (λ v. reply)
   unfolding in_turn one
-  plan_more a silent = record {
+  silent_more a silent = record {
     whole = λ v none.
         let u : View = after_all v (a v) in
         let s = silent_steps v (a v) (silent v) in
@@ -109,6 +118,16 @@ module _ (op : Operation) (reply : Option Value) where
         ∙ ap (told_more op reply) (silent_history v u s);
     on_the_way = λ v k none. more_way v (a v) k (silent v);
     unnumbered = λ v k none. number_way v (a v) k (silent v) ∙ none;
+  }
+
+  pub plan_more : (a : Plan) → IsSilentPlan a
+      → ((v : View) → IsPlanOf (in_turn a (tells op reply)) op v)
+      → PlanTellsMore (in_turn a (tells op reply)) op (λ v. reply)
+  plan_more a silent planned = let more = silent_more a silent in record {
+    planned = planned;
+    whole = more.whole;
+    on_the_way = more.on_the_way;
+    unnumbered = more.unnumbered;
   }
 
 -- ---- AND THE NUMBER IS TAKEN at once
@@ -138,7 +157,7 @@ module _ (op : Operation) (reply : Option Value) (n : ℕ) where
             record { number = suc n; call = call ++ told op reply ∷ [] } ∷ calls_ended v)
             (sym before)) i;
         call = open_call (l.number i) w.call;
-        adding = false;
+        within = None;
       }
 
   way_history : (v w : View) → v.number ≡ None → ToldOnTheWay v w
@@ -252,14 +271,17 @@ module _ (op : Operation) (reply : Option Value) (n : ℕ) where
 pub adds_tell : AddsTell
 adds_tell id off len = plan_more (AddRange id off len) None (snapshots (id.off + off) len)
     (silent_snapshots (id.off + off) len)
+    (λ v. record { by = Adds id off len; operation = refl; same = refl })
 
 pub writes_tell : WritesTell
 writes_tell id off bytes = plan_more (Write id off bytes) None (writes_words (id.off + off) bytes)
     (silent_writes (id.off + off) bytes)
+    (λ v. record { by = Writes id off bytes; operation = refl; same = refl })
 
 pub reads_tell : ReadsTell
 unfolding one after_all
 reads_tell id off len = record {
+  planned = λ v. record { by = Reads id off len; operation = refl; same = refl };
   whole = λ v none. tells_history (Read id off len)
       (Some (Bytes (bytes_seen (known_word v) id.off off len))) v none;
   on_the_way = λ v k none. more_way (Read id off len)
@@ -270,23 +292,26 @@ reads_tell id off len = record {
 
 pub increments_tell : IncrementsTell
 increments_tell id off by = record {
+  planned = λ v. record { by = Increments id off by; operation = refl; same = refl };
   whole = λ v none. (puts_sum_tells (known_sum v id off by)).whole v none;
   on_the_way = λ v k none. (puts_sum_tells (known_sum v id off by)).on_the_way v k none;
   unnumbered = λ v k none. (puts_sum_tells (known_sum v id off by)).unnumbered v k none;
 }
   where
-    puts_sum_tells : (sum : ℕ) → PlanTellsMore (puts_sum id off by sum) (Increment id off by)
+    puts_sum_tells : (sum : ℕ) → TellsMoreOf (puts_sum id off by sum) (Increment id off by)
         (λ v. Some (Number sum))
-    puts_sum_tells sum = plan_more (Increment id off by) (Some (Number sum))
+    puts_sum_tells sum = silent_more (Increment id off by) (Some (Number sum))
         (writes_words (id.off + off) (number_bytes sum))
         (silent_writes (id.off + off) (number_bytes sum))
 
 pub cancels_tell : CancelsTell
 cancels_tell = plan_more Cancel None persists_all silent_persists
+    (λ v. record { by = Cancels; operation = refl; same = refl })
 
 pub inner_commits_tell : InnerCommitsTell
 unfolding one after_all
 inner_commits_tell = record {
+  planned = λ v. record { by = Tells Commit None refl; operation = refl; same = refl };
   whole = λ v none. tells_history Commit None v none;
   on_the_way = λ v k none. more_way Commit None v [] k tt;
   unnumbered = λ v k none. number_way Commit None v [] k tt ∙ none;

@@ -41,6 +41,7 @@ use Rattle.pm_call.specs.Opening.{WasBegun, BeginWasRefused, WaitWasStopped}
 use Rattle.pm_call.specs.Plans.{ends_call, gives_up}
 use Rattle.pm_call.specs.Stages.{at_level}
 use Rattle.pm_call.specs.WantedTaken.{IsMissed}
+use Rattle.pm_call.proofs.Quiet.{quiet_none}
 use Rattle.pm_call.proofs.MissedObjects.{none_there}
 use Rattle.pm_call.proofs.FirstLocks as first_locks
 use Rattle.pm_call.proofs.LocksGot.{got_locks_are_taken, missed_locks_are_tried, none_looked}
@@ -191,7 +192,7 @@ module _ {M : Type 0} (at : M → View → Type 0) (mid : Lane M) (wants : List 
     none_tried r same first = record {
       all = s.locks ++ [];
       view = s.view;
-      tried = none_looked s wants 0 s.view refl (λ n there. there);
+      tried = none_looked s wants 0 s.view refl (λ n there. there) (quiet_none s.view);
       seen = unseen;
       unspent = refl;
       unbusy = refl;

@@ -37,6 +37,7 @@ use Rattle.pm_call.specs.LockRefusals.{TriedLocks, locking_tests}
 use Rattle.pm_call.specs.Locking.{locks_with, to_take, to_write}
 use Rattle.pm_call.specs.WantedTaken.{TriesOnce, WantedTaken, WantedTakenAs, WantsRefused}
 use Rattle.pm_call.specs.WantedTried.{AreFew, IsPlaced, WantedTried, WantedTriedAs, WorksWith, got_all}
+use Rattle.pm_call.proofs.Quiet.{quiet_none}
 use Rattle.pm_call.proofs.LockLists.{wants_off}
 use Rattle.pm_call.proofs.LocksGot.{busy_locks_are_tried, busy_once, last_is, missed_locks_are_tried, missed_once, none_looked, none_once, raise_once, refused_raises_are_tried, some_raised, taken_once}
 use Rattle.pm_call.proofs.RefusedWants.{all_at, busy_first, full_first, is_missing, is_tried, is_wanted, missing_first, none_writes, not_in, tests_at, unlisted, unplaced_first, written_wanted}
@@ -123,7 +124,7 @@ module _ (s : Standing) (wants : List Want) (at : At s) where
         nil (l ∷ locks) = ap (λ more. l ∷ more) (nil locks)
 
         nothing : (tried : TriedLocks s wants s.locks s.view) × TriesOnce tried
-        nothing = subst (λ ls. (tried : TriedLocks s wants ls s.view) × TriesOnce tried) (nil s.locks) (none_looked s wants 0 s.view refl (λ n there. there), none_once s wants)
+        nothing = subst (λ ls. (tried : TriedLocks s wants ls s.view) × TriesOnce tried) (nil s.locks) (none_looked s wants 0 s.view refl (λ n there. there) (quiet_none s.view), none_once s wants)
 
     -- a try is refused
     refused_try : (k : ℕ) → k < length (to_take s wants) → AreFew s wants → IsPlaced s wants

@@ -1,6 +1,7 @@
 -- THE HISTORY OF A LANE, by its view; and what the plans of operations make of it, as laws of data.
 -- All else of a plan leaves it as it is.
-use Rattle.std.specs.Prelude.{◌≡◌, ℕ, zero, suc, Bool, false, List, [], ◌∷◌, ◌++◌, map, take, Option, None, Some, Result, Ok, Err}
+use Rattle.std.specs.Prelude.{◌≡◌, ℕ, zero, suc, List, [], ◌∷◌, ◌++◌, flat_map, map, reverse, take, Option, None, Some, Result, Ok, Err}
+use Rattle.std.specs.List.{cons_option}
 use Rattle.pm_model.specs.Pending.{SetWord}
 use Rattle.pm_objects.specs.declared.calls.Operation.{Operation}
 use Rattle.pm_objects.specs.declared.calls.Operation.TheVariants.{AddRange, Cancel, Commit, Increment, Publish, Read, Write}
@@ -15,8 +16,8 @@ use Rattle.pm_view.specs.Views.{after_all}
 use Rattle.pm_world.specs.declared.lane.Lane.{Lane}
 use Rattle.pm_crash.specs.Looked.{bytes_seen}
 use Rattle.pm_plan.specs.Plans.{Plan, known_word}
+use Rattle.pm_call.specs.Planned.{Planned, operation_of, steps_of}
 use Rattle.pm_call.specs.Publications.{publishes}
-use Rattle.pm_call.specs.Unwritten.{is_adding}
 use Rattle.pm_call.specs.Plans.{adds, cancels, commits, commits_inner, ends_call, gets, gives_up, increments, known_sum, logs_entries, puts}
 
 -- ---- WHAT A LANE TOLD
@@ -26,13 +27,13 @@ pub record Ended : Type 0 where
   pub number : ℕ
   pub call : List Told
 
--- which lane it is; its calls that have their numbers, the last first; the open call so far; and
--- whether the lane stopped as it added a range
+-- which lane it is; its calls that have their numbers, the last first; the open call so far; and the
+-- operation of it in which the lane stopped, if it did
 pub record LaneHistory : Type 0 where
   pub lane : ℕ
   pub done : List Ended
   pub call : List Told
-  pub adding : Bool
+  pub within : Option Operation
 
 abbrev pub ended_of : Numbered → Ended
 ended_of e = record { number = e.number; call = e.call }
@@ -50,12 +51,20 @@ history_of v = record {
   lane = v.fixed.lane;
   done = calls_ended v;
   call = open_call v.number v.call;
-  adding = false;
+  within = None;
 }
 
 -- of a lane that made no call
 abbrev pub nothing_told : ℕ → LaneHistory
-nothing_told lane = record { lane = lane; done = []; call = []; adding = false }
+nothing_told lane = record { lane = lane; done = []; call = []; within = None }
+
+-- the operations of a history, the latest first
+abbrev pub operations_told : List Told → List Operation
+operations_told told = reverse (map (λ (t : Told). t.operation) told)
+
+abbrev pub operations_in : LaneHistory → List Operation
+operations_in h = cons_option h.within
+    (operations_told h.call ++ flat_map (λ (e : Ended). operations_told e.call) h.done)
 
 -- the last number
 abbrev pub last_ended : List Ended → ℕ
@@ -81,7 +90,7 @@ told_last n op reply h = record h {
 
 -- on the way of its last operation: it told that once it has a number
 abbrev pub told_by : Option ℕ → Operation → Option Value → LaneHistory → LaneHistory
-told_by None op reply h = record h { adding = is_adding op }
+told_by None op reply h = record h { within = Some op }
 told_by (Some n) op reply h = told_last n op reply h
 
 -- ---- HOW A CALL TURNS IT, by what the call returned, and by the lane's numbers then
@@ -128,9 +137,16 @@ abbrev pub unless : Option Refusal → LaneHistory → LaneHistory → LaneHisto
 unless (Some r) next h = h
 unless None next h = next
 
+-- the plan from this view is that of the operation
+pub record IsPlanOf (plan : Plan) (op : Operation) (v : View) : Type 0 where
+  pub by : Planned
+  pub operation : operation_of by ≡ Some op
+  pub same : plan v ≡ steps_of by v
+
 -- ---- THE LAWS: a plan of an operation that goes on, and of one that ends its call, whole and on the
 -- way
 pub record PlanTellsMore (plan : Plan) (op : Operation) (reply : View → Option Value) : Type 0 where
+  pub planned : (v : View) → IsPlanOf plan op v
   pub whole : (v : View) → v.number ≡ None
       → history_of (after_all v (plan v)) ≡ told_more op (reply v) (history_of v)
   pub on_the_way : (v : View) (k : ℕ) → v.number ≡ None

@@ -13,6 +13,7 @@ pub mod RangeLaws
 pub mod Writing
 pub mod Incrementing
 pub mod Adding
+pub mod Quiet
 pub mod Locking
 pub mod Between
 pub mod LockRefusals
@@ -27,6 +28,7 @@ pub mod Outside
 pub mod Publishing
 pub mod Entering
 pub mod Publications
+pub mod Planned
 pub mod Histories
 pub mod PublicationParts
 pub mod Standing

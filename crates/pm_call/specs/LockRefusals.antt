@@ -28,6 +28,7 @@ use Rattle.pm_call.specs.At.{At, IsAtWith}
 use Rattle.pm_call.specs.GivenUp.{GivesUp}
 use Rattle.pm_call.specs.Held.{is_in_locks}
 use Rattle.pm_call.specs.Locking.{IsLocking, to_take, to_write}
+use Rattle.pm_call.specs.Quiet.{WentQuietly}
 
 -- in their order: too many locks; an id without a place; a lock that is to be taken or raised was
 -- another lane's; under one that was taken no object was found
@@ -90,6 +91,7 @@ pub record TriedLocks (s : Standing) (wants : List Want) (all : List HeldLock) (
       (take rose_ (s.locks ++ take count (to_take s wants))) x
   pub lists : all ≡ raised (to_write s wants) (take rose_ (s.locks ++ take count (to_take s wants)))
       ++ drop rose_ (s.locks ++ take count (to_take s wants))
+  pub quiet : WentQuietly s.view x
 
 -- THE LANE IS AT WORK STILL with the list of locks that it had, and holds these: so its transaction
 -- may be given up. What it got besides is in no list of the model

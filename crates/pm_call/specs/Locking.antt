@@ -32,6 +32,7 @@ use Rattle.pm_lock.specs.Raising.{raised, raises}
 use Rattle.pm_lock.specs.Wants.{has_unplaced, wanted, wants_to_write}
 use Rattle.pm_call.specs.At.{At, IsDataOf, MaySet, MayTakeNumber, entries_so_far, set_entry}
 use Rattle.pm_call.specs.Held.{AreHeld, HoldsAll, KnowsOwn, is_in_locks}
+use Rattle.pm_call.specs.Quiet.{WentQuietly}
 use Rattle.pm_call.specs.Waiting.{HasPending, pending_now}
 use Rattle.pm_call.specs.Did.{IsUnrefused}
 use Rattle.pm_call.specs.Stages.{IsBetween}
@@ -64,6 +65,7 @@ pub record TakesLocks (s : Standing) (wants : List Want) (x : View) : Type 0 whe
   pub world : IsOfWorld (after_all taken looks) ⊎ (to_take s wants ≡ [])
   pub raises_ : x ≡ after_all (after_all taken looks)
       (raises (to_write s wants) (s.locks ++ to_take s wants))
+  pub quiet : WentQuietly s.view x
 
 -- THE LANE MAY LOCK: its call is open, and its lists are the model's, whatever the level
 pub record AgreesOn (s : Standing) (tx : Transaction) : Type 0 where

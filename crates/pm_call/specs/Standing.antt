@@ -1,5 +1,5 @@
 -- A LANE STANDS, as its fields say, with a history: what each call asks of its lane, and leaves.
-use Rattle.std.specs.Prelude.{◌≡◌, ◌⊎◌, ℕ, suc, true, false, Contains, [], Option, None, Result}
+use Rattle.std.specs.Prelude.{◌≡◌, ◌⊎◌, ℕ, suc, true, false, Contains, List, [], Option, None, Result}
 use Rattle.pm_objects.specs.declared.calls.Operation.{Operation}
 use Rattle.pm_objects.specs.declared.history.TxErr.{TxErr}
 use Rattle.pm_objects.specs.declared.history.TxErr.TheVariants as error
@@ -13,9 +13,10 @@ use Rattle.pm_crash.specs.Facts.{HaveFacts}
 use Rattle.pm_crash.specs.Fates.{EndsOpen}
 use Rattle.pm_call.specs.Between.{IsLaneBetween}
 use Rattle.pm_call.specs.Did.{IsAt, work_refusal}
-use Rattle.pm_call.specs.Histories.{LaneHistory, calls_ended, history_of, last_ended, turned, unless}
+use Rattle.pm_call.specs.Histories.{LaneHistory, calls_ended, history_of, last_ended, operations_in, turned, unless}
+use Rattle.pm_call.specs.Planned.{CameBy, CameUpTo, Planned, operations_of}
 use Rattle.pm_call.specs.Stages.{IsLanePast, end_refusal}
-use Rattle.pm_call.specs.Unwritten.{WritesNoRecord}
+use Rattle.pm_call.specs.Unwritten.{WritesNoRecord, is_adding_in}
 
 -- A STOP IS DUE: the lane made as many counted calls as its stop number says, or it found the stop
 -- word set as it waited for a lock
@@ -31,6 +32,19 @@ pub record IsLaneStopped {M : Type 0} (at : M → View → Type 0) (lane : Lane 
   pub facts : HaveFacts view
   pub due : lane.stopped ≡ true → IsStopDue view
 
+-- THE VIEW HAS THIS HISTORY: by what it told, and by the plans of its operations, by which it came
+pub record HasHistory (v : View) (h : LaneHistory) : Type 0 where
+  pub is : history_of v ≡ h
+  pub plans : List Planned
+  pub came : CameBy v plans
+  pub operations : operations_of plans ≡ operations_in h
+
+-- a lane stopped with it: perhaps in the latest of these plans
+pub record StoppedWith (v : View) (h : LaneHistory) : Type 0 where
+  pub plans : List Planned
+  pub came : CameUpTo v plans
+  pub operations : operations_of plans ≡ operations_in h
+
 -- past the work of a level the call is over, but where an inner level was committed
 abbrev pub IsOverFor : ℕ → TxErr → LaneHistory → Type 0
 IsOverFor (suc (suc n)) error.None h = Unit {0}
@@ -40,14 +54,14 @@ IsOverFor level e h = h.call ≡ []
 -- of a level, as its fields say; and this is what it told
 pub record StandsWith {M : Type 0} (at : M → View → Type 0) (lane : Lane M) (h : LaneHistory)
     : Type 0 where
-  pub work : work_refusal lane ≡ None → (w : IsAt at lane) × (history_of w.standing.view ≡ h)
+  pub work : work_refusal lane ≡ None → (w : IsAt at lane) × HasHistory w.standing.view h
   pub past : end_refusal lane ≡ None → (p : IsLanePast at lane)
-      × (history_of p.standing.view ≡ h) × IsOverFor p.standing.level p.error h
+      × HasHistory p.standing.view h × IsOverFor p.standing.level p.error h
   pub between : lane.stopped ≡ false → lane.level ≡ 0 → (b : IsLaneBetween at lane)
-      × (history_of b.standing.view ≡ h) × (h.call ≡ [])
+      × HasHistory b.standing.view h × (h.call ≡ [])
   pub stopped : lane.stopped ≡ true → (x : IsLaneStopped at lane)
       × (calls_ended x.view ≡ h.done) × (x.view.fixed.lane ≡ h.lane) × EndsOpen lane.drawn x.view
-      × (h.adding ≡ false → WritesNoRecord x.view)
+      × (is_adding_in h.within ≡ false → WritesNoRecord x.view) × StoppedWith x.view h
   -- the lane's field tells its last number
   pub last : lane.stopped ≡ false → lane.last ≡ last_ended h.done
 

@@ -1,13 +1,8 @@
 -- HOW MANY STORES OPERATIONS MAKE, by their plans, and that no flush and no drain is idle, as laws
 -- of data: docs/FORMAT.md, "How many counted calls". An OR and an AND of a word are stores too. A
 -- lane may stop anywhere, so a law is of the first k of some steps, for every k.
-use Rattle.std.specs.Prelude.{◌≡◌, ℕ, zero, suc, ◌+◌, ◌*◌, ◌≤◌, List, [], ◌∷◌, length, take, Option}
-use Rattle.pm_model.specs.Pending.{SetWord}
+use Rattle.std.specs.Prelude.{◌≡◌, ℕ, zero, suc, ◌+◌, ◌*◌, ◌≤◌, List, [], ◌∷◌, length, take}
 use Rattle.pm_model.specs.Transaction.{covered_words}
-use Rattle.pm_objects.specs.declared.calls.Operation.{Operation}
-use Rattle.pm_objects.specs.declared.history.Value.{Value}
-use Rattle.pm_objects.specs.declared.ids.Oid.{Oid}
-use Rattle.pm_record.specs.declared.redo.Redo.{Redo}
 use Rattle.pm_view.specs.Counts.{among, counted, is_drain, is_flush, is_store}
 use Rattle.pm_view.specs.Steps.{Step}
 use Rattle.pm_view.specs.View.{View}
@@ -19,8 +14,8 @@ use Rattle.pm_undo.specs.Records.{kept_by}
 use Rattle.pm_undo.specs.Spans.{plan_of, words_in}
 use Rattle.pm_undo.specs.Working.{IsWorking}
 use Rattle.pm_call.specs.Did.{IsOver}
-use Rattle.pm_call.specs.Plans.{adds, cancels, commits, ends_call, gets, gives_up, increments, puts, tells}
-use Rattle.pm_call.specs.Publications.{publishes}
+use Rattle.pm_call.specs.Planned.{Planned, entries_to_log, steps_of, words_to_set}
+use Rattle.pm_call.specs.Planned.Planned.{Adds, Commits, Increments, Publishes, RollsBack, Writes}
 
 abbrev pub stores_in : List Step → ℕ
 stores_in steps = among is_store steps
@@ -30,38 +25,6 @@ flushes_in steps = among is_flush steps
 
 abbrev pub drains_in : List Step → ℕ
 drains_in steps = among is_drain steps
-
--- ---- WHAT A LANE DOES, by its plan
-pub data Planned : Type 0 where
-  -- locks, looks and what else is no counted call: the end of a level, or of a lane's work
-  Uncounted : (steps : List Step) → counted steps ≡ 0 → Planned
-  -- told alone: a begin, a lock, a set-value, a publish in a transaction, an inner commit
-  Tells : Operation → Option Value → Planned
-  -- a range is recorded, written, read; a number is incremented; what is pending is cancelled
-  Adds : Oid → ℕ → ℕ → Planned
-  Writes : Oid → ℕ → List ℕ → Planned
-  Reads : Oid → ℕ → ℕ → Planned
-  Increments : Oid → ℕ → ℕ → Planned
-  Cancels : Planned
-  -- the outermost level is committed with these entries; or all is rolled back, for an operation
-  Commits : List Redo → (ℕ → ℕ) → ℕ → Planned
-  RollsBack : Operation → Option Value → ℕ → Planned
-  -- outside a transaction: a call that is told alone; a publish of these words
-  Lone : Operation → Option Value → ℕ → Planned
-  Publishes : List SetWord → (ℕ → ℕ) → ℕ → Planned
-
-abbrev pub steps_of : Planned → Plan
-steps_of (Uncounted steps none) v = steps
-steps_of (Tells op reply) v = tells op reply v
-steps_of (Adds id off len) v = adds id off len v
-steps_of (Writes id off bytes) v = puts id off bytes v
-steps_of (Reads id off len) v = gets id off len v
-steps_of (Increments id off by) v = increments id off by v
-steps_of Cancels v = cancels v
-steps_of (Commits entries found n) v = commits entries found n v
-steps_of (RollsBack op reply n) v = gives_up op reply n v
-steps_of (Lone op reply n) v = ends_call op reply n v
-steps_of (Publishes words found n) v = publishes words found n v
 
 -- ---- THE TABLE OF STORES
 
@@ -85,9 +48,9 @@ abbrev pub most_stores : Planned → View → ℕ
 most_stores (Adds id off len) v = 8 * length (plan_of (kept_by v) (id.off + off) len)
 most_stores (Writes id off bytes) v = length (covered_words (id.off + off) (length bytes))
 most_stores (Increments id off by) v = length (covered_words (id.off + off) 8)
-most_stores (Commits entries found n) v = commit_stores (length entries)
-most_stores (RollsBack op reply n) v = length (words_in (kept_by v)) + 1
-most_stores (Publishes words found n) v = publish_stores (length words)
+most_stores (Commits found n) v = commit_stores (length (entries_to_log v))
+most_stores (RollsBack op reply n given) v = length (words_in (kept_by v)) + 1
+most_stores (Publishes found n) v = publish_stores (length (words_to_set v))
 most_stores p v = 0
 
 -- no word of an entry is stored
