@@ -13,8 +13,8 @@ use Rattle.pm_world.specs.declared.lane.Lane.{Lane}
 use Rattle.pm_call.specs.Did.{work_refusal}
 use Rattle.pm_call.specs.Histories.{LaneHistory, calls_ended, no_value, told_last, told_more, turned, turned_alone, unless}
 use Rattle.pm_crash.specs.Fates.{EndsOpen}
-use Rattle.pm_call.specs.Unwritten.{WritesNoRecord}
-use Rattle.pm_call.specs.Standing.{IsLaneStopped, StandsWith, TurnsHistory}
+use Rattle.pm_call.specs.Unwritten.{WritesNoRecord, is_adding_in}
+use Rattle.pm_call.specs.Standing.{IsLaneStopped, StandsWith, StoppedWith, TurnsHistory}
 use Rattle.pm_action.specs.Actions.{Asked}
 use Rattle.pm_action.specs.Calls.{ByLevel}
 use Rattle.pm_action.specs.Inside.{Cancelled}
@@ -70,4 +70,5 @@ FinishedLanesHaveFacts {M} at = (result : Result (Unit {0}) Refusal) (old new : 
     (h : LaneHistory) → StandsWith at old h → (old.stopped ≡ false → old.level ≡ 0)
     → Finished at old new result
     → (x : IsLaneStopped at new) × (calls_ended x.view ≡ h.done) × (x.view.fixed.lane ≡ h.lane)
-    × EndsOpen old.drawn x.view × (h.adding ≡ false → WritesNoRecord x.view)
+    × EndsOpen old.drawn x.view × (is_adding_in h.within ≡ false → WritesNoRecord x.view)
+    × StoppedWith x.view h

@@ -17,7 +17,7 @@ use Rattle.pm_view.specs.Entries.{Entry}
 use Rattle.pm_view.specs.Log.{is_early}
 use Rattle.pm_view.specs.Places.{Block, Small, Big, Root, RootWord}
 use Rattle.pm_view.specs.Steps.{Step}
-use Rattle.pm_view.specs.Steps.Step.{Give, NumberSeen}
+use Rattle.pm_view.specs.Steps.Step.{Give, Load, NumberSeen}
 use Rattle.pm_view.specs.View.{View}
 use Rattle.pm_view.specs.Views.{after, after_all, value_in}
 use Rattle.pm_world.specs.InWorld.{SizesFit, block_bytes}
@@ -30,17 +30,20 @@ use Rattle.pm_crash.specs.Footprints.{has_found}
 use Rattle.pm_lock.specs.Holding.{MayGiveAll}
 use Rattle.pm_lock.specs.Locking.{GivenBack, lock_of}
 use Rattle.pm_lock.specs.RootLock.{KnowsRootWord, MayLockRoot, RootLocked, RootLockedAs, root_seen}
-use Rattle.pm_lock.specs.Steps.{gives, stops}
+use Rattle.pm_lock.specs.Steps.{gives, refusals, stops, waits}
 use Rattle.pm_lock.proofs.RootWords.{knows_root_word}
 use Rattle.pm_lock.proofs.Waiting.{once_more}
 use Rattle.pm_call.specs.Between.{MayOpen, opened_with, IsLaneBetween, saw_number}
 use Rattle.pm_call.specs.Held.{HoldsAll}
-use Rattle.pm_call.specs.Histories.{LaneHistory, history_of}
+use Rattle.pm_call.specs.Histories.{LaneHistory}
 use Rattle.pm_call.specs.Locking.{IsOpened}
 use Rattle.pm_call.specs.Opening.{CallOpened, OpenedAs, WasOpened}
 use Rattle.pm_call.specs.Stages.{IsBetween}
-use Rattle.pm_call.specs.Standing.{Stands, StandsWith}
+use Rattle.pm_call.specs.Standing.{HasHistory, Stands, StandsWith}
 use Rattle.pm_call.specs.Waiting.{uncalled}
+use Rattle.pm_call.specs.Quiet.{AreQuiet, WentQuietly}
+use Rattle.pm_call.proofs.HasHistories.{has_stopped}
+use Rattle.pm_call.proofs.Quiet.{quiet_by, quiet_one, quiet_then, stops_quiet}
 use Rattle.pm_call.proofs.OpenedCalls.{saw_open}
 use Rattle.pm_call.proofs.OpenedLanes.{rests_so}
 use Rattle.pm_call.proofs.SilentPlans.{IsAsTold, silent_steps}
@@ -48,7 +51,7 @@ use Rattle.pm_call.proofs.Standing.{idle_stands, same_stands, spent_stands, stan
 use Rattle.pm_call.proofs.Staying.{has_pending}
 use Rattle.pm_call.proofs.StoppedLanes.{stop_was_seen, stops_have}
 use Rattle.pm_call.proofs.StoppedNumbers.{ends_untold}
-use Rattle.pm_call.proofs.ToldLooks.{told_open, saw_history, stops_silent, told_history}
+use Rattle.pm_call.proofs.ToldLooks.{SaidNothing, nothing_history, saw_history, stops_silent, told_open}
 use Rattle.pm_call.proofs.UnwrittenRests.{all_unwritten, stopped}
 use Rattle.pm_root.specs.Root.{FieldsStay, FoundAs, FoundBy, KnowsRoot, RootFound, id_of, FoundOpenAs, looked}
 
@@ -405,25 +408,46 @@ module _ {M : Type 0} (at : M → View → Type 0) (old new : Lane M) where
         (f lane.standing lane.rests lane.between)
 
 -- the look tells nothing
+wait_quiet : (n : ℕ) → AreQuiet (waits n 0 false)
+unfolding waits refusals
+wait_quiet zero = (refl, tt)
+wait_quiet (suc n) = (refl, (refl, wait_quiet n))
+
+look_quiet : (v : View) (tries word : ℕ)
+    → WentQuietly v (after (root_seen v tries false word) (Give 0))
+look_quiet v tries word =
+    let u : View = after_all v (waits tries 0 false) in
+    let w : View = root_seen v tries false word in
+    quiet_then v w (after w (Give 0))
+    (quiet_then v u w (quiet_by v (waits tries 0 false) (wait_quiet tries))
+    (quiet_one u (Load (word_of_root v.fixed.shape) word) refl))
+    (quiet_one w (Give 0) refl)
+
 looked_told : (s : Standing) → IsOpened s → (tries word : ℕ)
-    → IsAsTold s.view (looked s tries word).view
+    → SaidNothing s.view (looked s tries word).view
 looked_told s is tries word =
     let knows = knows_root_word s.view false word (may_lock_root s is) tries in
-    subst (IsAsTold s.view) (sym (given_is s word (root_seen s.view tries false word) knows))
-    (record { call = refl; entries = refl; number = refl; fixed = refl })
+    record {
+      told = subst (IsAsTold s.view) (sym (given_is s word (root_seen s.view tries false word) knows))
+          (record { call = refl; entries = refl; number = refl; fixed = refl });
+      went = look_quiet s.view tries word;
+    }
 
 module _ {M : Type 0} (at : M → View → Type 0) (old new : Lane M) (h : LaneHistory) where
-  open_turns : (s : Standing) → IsOpened s → s.level ≡ 0 → history_of s.view ≡ h → h.call ≡ []
+  open_turns : (s : Standing) → IsOpened s → s.level ≡ 0 → HasHistory s.view h → h.call ≡ []
       → (result : Result Oid Refusal) → FoundOpenAs at new result s → StandsWith at new h
   open_turns s is outside same none (Ok id) f =
       let t : Standing = looked s f.2.tries f.0 in
       idle_stands at new h t outside f.2.rests f.2.may
-      (told_history s.view t.view h (looked_told s is f.2.tries f.0) same) none
+      (nothing_history s.view t.view h (looked_told s is f.2.tries f.0) same) none
   open_turns s is outside same none (Err refusal.Stopped) f =
       let w : View = after_all s.view (stops f.refused 0 false) in
       let told : IsAsTold s.view w =
       silent_steps s.view (stops f.refused 0 false) (stops_silent f.refused 0 false) in
-      let history = told_history s.view w h told same in
+      let history : HasHistory w h = nothing_history s.view w h (record {
+        told = told;
+        went = quiet_by s.view (stops f.refused 0 false) (stops_quiet f.refused 0 false);
+      }) same in
       stopped_stands at new h (ap (λ (x : Fields). x.stopped) f.fields)
       (record {
         view = w;
@@ -431,14 +455,15 @@ module _ {M : Type 0} (at : M → View → Type 0) (old new : Lane M) (h : LaneH
         facts = stops_have s.view f.refused 0 false is.facts;
         due = λ e. inr (stop_was_seen s.view f.refused 0 false);
       })
-      (ap (λ (x : LaneHistory). x.done) history) (ap (λ (x : LaneHistory). x.lane) history)
+      (ap (λ (x : LaneHistory). x.done) history.is) (ap (λ (x : LaneHistory). x.lane) history.is)
       (ends_untold new.drawn w (ap (λ (x : Fields). x.drawn) f.fields)
       (told_open s.view w told is.number.none))
       (λ _. all_unwritten s.view is.working (stops f.refused 0 false)
       (stopped s.view.fixed.shape s.view.fixed.lane f.refused 0 false))
+      (has_stopped w h history)
   open_turns s is outside same none (Err r) f = absurd f
 
-  found_turns : (s : Standing) → s.level ≡ 0 → MayOpen s → history_of s.view ≡ h → h.call ≡ []
+  found_turns : (s : Standing) → s.level ≡ 0 → MayOpen s → HasHistory s.view h → h.call ≡ []
       → (result : Result Oid Refusal) → FoundAs at new result s → StandsWith at new h
   found_turns s outside may same none (Err refusal.Spent) f =
       spent_stands at new h s outside may f same none

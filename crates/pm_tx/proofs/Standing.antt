@@ -1,30 +1,39 @@
 -- A LANE STANDS WITH ITS HISTORY TURNED after each call on a range, and each that commits, publishes
 -- or aborts, from what the call says that it did.
-use Rattle.std.proofs.Common.{◌≡◌, ◌≢◌, ℕ, zero, suc, ◌==◌, ◌≤◌, Bool, true, false, if◌then◌else◌, List, Option, Some, None, Result, Ok, Err, refl, sym, ap, ◌∙◌, subst, arith}
+use Rattle.std.proofs.Common.{◌≡◌, ◌≢◌, ℕ, zero, suc, ◌==◌, ◌≤◌, Bool, true, false, if◌then◌else◌, List, map, Option, Some, None, Result, Ok, Err, refl, sym, ap, ◌∙◌, subst, arith}
 use Rattle.pm_model.specs.Inside.{error_for}
 use Rattle.pm_model.specs.declared.stage.Stage.{Stage}
 use Rattle.pm_model.specs.declared.stage.Stage.TheVariants as stage
+use Rattle.pm_crash.specs.Sim.{lists_of}
+use Rattle.pm_objects.specs.declared.calls.Operation.{Operation}
 use Rattle.pm_objects.specs.declared.calls.Operation.TheVariants.{Abort, AddRange, Commit, Increment, Publish, Read, Write}
 use Rattle.pm_objects.specs.declared.history.TxErr.TheVariants as error
 use Rattle.pm_objects.specs.declared.history.Value.TheVariants.{Bytes, Number, Refused}
 use Rattle.pm_objects.specs.declared.ids.Oid.{Oid}
 use Rattle.pm_objects.specs.declared.refusal.Refusal.{Refusal}
 use Rattle.pm_objects.specs.declared.refusal.Refusal.TheVariants as refusal
+use Rattle.pm_plan.specs.Plans.{one}
+use Rattle.pm_view.specs.Steps.Step.{Tell}
 use Rattle.pm_view.specs.View.{View}
+use Rattle.pm_view.specs.Views.{after, after_all}
 use Rattle.pm_world.specs.LaneFields.{Fields, Standing, moved}
 use Rattle.pm_world.specs.declared.lane.Lane.{Lane}
 use Rattle.pm_call.specs.Adding.{HasCounted}
-use Rattle.pm_call.specs.At.{At}
+use Rattle.pm_call.specs.At.{At, set_entry}
 use Rattle.pm_call.specs.Did.{Did, next, work_refusal}
-use Rattle.pm_call.specs.Histories.{LaneHistory, history_of, no_value, told_more, turned, turned_commit, turned_last, unless}
+use Rattle.pm_call.specs.Histories.{LaneHistory, no_value, told_more, turned, turned_commit, turned_last, unless}
 use Rattle.pm_call.specs.Incrementing.{HasSum}
-use Rattle.pm_call.specs.Plans.{adds, commits_inner, gets, increments, known_sum, puts}
+use Rattle.pm_call.specs.Planned.{entries_to_log}
+use Rattle.pm_call.specs.Planned.Planned.{Tells}
+use Rattle.pm_call.specs.Plans.{adds, commits_inner, gets, increments, known_sum, puts, tells}
 use Rattle.pm_call.specs.Publishing.{words_entered}
 use Rattle.pm_call.specs.Reading.{HasRead}
 use Rattle.pm_call.specs.Stages.{end_refusal, next_stage}
-use Rattle.pm_call.specs.Standing.{Stands, StandsWith}
+use Rattle.pm_call.specs.Standing.{HasHistory, Stands, StandsWith}
+use Rattle.pm_call.proofs.HasHistories.{plan_tells}
 use Rattle.pm_call.proofs.Standing.{aborted_call_stands, committed_call_stands, cut_commit_stands, cut_rollback_stands, did_turns, over_inner, past_stands, refused_stands, same_stands, stands_turned, working_stands}
-use Rattle.pm_call.proofs.ToldLooks.{looks_told, told_history, told_open}
+use Rattle.pm_call.proofs.SilentPlans.{IsAsTold}
+use Rattle.pm_call.proofs.ToldLooks.{looks_told, nothing_history, told_open}
 use Rattle.pm_call.proofs.ToldPlans.{adds_tell, increments_tell, inner_commits_tell, reads_tell, tells_history, writes_tell}
 use Rattle.pm_tx.specs.Commits.{InnerEnds, LevelCommitted, LevelCommittedSo, LevelEnds, OutermostEnds, PassedSo, Processed, ProcessedFrom}
 use Rattle.pm_tx.specs.Outcome.{Aborted, AbortedAs, AbortedSo}
@@ -72,32 +81,43 @@ module _ {M : Type 0} (at : M → View → Type 0) (old new : Lane M) (h : LaneH
   -- ---- a commit
 
   inner_turns : (s : Standing) (result : Result (Unit {0}) Refusal) → At s → 2 ≤ s.level
-      → history_of s.view ≡ h → InnerEnds at new result s
+      → HasHistory s.view h → InnerEnds at new result s
       → StandsWith at new (turned new Commit no_value result h)
   inner_turns s (Ok done) is inner same ends =
       past_stands at new (told_more Commit None h) (next s commits_inner) stage.OnCommit error.None
-      ends.1 (inner_commits_tell.whole s.view is.number.none ∙ ap (told_more Commit None) same)
+      ends.1 (plan_tells (Tells Commit None refl) Commit None s.view (next s commits_inner).view h
+      refl refl same (inner_commits_tell.whole s.view is.number.none))
       (over_inner s.level (told_more Commit None h) inner)
   inner_turns s (Err r) is inner same ends = absurd ends
 
-  outermost_turns : (s : Standing) → s.level ≡ 1 → s.view.number ≡ None → history_of s.view ≡ h
+  -- looks leave what was published as it is
+  logs_same : (v w : View) → IsAsTold v w → entries_to_log v ≡ entries_to_log w
+  logs_same v w told = λ i. map set_entry (lists_of (record v {
+    call = (sym told.call) i;
+    entries = (sym told.entries) i;
+  })).sets
+
+  outermost_turns : (s : Standing) → s.level ≡ 1 → s.entries ≡ entries_to_log s.view
+      → s.view.number ≡ None → HasHistory s.view h
       → (result : Result (Unit {0}) Refusal) → OutermostEnds at new result s
       → StandsWith at new (turned_last new Commit result h)
-  outermost_turns s outermost none same (Ok done) ends =
-      committed_call_stands at new h s outermost none same ends
-  outermost_turns s outermost none same (Err refusal.Stopped) ends =
-      cut_commit_stands at new h s none same ends
-  outermost_turns s outermost none same (Err r) ends = absurd ends
+  outermost_turns s outermost sets none same (Ok done) ends =
+      committed_call_stands at new h s outermost sets none same ends
+  outermost_turns s outermost sets none same (Err refusal.Stopped) ends =
+      cut_commit_stands at new h s sets none same ends
+  outermost_turns s outermost sets none same (Err r) ends = absurd ends
 
   level_turns : (s : Standing) (result : Result (Unit {0}) Refusal) (n : ℕ) → s.level ≡ n → At s
-      → history_of s.view ≡ h → LevelEnds at new result n s
+      → HasHistory s.view h → LevelEnds at new result n s
       → StandsWith at new (turned_commit n new result h)
   level_turns s result zero is work same ends =
       absurd (let some = work.some in omega (arith, is, some))
   level_turns s result (suc zero) is work same ends =
       let looked = looks_told ends.looks s.view ends.view ends.looked in
-      outermost_turns (moved s ends.view) is (told_open s.view ends.view looked work.number.none)
-      (told_history s.view ends.view h looked same) result ends.holds
+      outermost_turns (moved s ends.view) is
+      (work.lists.sets ∙ logs_same s.view ends.view looked.told)
+      (told_open s.view ends.view looked.told work.number.none)
+      (nothing_history s.view ends.view h looked same) result ends.holds
   level_turns s result (suc (suc n)) is work same ends =
       inner_turns s result work (omega (arith, is)) same ends
 
@@ -146,14 +166,14 @@ module _ {M : Type 0} (at : M → View → Type 0) (old new : Lane M) (h : LaneH
     by true e = cc
     by false e = cc
 
-  abort_turns : (errnum : ℕ) (s : Standing) → At s → history_of s.view ≡ h
+  abort_turns : (errnum : ℕ) (s : Standing) → At s → HasHistory s.view h
       → (result : Result (Unit {0}) Refusal) → AbortedAs at new errnum result s
       → StandsWith at new (turned_last new (Abort errnum) result h)
   abort_turns errnum s is same (Ok done) a =
       aborted_call_stands at new h s (Abort errnum) None (error_for errnum) is.some is.most
-      (is_error errnum) is.number.none same a
+      (is_error errnum) refl is.number.none same a
   abort_turns errnum s is same (Err refusal.Stopped) a =
-      cut_rollback_stands at new h s (Abort errnum) None a.0 is.number.none same a.1
+      cut_rollback_stands at new h s (Abort errnum) None a.0 refl is.number.none same a.1
   abort_turns errnum s is same (Err r) a = absurd a
 
   pub aborted_turns : (errnum : ℕ) (result : Result (Unit {0}) Refusal) → StandsWith at old h
@@ -171,14 +191,19 @@ module _ {M : Type 0} (at : M → View → Type 0) (old new : Lane M) (h : LaneH
 
   -- ---- a publish
 
+  told_once : (v : View) (op : Operation) → after v (Tell op None) ≡ after_all v (tells op None v)
+  unfolding one after_all
+  told_once v op = refl
+
   publish_turns : (s : Standing) → 1 ≤ s.level → s.level ≤ 64 → s.view.number ≡ None
-      → history_of s.view ≡ h → (result : Result (Unit {0}) Refusal) → PublishedAs at new result s
+      → HasHistory s.view h → (result : Result (Unit {0}) Refusal) → PublishedAs at new result s
       → StandsWith at new (turned new Publish no_value result h)
   publish_turns s some most none same (Ok done) p =
       working_stands at new (told_more Publish None h) (words_entered s) p.works p.stands
-      (tells_history Publish None s.view none ∙ ap (told_more Publish None) same)
+      (plan_tells (Tells Publish None refl) Publish None s.view (words_entered s).view h refl
+      (told_once s.view Publish) same (tells_history Publish None s.view none))
   publish_turns s some most none same (Err refusal.Stopped) p =
-      cut_rollback_stands at new h s Publish (Some (Refused p.refusal)) p.number none same p.cut
+      cut_rollback_stands at new h s Publish (Some (Refused p.refusal)) p.number refl none same p.cut
   publish_turns s some most none same (Err r) p =
       refused_stands at new h s some most Publish r none same p
 
@@ -196,8 +221,8 @@ module _ {M : Type 0} (at : M → View → Type 0) (old new : Lane M) (h : LaneH
         let t = d s here.0.works here.0.stands in
         let looked = looks_told t.looks s.view t.view t.looked in
         publish_turns (moved s t.view) here.0.stands.some here.0.stands.most
-        (told_open s.view t.view looked here.0.stands.number.none)
-        (told_history s.view t.view h looked here.1) result t.holds
+        (told_open s.view t.view looked.told here.0.stands.number.none)
+        (nothing_history s.view t.view h looked here.1) result t.holds
 
 -- ---- SO IT STANDS, with whatever history
 
