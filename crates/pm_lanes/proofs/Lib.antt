@@ -5,6 +5,7 @@ mod Names
 mod Recovered
 mod Causes
 mod Stops
+mod CountedCalls
 mod Numbers
 mod Headers
 mod SoloOpened

@@ -1,7 +1,9 @@
 -- WHAT A POOL IS LEFT AS by lanes that ran, came back, and whose table closed, where power fails
 -- then: docs/MODEL.md, "Crash".
-use Rattle.std.specs.Prelude.{◌≡◌, ◌≢◌, ◌⊎◌, ℕ, suc, ◌+◌, ◌*◌, ◌<◌, ◌≤◌, All, Bool, true, Contains, List, []}
-use Rattle.std.specs.Prelude.{length, slice_index, slice_index_or, None, Option, Some}
+use Rattle.std.specs.Prelude.{◌≡◌, ◌≢◌, ◌⊎◌, ℕ, suc, ◌+◌, ◌*◌, ◌<◌, ◌≤◌, ◌==◌, ◌&&◌, All, Bool}
+use Rattle.std.specs.Prelude.{true, Contains, List, [], length, map, reverse, slice_index}
+use Rattle.std.specs.Prelude.{slice_index_or, None, Option, Some}
+use Rattle.std.specs.List.{filter}
 use mathlib.Core.Option.{some}
 use lib.ListN.{get_elem?}
 use Rattle.pm_crash.specs.Answers.{LeadsWithout}
@@ -25,14 +27,15 @@ use Rattle.pm_shared.specs.Closings.{Closes}
 use Rattle.pm_shared.specs.declared.rule.Beginning.{Beginning}
 use Rattle.pm_shared.specs.Openings.{opening_of}
 use Rattle.pm_view.specs.Changes.{IsFormed}
-use Rattle.pm_view.specs.Counts.{IsAtStop}
+use Rattle.pm_view.specs.Counts.{IsAtStop, is_counted}
+use Rattle.pm_view.specs.Steps.{Step}
 use Rattle.pm_view.specs.Steps.Step.{NumberSeen, StopSeen}
 use Rattle.pm_view.specs.declared.change.Change.{Change}
 use Rattle.pm_view.specs.Log.{is_early}
 use Rattle.pm_view.specs.View.{Numbered, View, entry_drawn}
 use Rattle.pm_world.specs.Causes.{BusyCause, drawn_by}
 use Rattle.pm_world.specs.Crash.{NoneTorn, Survives, is_kept}
-use Rattle.pm_world.specs.Runs.{Moment}
+use Rattle.pm_world.specs.Runs.{LaneStep, Moment}
 use Rattle.pm_world.specs.World.{Past, is_header, numbered_by}
 use Rattle.pm_lanes.specs.Opens.{IsOpened}
 
@@ -167,6 +170,19 @@ AnsweredCallsAreKept = (b : Beginning) (back : List View) (words image : List �
     → is_early v.log.phase ≡ true → (call : ℕ) → call < closed.last.past.length
     → (closed.last.past.drew call).fixed.lane ≡ v.fixed.lane
     → keeps_call b closed.last image call ≡ true
+
+-- ---- COUNTED CALLS
+
+-- the counted calls of lane k in a run, in their order
+abbrev pub calls_in_run : ℕ → List LaneStep → List Step
+calls_in_run k turns = map (λ (t : LaneStep). t.step)
+    (filter (λ (t : LaneStep). (t.lane == k) && is_counted t.step) turns)
+
+-- THEY ARE THOSE THAT THE LANE'S VIEW LISTS, where it came back
+abbrev pub CallsAreListed : Type 0
+CallsAreListed = (b : Beginning) (back : List View) (words : List ℕ) (n : ℕ) (v : View)
+    → (closed : Closes b back words) → get_elem? back n ≡ some v
+    → calls_in_run v.fixed.lane closed.run.turns ≡ reverse v.calls
 
 -- ---- CALLS THAT ENDED AS Busy
 

@@ -1,5 +1,6 @@
 ghost use Rattle.pm_lanes.specs.Closed.{AnsweredCallsAreKept, ClosedPoolsMeanTheirHistories};
-ghost use Rattle.pm_lanes.specs.Closed.{BusyCallsHaveCauses, ClosedPoolsHaveFacts, ClosedPoolsReplay};
+ghost use Rattle.pm_lanes.specs.Closed.{BusyCallsHaveCauses, CallsAreListed};
+ghost use Rattle.pm_lanes.specs.Closed.{ClosedPoolsHaveFacts, ClosedPoolsReplay};
 ghost use Rattle.pm_lanes.specs.Closed.{HeadersAreKept, KeptImagesSurvive, MissedCallsHaveCauses};
 ghost use Rattle.pm_lanes.specs.Closed.{EntriesAreBefore, EntriesAreCalls};
 ghost use Rattle.pm_lanes.specs.Closed.{OpenCallsAreJudged, OtherCallsAreKept};
@@ -52,6 +53,12 @@ pub fn headers_are_kept()
 pub fn numbers_are_shown()
     ensures drawn { SeenNumbersAreDrawn }
     ensures generation { GenerationsAreKept }
+{}
+
+/// A law: of a lane that came back to a table that closed, its counted calls in the run by which
+/// the table closed are those that its view lists, the latest first. No code runs.
+pub fn calls_are_listed()
+    ensures { CallsAreListed }
 {}
 
 /// A law: of a table that closed, whose lanes all came back, each with facts for its calls, a call

@@ -23,7 +23,7 @@ mod solo;
 
 pub use fault::OpenFault;
 pub use laws::{
-    busy_calls_have_causes, closed_pools_mean_their_histories, headers_are_kept,
+    busy_calls_have_causes, calls_are_listed, closed_pools_mean_their_histories, headers_are_kept,
     missed_calls_have_causes, numbers_are_shown, open_calls_are_judged, stops_are_reached,
 };
 pub use opening::open;
