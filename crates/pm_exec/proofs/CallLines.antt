@@ -43,8 +43,8 @@ pub nothing_open : {M : Type 0} (at : M → View → Type 0) (lane : Lane M) (h 
 nothing_open at lane h rests = (rests.0.between (ap (λ (p : Position). p.stopped) rests.1) (ap (λ (p : Position). p.level) rests.1)).2
 
 -- nor did it stop
-pub rests_plain : {M : Type 0} (at : M → View → Type 0) (lane : Lane M) (h : LaneHistory) → RestsWith at lane h → h.adding ≡ false
-rests_plain at lane h rests = sym (ap (λ (x : LaneHistory). x.adding) (rests.0.between (ap (λ (p : Position). p.stopped) rests.1) (ap (λ (p : Position). p.level) rests.1)).1)
+pub rests_plain : {M : Type 0} (at : M → View → Type 0) (lane : Lane M) (h : LaneHistory) → RestsWith at lane h → h.within ≡ None
+rests_plain at lane h rests = sym (ap (λ (x : LaneHistory). x.within) (rests.0.between (ap (λ (p : Position). p.stopped) rests.1) (ap (λ (p : Position). p.level) rests.1)).1.is)
 
 -- ---- LEVELS
 

@@ -8,6 +8,7 @@ use Rattle.std.specs.List.{AllZip}
 use Rattle.pm_model.specs.History.{is_answered}
 use Rattle.pm_model.specs.Inside.{Ran}
 use Rattle.pm_model.specs.Shown.{IsFate, is_single}
+use Rattle.pm_objects.specs.declared.calls.Operation.{Operation}
 use Rattle.pm_objects.specs.declared.history.Fate.{Fate}
 use Rattle.pm_objects.specs.declared.history.Fate.TheVariants as fate
 use Rattle.pm_objects.specs.declared.refusal.Refusal.{Refusal}
@@ -20,10 +21,11 @@ use Rattle.pm_world.specs.declared.lane.Lane.{Lane}
 use Rattle.pm_call.specs.Histories.{Ended, LaneHistory, nothing_told}
 use Rattle.pm_call.specs.Positions.{Position, position_of, resting}
 use Rattle.pm_call.specs.Standing.{StandsWith}
+use Rattle.pm_call.specs.Unwritten.{is_adding_in}
 use Rattle.pm_calls.specs.declared.names.Names.{Names}
 use Rattle.pm_action.specs.Outside.{Finished, FinishedSo}
 use Rattle.pm_action.specs.Standing.{FinishedLanesHaveFacts}
-use Rattle.pm_exec.specs.Answers.{AddsRange, IsAnswer, IsSpent, MayBeKeptOrLost, lines_of, rans_of}
+use Rattle.pm_exec.specs.Answers.{AddsRange, AreFirst, IsAnswer, IsSpent, MayBeKeptOrLost, lines_of, rans_of}
 use Rattle.pm_exec.specs.Running.{CallCame, CallsCame, Closed, RestsWith, with_ended}
 use Rattle.pm_exec.specs.declared.answer.Answer.{Answer}
 use Rattle.pm_exec.specs.declared.call_end.CallEnd.TheVariants as ends
@@ -34,7 +36,7 @@ pub record CallsMade {M : Type 0} (at : M → View → Type 0) (lane : Lane M) (
     (number : ℕ) (calls : List (List ScriptLine)) (answers : List Answer) : Type 0 where
   pub done : List Ended
   pub rests : RestsWith at lane
-      (record { lane = number; done = reverse done; call = []; adding = false })
+      (record { lane = number; done = reverse done; call = []; within = None })
   pub lines : map lines_of answers ≡ calls
   pub shown : AllZip (IsAnswer names number) answers done
   pub answered : All (λ (a : Answer). is_answered a.fate ≡ true) answers
@@ -86,7 +88,7 @@ some_is a b is = ap (λ (o : Option Answer). MatchOr o) is where
   MatchOr (Some x) = x
 
 abbrev between : ℕ → List Ended → LaneHistory
-between n done = record { lane = n; done = done; call = []; adding = false }
+between n done = record { lane = n; done = done; call = []; within = None }
 
 module _ {M : Type 0} (at : M → View → Type 0) (names : Names) where
   pub none_made : (lane : Lane M) (n : ℕ) (answers : List Answer) → answers ≡ []
@@ -127,21 +129,23 @@ module _ {M : Type 0} (at : M → View → Type 0) (names : Names) where
       let clash : true ≡ false = sym is ∙ ap (λ (p : Position). p.stopped) here in cc
 
   -- no answer is missing
-  all_told : (lane : Lane M) (n : ℕ) (calls lines more : List (List ScriptLine)) (answers : List Answer) (done : List Ended) (call : List Told) (adding : Bool) (e : LaneEnd)
-      → StandsWith at lane (record { lane = n; done = reverse done; call = call; adding = adding })
-      → (adding ≡ true → AddsRange names (get_or calls (length answers) []))
+  all_told : (lane : Lane M) (n : ℕ) (calls lines more : List (List ScriptLine)) (answers : List Answer) (done : List Ended) (call : List Told) (within : Option Operation) (e : LaneEnd)
+      → StandsWith at lane (record { lane = n; done = reverse done; call = call; within = within })
+      → (is_adding_in within ≡ true → AddsRange names (get_or calls (length answers) []))
+      → AreFirst names (get_or calls (length answers) []) call within
       → map lines_of answers ≡ lines → lines ++ more ≡ calls → AllZip (IsAnswer names n) answers done
       → All (λ (a : Answer). is_answered a.fate ≡ true) answers
       → (lane.stopped ≡ true → lane.drawn ≡ None) → (lane.stopped ≡ false → position_of lane ≡ resting)
       → (e ≡ end.Ended → more ≡ []) → (lane.stopped ≡ false → (k : ℕ) → e ≢ end.Stopped k)
-      → ((line : ℕ) → e ≡ end.Spent line → IsSpent at lane (record { lane = n; done = reverse done; call = call; adding = adding }))
+      → ((line : ℕ) → e ≡ end.Spent line → IsSpent at lane (record { lane = n; done = reverse done; call = call; within = within }))
       → CallsCame at lane names n calls answers None e
-  all_told lane n calls lines more answers done call adding e stands adds are parts shown answered stopped going whole unstopped spent = record {
+  all_told lane n calls lines more answers done call within e stands adds first are parts shown answered stopped going whole unstopped spent = record {
     done = done;
     call = call;
-    adding = adding;
+    within = within;
     stands = stands;
     adds = λ is. (refl, adds is);
+    first = subst (λ (xs : List Answer). AreFirst names (get_or calls (length xs) []) call within) (sym (append-nil answers)) first;
     of_calls = taken (answers ++ []) calls more
         (ap (λ (said : List Answer). map lines_of said ++ more) (append-nil answers) ∙ (ap (λ (l : List (List ScriptLine)). l ++ more) are ∙ parts));
     shown = subst (λ (said : List Answer). AllZip (IsAnswer names n) said done) (sym (append-nil answers)) shown;
@@ -163,7 +167,7 @@ module _ {M : Type 0} (at : M → View → Type 0) (names : Names) where
       → ((line : ℕ) → e ≡ end.Spent line → IsSpent at lane (between n (reverse made.done)))
       → CallsCame at lane names n calls answers None e
   rests_after lane n calls lines more answers e made parts whole unstopped spent =
-      all_told lane n calls lines more answers made.done [] false e made.rests.0 (λ is. absurd (both_ways false refl is)) made.lines parts made.shown made.answered
+      all_told lane n calls lines more answers made.done [] None e made.rests.0 (λ is. absurd (both_ways false refl is)) refl made.lines parts made.shown made.answered
       (λ is. absurd (stopped_not lane made.rests.1 is)) (λ g. made.rests.1) whole (λ g. unstopped) spent
 
   module _ (old new : Lane M) (line : List ScriptLine) (n : ℕ) (calls lines more : List (List ScriptLine)) (answers : List Answer)
@@ -184,7 +188,8 @@ module _ {M : Type 0} (at : M → View → Type 0) (names : Names) where
     stopped_after None k came parts =
         let c = came _ made.rests in
         all_told new n calls lines (line ∷ more) answers made.done c.0 c.1 (end.Stopped k) c.2
-        (λ is. subst (AddsRange names) (sym (next_is answers lines line more made.lines calls parts)) (c.5 is)) made.lines parts made.shown made.answered
+        (λ is. subst (AddsRange names) (sym (next_is answers lines line more made.lines calls parts)) (c.5 is))
+        (subst (λ (ls : List ScriptLine). AreFirst names ls c.0 c.1) (sym (next_is answers lines line more made.lines calls parts)) c.6) made.lines parts made.shown made.answered
         (λ is. c.4) (λ g. absurd (let clash : true ≡ false = sym c.3 ∙ g in cc))
         (λ is. absurd (let clash : end.Stopped k ≡ end.Ended = is in cc))
         (λ g. absurd (let clash : true ≡ false = sym c.3 ∙ g in cc))
@@ -195,9 +200,10 @@ module _ {M : Type 0} (at : M → View → Type 0) (names : Names) where
         record {
           done = made.done ++ c.0 ∷ [];
           call = [];
-          adding = false;
+          within = None;
           stands = subst (λ (h : LaneHistory). StandsWith at new h) (pushed n made.done c.0) c.1;
           adds = λ is. absurd (both_ways false refl is);
+          first = refl;
           of_calls = taken (answers ++ a ∷ []) calls more
               (ap (λ (l : List (List ScriptLine)). l ++ more) is_lines ∙ (append_assoc lines (line ∷ []) more ∙ parts));
           shown = zip_push (IsAnswer names n) answers made.done a c.0 made.shown c.5;
@@ -248,6 +254,7 @@ module _ {M : Type 0} (at : M → View → Type 0) (old new : Lane M) (result : 
           stopped = λ is. stopped is x.0.view x.0.seen;
           due = λ is. x.0.due (ap (λ (lane : Lane M). lane.stopped) (same_lane is) ∙ is);
           unwritten = x.4;
+          plans = x.5;
         }
     by false g =
         let b = stands.between g (level g) in
@@ -260,4 +267,5 @@ module _ {M : Type 0} (at : M → View → Type 0) (old new : Lane M) (result : 
           stopped = λ s. absurd (both_ways old.stopped g s);
           due = λ s. absurd (both_ways old.stopped g s);
           unwritten = λ is. c.unwritten;
+          plans = c.plans;
         }

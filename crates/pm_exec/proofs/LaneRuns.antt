@@ -14,12 +14,12 @@ use Rattle.pm_world.specs.declared.lane.Lane.{Lane}
 use Rattle.pm_crash.specs.Fates.{EndsOpen}
 use Rattle.pm_call.specs.Histories.{Ended, LaneHistory, calls_ended, nothing_told}
 use Rattle.pm_call.specs.Positions.{Position, position_of, resting}
-use Rattle.pm_call.specs.Standing.{IsLaneStopped, IsStopDue, StandsWith}
+use Rattle.pm_call.specs.Standing.{IsLaneStopped, IsStopDue, StandsWith, StoppedWith}
 use Rattle.pm_calls.specs.LaneRooms.{lines_to_run}
 use Rattle.pm_calls.specs.declared.names.Names.{Names}
 use Rattle.pm_calls.specs.declared.room.CallRoom.{CallRoom}
-use Rattle.pm_call.specs.Unwritten.{WritesNoRecord}
-use Rattle.pm_exec.specs.Answers.{AddsRange, IsAnswer, IsSpent, IsSpentView, lines_of}
+use Rattle.pm_call.specs.Unwritten.{WritesNoRecord, is_adding_in}
+use Rattle.pm_exec.specs.Answers.{AddsRange, AreFirst, IsAnswer, IsSpent, IsSpentView, lines_of}
 use Rattle.pm_exec.specs.Running.{CallsCame, Closed, RestsWith, SpentClosed}
 use Rattle.pm_exec.specs.Works.{AddedNext, DidCalls, WorkLeft, all_answers, lines_left}
 use Rattle.pm_exec.specs.declared.answer.Answer.{Answer}
@@ -38,7 +38,7 @@ module _ {G M : Type 0} (at : M → View → Type 0) (before after : LaneWork G)
     (calls : Vec CallRoom Global) (has : before.calls ≡ Some calls) (e : LaneEnd)
     (same : (after.number ≡ before.number) × (after.names ≡ before.names))
     (came : CallsCame at ran before.names n (map lines_to_run calls.items) after.answers.items after.unanswered e)
-    (ends : Closed at ran closed (record { lane = n; done = reverse came.done; call = came.call; adding = came.adding }) e after.end)
+    (ends : Closed at ran closed (record { lane = n; done = reverse came.done; call = came.call; within = came.within }) e after.end)
     (spent : (line : ℕ) → after.end ≡ end.Spent line → IsSpentView ends.stops.view) where
   left_are : map lines_to_run calls.items ≡ lines_left before
   left_are = ap (λ (c : Option (Vec CallRoom Global)). option_map_or (λ (room : Vec CallRoom Global). map lines_to_run room.items) c []) (sym has)
@@ -49,7 +49,7 @@ module _ {G M : Type 0} (at : M → View → Type 0) (before after : LaneWork G)
   drawn_is : (b : Bool) → ran.stopped ≡ b → ran.drawn ≡ number_of
   drawn_is true s = came.stopped s
   drawn_is false g =
-      rests_undrawn at ran (record { lane = n; done = reverse came.done; call = came.call; adding = came.adding }) (came.stands, (came.going g).0)
+      rests_undrawn at ran (record { lane = n; done = reverse came.done; call = came.call; within = came.within }) (came.stands, (came.going g).0)
       ∙ ap (λ (o : Option Answer). option_map (λ (a : Answer). a.number) o) (sym (came.going g).1)
 
   whole_when : (b : Bool) → ran.stopped ≡ b → after.end ≡ end.Ended → length after.answers.items ≡ length (map lines_to_run calls.items)
@@ -68,7 +68,7 @@ module _ {G M : Type 0} (at : M → View → Type 0) (before after : LaneWork G)
   due_when true s k is = ends.due s
   due_when false g k is = absurd (came.unstopped g k (sym (ends.going g) ∙ is))
 
-  added_when : (b : Bool) → ran.stopped ≡ b → came.adding ≡ true → AddedNext before after
+  added_when : (b : Bool) → ran.stopped ≡ b → is_adding_in came.within ≡ true → AddedNext before after
   added_when true s is = record {
     calls = length ends.stops.view.calls % 2 ^ 64;
     stopped = ends.stopped s;
@@ -76,11 +76,11 @@ module _ {G M : Type 0} (at : M → View → Type 0) (before after : LaneWork G)
     adds = subst (λ (l : List (List ScriptLine)). AddsRange before.names
         (slice_index_or l (length after.answers.items) [])) left_are (came.adds is).1;
   }
-  added_when false g is = absurd (both_ways came.adding (rests_plain at ran
-      (record { lane = n; done = reverse came.done; call = came.call; adding = came.adding })
-      (came.stands, (came.going g).0)) is)
+  added_when false g is = absurd (both_ways (is_adding_in came.within) (ap is_adding_in (rests_plain at ran
+      (record { lane = n; done = reverse came.done; call = came.call; within = came.within })
+      (came.stands, (came.going g).0))) is)
 
-  unwritten_by : (b : Bool) → came.adding ≡ b
+  unwritten_by : (b : Bool) → is_adding_in came.within ≡ b
       → WritesNoRecord ends.stops.view ⊎ AddedNext before after
   unwritten_by true is = inr (added_when ran.stopped refl is)
   unwritten_by false is = inl (ends.unwritten is)
@@ -100,7 +100,19 @@ module _ {G M : Type 0} (at : M → View → Type 0) (before after : LaneWork G)
     counted = counted_when ran.stopped refl;
     due = due_when ran.stopped refl;
     spent = spent;
-    unwritten = unwritten_by came.adding refl;
+    unwritten = unwritten_by (is_adding_in came.within) refl;
+    planned = record {
+      call = came.call;
+      within = came.within;
+      first = subst (λ (l : List (List ScriptLine)). AreFirst before.names
+          (slice_index_or l (length (all_answers after)) []) came.call came.within) left_are came.first;
+      plans = subst (StoppedWith ends.stops.view) (λ i. record {
+        lane = (sym ends.lane) i;
+        done = (sym ends.done) i;
+        call = came.call;
+        within = came.within;
+      }) ends.plans;
+    };
   }
 
 module _ {G M : Type 0} (at : M → View → Type 0) (before self : LaneWork G) (lane closed : Lane M) (n : ℕ) (result : LaneEnd)
@@ -139,6 +151,7 @@ module _ {G M : Type 0} (at : M → View → Type 0) (before self : LaneWork G) 
           stopped = λ s. absurd (not s);
           due = λ s. absurd (not s);
           unwritten = λ g. z.0.unwritten;
+          plans = z.0.plans;
         },
         λ other so. z.0.spent,
       )
@@ -159,7 +172,7 @@ module _ {G M : Type 0} (at : M → View → Type 0) (before self : LaneWork G) 
       let here = subst (λ (l : Lane M). CallsCame at l before.names n (map lines_to_run calls.items) answers.items unanswered e) (sym lane_is) came in
       let came_so = subst (λ (w : LaneWork G). CallsCame at lane before.names n (map lines_to_run calls.items) w.answers.items w.unanswered w.end) (sym self_is) here in
       let ends = closed_so
-      (record { lane = n; done = reverse came_so.done; call = came_so.call; adding = came_so.adding }) self.end refl
+      (record { lane = n; done = reverse came_so.done; call = came_so.call; within = came_so.within }) self.end refl
       came_so.stands (λ g. (came_so.going g).0) came_so.spent in (
         ends.0.stops,
         ends.0.lane,
@@ -182,7 +195,7 @@ pub came_closes : {M : Type 0} (at : M → View → Type 0) (lane ran : Lane M) 
     → (h : LaneHistory) × StandsWith at lane h × (lane.stopped ≡ false → position_of lane ≡ resting)
 came_closes {M} at lane ran names n calls answers unanswered e is came =
     let here = subst (λ (l : Lane M). CallsCame at l names n calls answers unanswered e) (sym is) came in
-    (record { lane = n; done = reverse here.done; call = here.call; adding = here.adding }, here.stands, λ g. (here.going g).0)
+    (record { lane = n; done = reverse here.done; call = here.call; within = here.within }, here.stands, λ g. (here.going g).0)
 
 pub rests_closes : {M : Type 0} (at : M → View → Type 0) (lane ran : Lane M) (n : ℕ) → lane ≡ ran
     → RestsWith at ran (nothing_told n)

@@ -20,3 +20,4 @@ pub mod Shown
 pub mod Spent
 pub mod Stopped
 pub mod Stopping
+mod Turns

@@ -1,7 +1,7 @@
 -- A CALL THAT WAS REFUSED AS NoObject has its cause among the entries: what the lanes' run tells of it,
 -- by what the entries show.
-use Rattle.std.proofs.Common.{◌≡◌, ◌≢◌, ◌⊎◌, ⊎_elim, ℕ, zero, suc, ◌+◌, ◌<◌, ◌≤◌, ◌==◌, Bool, true, false, cond, Contains, List, [], ◌∷◌, length, map, get_or, take, Some, inl, inr, refl, sym, ap, ◌∙◌, subst, arith}
-use Rattle.std.specs.List.{AllZip, filter}
+use Rattle.std.proofs.Common.{◌≡◌, ◌⊎◌, ⊎_elim, ℕ, zero, suc, ◌+◌, ◌<◌, ◌≤◌, ◌==◌, Bool, true, false, cond, Contains, List, [], ◌∷◌, length, map, get_or, take, Some, inl, inr, refl, sym, ap, ◌∙◌, subst, arith}
+use Rattle.std.specs.List.{AllZip}
 use Rattle.std.proofs.lemmas.Bool.{both_ways, eq-eqb, eqb-true}
 use Rattle.pm_objects.specs.declared.calls.Operation.{Operation}
 use Rattle.pm_objects.specs.declared.calls.Operation.TheVariants as operation
@@ -17,7 +17,7 @@ use Rattle.pm_model.specs.Transaction.{is_gone}
 use Rattle.pm_script.specs.declared.script.ScriptLine.{ScriptLine}
 use Rattle.pm_script.specs.declared.script.ScriptOp.{ScriptOp}
 use Rattle.pm_script.specs.declared.script.ScriptOp.TheVariants as op
-use Rattle.pm_view.specs.View.{Numbered, Told, entry_drawn}
+use Rattle.pm_view.specs.View.{Told, entry_drawn}
 use Rattle.pm_world.specs.Causes.{drawn_by}
 use Rattle.pm_world.specs.Runs.{Moment}
 use Rattle.pm_world.specs.World.{Past, numbered_by}
@@ -31,7 +31,7 @@ use Rattle.pm_lanes.specs.Closed.{HasMissCause, LackedObject, keeps_call}
 use Rattle.pm_shared.specs.declared.rule.Beginning.{Beginning}
 use Rattle.pm_exec.specs.Missing.{HasMissed, IsNamed, ids_of}
 use Rattle.pm_exec.specs.Reports.{entries_of_lane}
-use Rattle.pm_exec.proofs.NoFrees.{AllPlain, ArePlain, FreesNone, Plain, are_plain, lists_none, named_so, not_gone}
+use Rattle.pm_exec.proofs.NoFrees.{AllPlain, FreesNone, Plain, are_plain, lists_none, named_so, not_gone}
 use Rattle.pm_exec.proofs.Reported.{last_has}
 use Rattle.pm_exec.proofs.Rising.{Has, all_has, filter_has, has_at, in_map, map_has, place_of}
 use Rattle.std.proofs.Common.{All}

@@ -1,20 +1,18 @@
 -- WORDS THAT LANES RUN FREE NO OBJECT: so of what a call's lane has pending nothing is to be freed, and
 -- each word of it was asked for by an operation of the lane.
-use Rattle.std.proofs.Common.{◌≡◌, ◌⊎◌, ℕ, ◌-◌, nat_le, ◌==◌, ◌||◌, Bool, true, false, not, if◌then◌else◌, List, [], ◌∷◌, ◌++◌, map, Option, Some, None, inl, inr, refl, sym, ap, ◌∙◌, subst}
+use Rattle.std.proofs.Common.{◌≡◌, ◌⊎◌, ℕ, ◌-◌, nat_le, ◌==◌, ◌||◌, Bool, true, false, not, if◌then◌else◌, List, [], ◌∷◌, ◌++◌, map, Option, Some, None, inl, inr, refl, ap, ◌∙◌, subst}
 use Rattle.std.specs.List.{filter, list_any}
-use Rattle.pm_model.specs.Inside.{after_reply, error_for, is_action, performed, refused}
+use Rattle.pm_model.specs.Inside.{after_reply, is_action, performed}
 use Rattle.pm_model.specs.Items.{all_edited, is_among}
 use Rattle.pm_model.specs.Pending.{Pending, SetWord, set_edits, with_set}
 use Rattle.pm_model.specs.declared.stage.Stage.TheVariants as stage
 use Rattle.pm_model.specs.Transaction.{Transaction, aborted, committed, idle, is_gone, is_new, is_none}
 use Rattle.pm_objects.specs.declared.calls.Operation.{Operation}
 use Rattle.pm_objects.specs.declared.calls.Operation.TheVariants as operation
-use Rattle.pm_objects.specs.declared.calls.Want.{Want}
 use Rattle.pm_objects.specs.declared.history.TxErr.{TxErr}
 use Rattle.pm_objects.specs.declared.history.Value.{Value}
 use Rattle.pm_objects.specs.declared.history.Value.TheVariants.{Refused}
 use Rattle.pm_objects.specs.declared.ids.Oid.{Oid}
-use Rattle.pm_objects.specs.declared.refusal.Refusal.{Refusal}
 use Rattle.pm_view.specs.View.{Numbered, Told, View}
 use Rattle.pm_crash.specs.Calls.{pending_after, pending_of, pending_with}
 use Rattle.pm_crash.specs.Missed.{before_last, ids_named, lists_before}

@@ -1,5 +1,6 @@
 -- A CALL OF A LANE, by what its lines came to: the answer shows it, and the lane stands with it.
-use Rattle.std.proofs.Common.{◌≡◌, ◌≢◌, ◌⊎◌, inl, inr, ℕ, zero, suc, ◌≤◌, ◌<◌, ◌==◌, if◌then◌else◌, Bool, true, false, Contains, List, [], ◌∷◌, ◌++◌, length, map, Option, Some, None, option_map, Err, Vec, refl, sym, ap, ◌∙◌, subst, arith}
+use Rattle.std.proofs.lemmas.List.{length-map, map-append}
+use Rattle.std.proofs.Common.{◌≡◌, ◌≢◌, ◌⊎◌, inl, inr, ℕ, zero, suc, ◌≤◌, ◌<◌, ◌==◌, if◌then◌else◌, Bool, true, false, Contains, List, [], ◌∷◌, ◌++◌, length, map, take, ◌+◌, Option, Some, None, option_map, Err, Vec, refl, sym, ap, ap₂, ◌∙◌, subst, arith}
 use Rattle.std.proofs.lemmas.Bool.{both_ways}
 use Rattle.std.specs.Borrow.{Bor}
 use Rattle.std.specs.Global.{Global}
@@ -25,14 +26,14 @@ use Rattle.pm_call.specs.Positions.{Position, aborted_at, position_of}
 use Rattle.pm_call.specs.Standing.{StandsWith}
 use Rattle.pm_calls.specs.Calls.{IsWhole, call_of, line_of, line_operation, numbers_of}
 use Rattle.pm_calls.specs.declared.names.Names.{Names}
-use Rattle.pm_exec.specs.Answers.{EndedAs, refused_as, EndsSo, GivesUpSo, IsSpent, MayHaveFate, rans_of, run_of}
+use Rattle.pm_exec.specs.Answers.{AreFirst, EndedAs, refused_as, EndsSo, GivesUpSo, IsSpent, MayHaveFate, rans_of, run_of}
 use Rattle.pm_exec.specs.Lines.{Awaits}
 use Rattle.pm_exec.specs.Running.{CallCame, LinesRan, OpensWith, RestsWith, RootCame, lost_call, with_ended}
 use Rattle.pm_exec.specs.Shown.{GoesOn, fate_of}
 use Rattle.pm_exec.specs.declared.call_end.CallEnd.TheVariants as call_ends
 use Rattle.pm_exec.specs.declared.line_end.LineEnd.{LineEnd}
 use Rattle.pm_exec.specs.declared.line_end.LineEnd.TheVariants as ends
-use Rattle.pm_call.specs.Unwritten.{is_adding}
+use Rattle.pm_call.specs.Unwritten.{is_adding_in}
 use Rattle.pm_exec.proofs.Rising.{has_right, place_of}
 use Rattle.pm_exec.proofs.CallLines.{none_left, nothing_open}
 use Rattle.pm_exec.proofs.Shown.{aborted_fate, aborted_shown, begin_is_inside, commit_is_plain, committed_fates, committed_shown, opened_not_single, single_fate, single_kept_or_lost, single_shown, so_aborts}
@@ -160,6 +161,26 @@ ended_over : (before : List Told) (asked : Operation) (why : Option Refusal) (r 
 ended_over before asked None r refused = absurd (none_so None r refl refused)
 ended_over before asked (Some s) r refused = ended_as before asked (Some (Refused s)) r (ap (λ x. Some (Refused x)) (same_refusal s r refused))
 
+-- ---- THE FIRST LINES of a call: those that went on, and that in which its lane stopped
+
+first_taken : {X : Type 0} (xs ys : List X) (x : X) → xs ++ x ∷ [] ≡ take (length xs + 1) (xs ++ x ∷ ys)
+first_taken [] ys x = refl
+first_taken {X} (y ∷ xs) ys x =
+    let more : suc (length xs + 1) ≡ suc (length xs) + 1 = omega arith in
+    ap (λ (zs : List X). y ∷ zs) (first_taken xs ys x)
+    ∙ ap (λ n. take n (y ∷ xs ++ x ∷ ys)) more
+
+first_lines : (names : Names) (front : List ScriptLine) (said : ScriptLine) (passed : List ScriptLine) (told : List Told)
+    → map (λ (t : Told). t.operation) told ≡ map (line_operation names) front
+    → AreFirst names (front ++ said ∷ passed) told (Some (line_operation names said))
+first_lines names front said passed told same =
+    let op : Operation = line_operation names said in
+    let count : length (map (line_operation names) front) ≡ length told =
+    ap (λ (ops : List Operation). length ops) (sym same) ∙ length-map told (λ (t : Told). t.operation) in
+    ap (λ (ops : List Operation). ops ++ op ∷ []) same
+    ∙ first_taken (map (line_operation names) front) (map (line_operation names) passed) op
+    ∙ ap₂ (λ (n : ℕ) (ops : List Operation). take (n + 1) ops) count (sym (map-append (line_operation names) front (said ∷ passed)))
+
 -- ---- THE LANE
 
 module _ {M : Type 0} (at : M → View → Type 0) (h : LaneHistory) where
@@ -173,11 +194,19 @@ module _ {M : Type 0} (at : M → View → Type 0) (h : LaneHistory) where
   stopped_so lane r came not = came
 
   pub root_stopped : (lane : Lane M) (names : Names) (lines : List ScriptLine) (r : Refusal)
-      → h.adding ≡ false → RootCame at lane h (Err r) → (r ≡ refusal.Spent → ⊥)
+      → h.within ≡ None → h.call ≡ [] → RootCame at lane h (Err r) → (r ≡ refusal.Spent → ⊥)
       → CallCame at lane names h lines (call_ends.Stopped None)
-  root_stopped lane names lines r plain came not =
-      let s = stopped_so lane r came not in
-      (h.call, h.adding, s.0, s.1, s.2, λ e. absurd (both_ways h.adding plain e))
+  root_stopped lane names lines r plain empty came not =
+      let s = stopped_so lane r came not in (
+        h.call,
+        h.within,
+        s.0,
+        s.1,
+        s.2,
+        λ e. absurd (both_ways (is_adding_in h.within) (ap is_adding_in plain) e),
+        subst (λ (call : List Told). AreFirst names lines call h.within) (sym empty)
+            (subst (λ (w : Option Operation). AreFirst names lines [] w) (sym plain) refl),
+      )
 
   -- what its lines came to, by what they are
   pub ran_so : (names : Names) (lines : Vec (Bor ScriptLine) Global)
@@ -252,11 +281,13 @@ module _ {M : Type 0} (at : M → View → Type 0) (h : LaneHistory) where
         let came = ran.came in
         let p = place_of (ran.front ++ ran.said ∷ ran.passed) ran.said (has_right ran.front (ran.said ∷ ran.passed) ran.said (inl refl)) in (
           ran.told,
-          is_adding (line_operation names ran.said),
+          Some (line_operation names ran.said),
           subst (λ n. StandsWith at lane (told_by n (line_operation names ran.said) None (record h { call = ran.told }))) is came.0,
           came.1,
           is,
           λ e. record { line = ran.said; among = subst (λ (ls : List ScriptLine). Contains ls ran.said) (sym ran.are) (p.at, p.low, p.is _); adds = e },
+          subst (λ (ls : List ScriptLine). AreFirst names ls ran.told (Some (line_operation names ran.said))) (sym ran.are)
+              (first_lines names ran.front ran.said ran.passed ran.told ran.goes.operations),
         )
     stopped_by lane line ran (Some n) is =
         let came = ran.came in

@@ -13,10 +13,11 @@ use Rattle.pm_world.specs.LaneFields.{Fields, Rests, Standing}
 use Rattle.pm_world.specs.declared.lane.Lane.{Lane}
 use Rattle.pm_call.specs.Between.{MayOpen, saw_number}
 use Rattle.pm_call.specs.Did.{work_refusal}
-use Rattle.pm_call.specs.Histories.{LaneHistory, calls_ended, history_of}
+use Rattle.pm_call.specs.Histories.{LaneHistory, calls_ended}
 use Rattle.pm_call.specs.Opening.{NoneIsLeft, OutermostBegun}
 use Rattle.pm_call.specs.Positions.{Position, position_of, resting}
-use Rattle.pm_call.specs.Standing.{IsLaneStopped, StandsWith}
+use Rattle.pm_call.specs.Standing.{HasHistory, IsLaneStopped, StandsWith, StoppedWith}
+use Rattle.pm_call.proofs.HasHistories.{has_stopped}
 use Rattle.pm_call.proofs.OpenedCalls.{look_may_open}
 use Rattle.pm_call.proofs.StoppedLanes.{may_open_facts}
 use Rattle.pm_call.proofs.StoppedNumbers.{may_open_ends}
@@ -128,10 +129,11 @@ pub record RestClosed {M : Type 0} (at : M → View → Type 0) (old new : Lane 
   pub lane : stops.view.fixed.lane ≡ h.lane
   pub ends : EndsOpen old.drawn stops.view
   pub unwritten : WritesNoRecord stops.view
+  pub plans : StoppedWith stops.view h
 
 pub rest_closed : {M : Type 0} (at : M → View → Type 0) (old new : Lane M)
     (result : Result (Unit {0}) Refusal) → Finished at old new result → old.stopped ≡ false
-    → (h : LaneHistory) (s : Standing) → Rests at old s → MayOpen s → history_of s.view ≡ h
+    → (h : LaneHistory) (s : Standing) → Rests at old s → MayOpen s → HasHistory s.view h
     → RestClosed at old new h s.view
 unfolding Finished
 rest_closed at old new result did going h s rests between same =
@@ -146,11 +148,12 @@ rest_closed at old new result did going h s rests between same =
             absurd (both_ways new.stopped (ap (λ (f : Fields). f.stopped) seen.fields) e);
       };
       is = refl;
-      done = ap (λ (x : LaneHistory). x.done) same;
-      lane = ap (λ (x : LaneHistory). x.lane) same;
+      done = ap (λ (x : LaneHistory). x.done) same.is;
+      lane = ap (λ (x : LaneHistory). x.lane) same.is;
       ends = subst (λ d. EndsOpen d s.view) (sym (ap (λ (f : Fields). f.drawn) rests.fields))
           (may_open_ends s between);
       unwritten = may_open_unwritten s between;
+      plans = has_stopped s.view h same;
     }
 
 pub spent_closed : {M : Type 0} (at : M → View → Type 0) (old new : Lane M)
@@ -166,4 +169,5 @@ spent_closed at old new result did h is =
       spent = subst IsSpentView (sym c.is)
           (record { none = is.none; early = may_open_early is.standing is.between });
       unwritten = c.unwritten;
+      plans = c.plans;
     }

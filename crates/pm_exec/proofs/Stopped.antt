@@ -4,7 +4,7 @@ use Rattle.std.proofs.Common.{◌≡◌, ◌≢◌, ⊎_elim, inl, inr, ℕ, ◌
 use Rattle.std.proofs.Common.{length, arith, sym, ap, ◌∙◌, subst}
 use Rattle.std.proofs.lemmas.Bool.{cases_eq}
 use Rattle.pm_lanes.specs.Closed.{AllAreBack, CameToStop, HeadersAreKept, IsBack}
-use Rattle.pm_lanes.specs.Closed.{BusyCallsHaveCauses, EntriesAreBefore, GenerationsAreKept, MaySurvive, MissedCallsHaveCauses, SeenNumbersAreDrawn}
+use Rattle.pm_lanes.specs.Closed.{BusyCallsHaveCauses, CallsAreListed, EntriesAreBefore, GenerationsAreKept, MaySurvive, MissedCallsHaveCauses, SeenNumbersAreDrawn}
 use Rattle.pm_lanes.specs.Closed.{SeenStopsAreReached, StopsAreReached}
 use Rattle.pm_shared.specs.Closings.{Closes}
 use Rattle.pm_shared.specs.declared.rule.Beginning.{Beginning}
@@ -25,6 +25,7 @@ pub record LaneLaws : Type 0 where
   pub busy : BusyCallsHaveCauses
   pub missed : MissedCallsHaveCauses
   pub before : EntriesAreBefore
+  pub listed : CallsAreListed
 
 module _ (laws : LaneLaws) (b : Beginning) (back : List View) (words : List ℕ)
     (closed : Closes b back words) (all : AllAreBack b.lanes back) (k : ℕ) (low : k < b.lanes)

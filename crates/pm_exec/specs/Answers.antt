@@ -1,5 +1,5 @@
 -- WHAT A CALL OF A LANE ANSWERED, beside what the lane told in it.
-use Rattle.std.specs.Prelude.{◌≡◌, ◌⊎◌, ℕ, suc, ◌≤◌, true, false, Contains, List, map, option_map, Option, Some, None}
+use Rattle.std.specs.Prelude.{◌≡◌, ◌⊎◌, ℕ, suc, ◌+◌, ◌≤◌, true, false, Contains, List, ◌++◌, length, map, take, option_map, option_to_list, Option, Some, None}
 use Rattle.std.specs.Option.{ForSome}
 use Rattle.pm_objects.specs.declared.calls.Operation.{Operation}
 use Rattle.pm_objects.specs.declared.calls.Operation.TheVariants.{Abort, Commit}
@@ -27,9 +27,9 @@ use Rattle.pm_world.specs.LaneFields.{Rests, Standing}
 use Rattle.pm_crash.specs.Facts.{last_of}
 use Rattle.pm_call.specs.Between.{MayOpen}
 use Rattle.pm_call.specs.Did.{unseen}
-use Rattle.pm_call.specs.Histories.{Ended, LaneHistory, history_of, told_by, told_last, told_more}
+use Rattle.pm_call.specs.Histories.{Ended, LaneHistory, told_by, told_last, told_more}
 use Rattle.pm_call.specs.Positions.{aborted_at, position_of, resting, working}
-use Rattle.pm_call.specs.Standing.{StandsWith}
+use Rattle.pm_call.specs.Standing.{HasHistory, StandsWith}
 use Rattle.pm_world.specs.declared.lane.Lane.{Lane}
 use Rattle.pm_call.specs.Unwritten.{is_adding}
 use Rattle.pm_calls.specs.Calls.{call_of, line_of, line_operation}
@@ -119,7 +119,7 @@ pub record IsSpent {M : Type 0} (at : M → View → Type 0) (lane : Lane M) (h 
   pub standing : Standing
   pub rests : Rests at lane standing
   pub between : MayOpen standing
-  pub same : history_of standing.view ≡ h
+  pub same : HasHistory standing.view h
   pub none : HasNoNumber standing.view
 
 -- ---- A LINE, and what it came to
@@ -129,6 +129,13 @@ pub record AddsRange (names : Names) (lines : List ScriptLine) : Type 0 where
   pub line : ScriptLine
   pub among : Contains lines line
   pub adds : is_adding (line_operation names line) ≡ true
+
+-- THE OPERATIONS OF AN OPEN CALL, and that in which its lane stopped, are those of the first of these
+-- lines
+abbrev pub AreFirst : Names → List ScriptLine → List Told → Option Operation → Type 0
+AreFirst names lines call within =
+    map (λ (t : Told). t.operation) call ++ option_to_list within
+    ≡ take (length call + length (option_to_list within)) (map (line_operation names) lines)
 
 -- the operation with its reply aborts nothing
 abbrev pub GoesOnSo : Operation → Option Value → Type 0

@@ -9,4 +9,5 @@ pub mod Reports
 pub mod Running
 pub mod Runs
 pub mod Shown
+pub mod Turns
 pub mod Works

@@ -1,8 +1,9 @@
 -- HOW FAR A LANE CAME with a call's lines, with a call, and with its calls.
-use Rattle.std.specs.Prelude.{◌≡◌, ◌≢◌, ℕ, ◌^◌, ◌%◌, ◌≤◌, Bool, true, false, All, List, [], ◌∷◌, ◌++◌, length, map, option_map, option_to_list, reverse, slice_index_or, take, Option, None, Some, Result, Ok, Err, Vec}
+use Rattle.std.specs.Prelude.{◌≡◌, ◌≢◌, ℕ, ◌^◌, ◌%◌, ◌≤◌, true, false, All, List, [], ◌∷◌, ◌++◌, length, map, option_map, option_to_list, reverse, slice_index_or, take, Option, None, Some, Result, Ok, Err, Vec}
 use Rattle.std.specs.Borrow.{Bor}
 use Rattle.std.specs.Global.{Global}
 use Rattle.std.specs.List.{AllZip}
+use Rattle.pm_objects.specs.declared.calls.Operation.{Operation}
 use Rattle.pm_objects.specs.declared.history.Fate.TheVariants as fate
 use Rattle.pm_objects.specs.declared.history.Value.{Value}
 use Rattle.pm_model.specs.History.{is_answered}
@@ -17,9 +18,9 @@ use Rattle.pm_world.specs.declared.lane.Lane.{Lane}
 use Rattle.pm_crash.specs.Fates.{EndsOpen}
 use Rattle.pm_call.specs.Histories.{Ended, LaneHistory, calls_ended}
 use Rattle.pm_call.specs.Positions.{position_of, resting}
-use Rattle.pm_call.specs.Standing.{IsLaneStopped, IsStopDue, StandsWith}
-use Rattle.pm_call.specs.Unwritten.{WritesNoRecord}
-use Rattle.pm_exec.specs.Answers.{AddsRange, IsAnswer, IsSpent, IsSpentView, LineCame, MayBeKeptOrLost, lines_of}
+use Rattle.pm_call.specs.Standing.{IsLaneStopped, IsStopDue, StandsWith, StoppedWith}
+use Rattle.pm_call.specs.Unwritten.{WritesNoRecord, is_adding_in}
+use Rattle.pm_exec.specs.Answers.{AddsRange, AreFirst, IsAnswer, IsSpent, IsSpentView, LineCame, MayBeKeptOrLost, lines_of}
 use Rattle.pm_calls.specs.Calls.{IsWholeFrom, line_operation}
 use Rattle.pm_exec.specs.Lines.{at_level}
 use Rattle.pm_exec.specs.Shown.{GoesOn}
@@ -115,9 +116,10 @@ CallCame at lane names h lines (ends.Answered a) =
     (d : Ended) × RestsWith at lane (with_ended d h)
     × (lines_of a ≡ lines) × IsAnswer names h.lane a d × (is_answered a.fate ≡ true)
 CallCame at lane names h lines (ends.Stopped None) =
-    (told : List Told) × (adding : Bool)
-    × StandsWith at lane (record h { call = told; adding = adding }) × (lane.stopped ≡ true)
-    × (lane.drawn ≡ None) × (adding ≡ true → AddsRange names lines)
+    (told : List Told) × (within : Option Operation)
+    × StandsWith at lane (record h { call = told; within = within }) × (lane.stopped ≡ true)
+    × (lane.drawn ≡ None) × (is_adding_in within ≡ true → AddsRange names lines)
+    × AreFirst names lines told within
 CallCame at lane names h lines (ends.Stopped (Some a)) =
     (d : Ended) × StandsWith at lane (with_ended d h) × (lane.stopped ≡ true)
     × (lane.drawn ≡ Some a.number)
@@ -131,15 +133,17 @@ CallCame at lane names h lines (ends.Spent line) = IsSpent at lane h
 pub record CallsCame {M : Type 0} (at : M → View → Type 0) (lane : Lane M) (names : Names)
     (number : ℕ) (calls : List (List ScriptLine)) (answers : List Answer)
     (unanswered : Option Answer) (e : LaneEnd) : Type 0 where
-  -- what it told, the first call first, and in a call without a number, in which it may have stopped
-  -- as it added a range
+  -- what it told, the first call first, and in a call without a number; and the operation of this in
+  -- which it stopped, if it did
   pub done : List Ended
   pub call : List Told
-  pub adding : Bool
+  pub within : Option Operation
   pub stands : StandsWith at lane
-      (record { lane = number; done = reverse done; call = call; adding = adding })
-  pub adds : adding ≡ true
+      (record { lane = number; done = reverse done; call = call; within = within })
+  pub adds : is_adding_in within ≡ true
       → (unanswered ≡ None) × AddsRange names (slice_index_or calls (length answers) [])
+  pub first : AreFirst names
+      (slice_index_or calls (length (answers ++ option_to_list unanswered)) []) call within
   pub of_calls : map lines_of (answers ++ option_to_list unanswered) ≡ take (length (answers ++ option_to_list unanswered)) calls
   pub shown : AllZip (IsAnswer names number) (answers ++ option_to_list unanswered) done
   pub answered : All (λ (a : Answer). is_answered a.fate ≡ true) answers
@@ -154,7 +158,7 @@ pub record CallsCame {M : Type 0} (at : M → View → Type 0) (lane : Lane M) (
   -- and where it says that it was spent it was
   pub spent : (line : ℕ) → e ≡ end.Spent line
       → IsSpent at lane
-      (record { lane = number; done = reverse done; call = call; adding = adding })
+      (record { lane = number; done = reverse done; call = call; within = within })
 
 -- ---- THE END OF A LANE'S CALLS
 
@@ -168,7 +172,8 @@ pub record Closed {M : Type 0} (at : M → View → Type 0) (old new : Lane M) (
   pub going : old.stopped ≡ false → e ≡ before
   pub stopped : old.stopped ≡ true → e ≡ end.Stopped (length stops.view.calls % 2 ^ 64)
   pub due : old.stopped ≡ true → IsStopDue stops.view
-  pub unwritten : h.adding ≡ false → WritesNoRecord stops.view
+  pub unwritten : is_adding_in h.within ≡ false → WritesNoRecord stops.view
+  pub plans : StoppedWith stops.view h
 
 -- a lane that was spent, with this history, makes no call any more, and has no number still
 pub record SpentClosed {M : Type 0} (at : M → View → Type 0) (old new : Lane M) (h : LaneHistory)
@@ -179,3 +184,4 @@ pub record SpentClosed {M : Type 0} (at : M → View → Type 0) (old new : Lane
   pub ends : EndsOpen old.drawn stops.view
   pub spent : IsSpentView stops.view
   pub unwritten : WritesNoRecord stops.view
+  pub plans : StoppedWith stops.view h

@@ -1,6 +1,6 @@
 -- WHAT A SCRIPT LEAVES that lanes ran on the pool of an image, each in a thread of its own, where power
 -- fails at the end: docs/MODEL.md, "Crash".
-use Rattle.std.specs.Prelude.{◌≡◌, ◌≢◌, ◌⊎◌, ℕ, ◌%◌, ◌^◌, ◌<◌, ◌≤◌, true, false, Contains, List, [], length, map, slice_index, slice_index_or, None, Option}
+use Rattle.std.specs.Prelude.{◌≡◌, ◌≢◌, ◌⊎◌, ℕ, ◌%◌, ◌^◌, ◌<◌, ◌≤◌, true, false, Contains, List, [], length, map, reverse, slice_index, slice_index_or, None, Option}
 use Rattle.std.specs.List.{AllZip}
 use Rattle.std.specs.Option.{option_map_or}
 use Rattle.pm_calls.specs.Calls.{calls_of_lane, null_id}
@@ -10,10 +10,13 @@ use Rattle.pm_image.specs.Blocks.{blocks}
 use Rattle.pm_image.specs.Logs.{generation_word, recovered_at}
 use Rattle.pm_image.specs.Means.{IsMeaning}
 use Rattle.pm_image.specs.Steps.{valid_record}
-use Rattle.pm_lanes.specs.Closed.{AllAreBack, BackWith, CameToStop, HasBusyCause, IsBack, MaySurvive}
+use Rattle.pm_call.specs.Histories.{Ended, LaneHistory}
+use Rattle.pm_call.specs.Standing.{StoppedWith}
+use Rattle.pm_lanes.specs.Closed.{AllAreBack, BackWith, CameToStop, HasBusyCause, IsBack, MaySurvive, calls_in_run}
 use Rattle.pm_lanes.specs.Opens.{IsOpened}
 use Rattle.pm_memory.specs.Keep.{IsKeptImage}
 use Rattle.pm_model.specs.History.{IsHistory, ReplaysEntries, is_answered, without_lost}
+use Rattle.pm_model.specs.Shown.{IsShown}
 use Rattle.pm_objects.specs.Pool.{IsPool}
 use Rattle.pm_objects.specs.declared.calls.Operation.{Operation}
 use Rattle.pm_objects.specs.declared.history.Entry.{Entry}
@@ -31,11 +34,12 @@ use Rattle.pm_view.specs.View.{View}
 use Rattle.pm_view.specs.declared.change.Change.{Change}
 use Rattle.pm_world.specs.Causes.{drawn_by}
 use Rattle.pm_world.specs.Crash.{IsBeingWritten, IsWhole}
-use Rattle.pm_world.specs.Runs.{Moment}
+use Rattle.pm_world.specs.Runs.{LaneStep, Moment}
 use Rattle.pm_world.specs.World.{is_header}
-use Rattle.pm_exec.specs.Answers.{AddsRange}
+use Rattle.pm_exec.specs.Answers.{AddsRange, AreFirst, run_of}
 use Rattle.pm_exec.specs.Missing.{MissesHaveCauses}
 use Rattle.pm_exec.specs.Reports.{IsLaneHistory, entries_of_lane}
+use Rattle.pm_exec.specs.Turns.{TookTurns}
 use Rattle.pm_script.specs.declared.script.ScriptLine.{ScriptLine}
 use Rattle.pm_exec.specs.declared.outcome.Outcome.{Outcome}
 
@@ -120,6 +124,24 @@ pub record IsBusyCall (b : Beginning) (last : Moment) (call : ℕ) (e : Entry) :
   pub among : Contains e.call.operations operation
   pub cause : HasBusyCause b last call operation
 
+-- an entry shows this call of its lane, with its number
+pub record ShowsCall (lane : ℕ) (e : Entry) (d : Ended) : Type 0 where
+  pub number : e.number ≡ d.number
+  pub shown : IsShown e.call e.reply (run_of lane d.call)
+
+-- A LANE'S MEMORY CALLS ARE THE PLANS OF ITS LINES, up to its stop: its counted calls in the run are
+-- those that its view lists; and the view came by the plans of the operations of its entries, one
+-- call after another, and of the first lines of its next call
+pub record CallsArePlanned (names : Names) (script : List ScriptLine) (entries : List Entry)
+    (turns : List LaneStep) (lane : ℕ) (v : View) : Type 0 where
+  pub calls : calls_in_run lane turns ≡ reverse v.calls
+  pub history : LaneHistory
+  pub shown : AllZip (ShowsCall lane) (entries_of_lane lane entries) (reverse history.done)
+  pub first : AreFirst names
+      (slice_index_or (calls_of_lane lane script) (length (entries_of_lane lane entries)) [])
+      history.call history.within
+  pub plans : StoppedWith v history
+
 -- NO NUMBER IS LEFT for a call of the lane: its generation in the image is the greatest, or as many
 -- calls have numbers as there are
 abbrev pub NoNumberIsLeft : List ℕ → ℕ → List Entry → Type 0
@@ -136,8 +158,8 @@ pub record RanOnLanes (image layout : List ℕ) (script : Script) (stops : List 
   pub stops_are : begin_.stops ≡ stops
   pub back : List View
   pub words : List ℕ
-  -- in lawful steps of the lanes, in whatever order they interleaved, from the words that were opened
-  pub closed : Closes begin_ back words
+  -- in steps of the lanes, in whatever order they interleaved, from the words that were opened
+  pub took : TookTurns begin_ back words
   pub all : AllAreBack script.lanes back
   pub undrained : List (List Change)
   pub back_with : BackWith back undrained
@@ -152,10 +174,15 @@ pub record RanOnLanes (image layout : List ℕ) (script : Script) (stops : List 
   -- a lane that stopped had made so many counted calls, and its stop was due
   pub stopped : (lane calls : ℕ) → lane < script.lanes → slice_index_or out.lanes.items lane end.Ended ≡ end.Stopped calls
       → HasStopped begin_ back lane calls
+  -- the memory calls of each lane are the plans of its lines, up to its stop
+  pub planned : (lane : ℕ) → lane < script.lanes
+      → (last : IsBack back lane)
+      × CallsArePlanned (names_of opened.pool) script.lines out.entries.items took.turns lane
+      last.view
   -- each call that was aborted as Busy has its cause
   pub busy : (call : ℕ) (d : Entry) → call < length out.entries.items
       → (slice_index_or out.entries.items call d).fate ≡ fate.Aborted (error.Refused Busy)
-      → IsBusyCall begin_ closed.last call (slice_index_or out.entries.items call d)
+      → IsBusyCall begin_ took.last call (slice_index_or out.entries.items call d)
   -- and so has each that was refused as NoObject
   pub missing : MissesHaveCauses opened.pool out.entries.items
   -- and a lane that was spent has no number left
@@ -165,12 +192,19 @@ pub record RanOnLanes (image layout : List ℕ) (script : Script) (stops : List 
   -- what it means, with no premise; and what the image means, unless a record is torn that a stopped
   -- lane was writing
   pub replayed : Replayed opened.pool out.entries.items
-  pub stands : AddedTearNone closed.last (names_of opened.pool) script.lines out.entries.items
+  pub stands : AddedTearNone took.last (names_of opened.pool) script.lines out.entries.items
       out.lanes.items out.image.items → StandsFor opened.pool out.entries.items out.image.items
   -- the header's page is as it was, but for the root word
   pub header : (w : ℕ) → is_header begin_.shape w ≡ true
       → slice_index out.image.items w ≡ slice_index image w
   -- the image is one that may survive the power failure, and the same holds of each of those
-  pub survives : MaySurvive begin_ closed.last out.image.items
-  pub each_choice : (other : List ℕ) → MaySurvive begin_ closed.last other
-      → SurvivesAs closed.last script.lines out.lanes.items opened.pool out.entries.items other
+  pub survives : MaySurvive begin_ took.last out.image.items
+  pub each_choice : (other : List ℕ) → MaySurvive begin_ took.last other
+      → SurvivesAs took.last script.lines out.lanes.items opened.pool out.entries.items other
+
+-- AND EACH STEP WAS LAWFUL, so that each moment of the run was one of a world
+pub record RanLawfully (image layout : List ℕ) (script : Script) (stops : List (Option ℕ)) (keep : ℕ)
+    (out : Outcome) : Type 0 where
+  pub ran : RanOnLanes image layout script stops keep out
+  pub closed : Closes ran.begin_ ran.back ran.words
+  pub same : (closed.last ≡ ran.took.last) × (closed.run.turns ≡ ran.took.turns)

@@ -13,7 +13,7 @@ ghost use Rattle.pm_calls.specs.declared.names.Names.{Names};
 ghost use Rattle.pm_root.specs.Root.{id_of};
 ghost use Rattle.pm_exec.specs.Reported.{HaveReported};
 ghost use Rattle.pm_exec.specs.Reports.{AreWorksFor, AreWorksOf, HasCalls};
-ghost use Rattle.pm_exec.specs.Runs.{RanOnLanes};
+ghost use Rattle.pm_exec.specs.Runs.{RanLawfully, RanOnLanes};
 ghost use Rattle.pm_exec.specs.Works.{CanRunWork};
 
 use crate::failure::PowerFailure;
@@ -22,8 +22,9 @@ use crate::reporting::{ends_of, entries_of};
 use crate::work::LaneWork;
 use pm_calls::{LaneRoom, Names, a_lanes_calls_are_whole, lane_rooms};
 use pm_lanes::{
-    OpenFault, busy_calls_have_causes, closed_pools_mean_their_histories, headers_are_kept,
-    missed_calls_have_causes, numbers_are_shown, open, open_calls_are_judged, stops_are_reached,
+    OpenFault, busy_calls_have_causes, calls_are_listed, closed_pools_mean_their_histories,
+    headers_are_kept, missed_calls_have_causes, numbers_are_shown, open, open_calls_are_judged,
+    stops_are_reached,
 };
 use pm_layout::ROOT_WORD;
 use pm_objects::Oid;
@@ -109,6 +110,7 @@ fn run_works<'s, R: Threads + Wait + Sync, G: Gate + Sync>(
 /// own. The image is recovered first; each lane makes counted calls up to its stop number, if it
 /// has one; and of what is then undrained so much survives as the keep number says. The same holds of
 /// every other choice of what survives, with the fates that it gives to the calls that were not answered.
+/// Each step of a lane was lawful.
 /// The room for all replies is taken before any lane runs.
 ///
 /// # Errors
@@ -133,6 +135,7 @@ pub fn exec<'a, R: Threads + Wait + Sync, G: Gate + Sync>(
     requires words { All RunsOnLanes script.now.lines }
     requires lanes { (1 ≤ script.now.lanes) × (script.now.lanes ≤ 32) }
     ensures ran { IfOk result (RanOnLanes image layout.now script.now failure.stops failure.keep) }
+    ensures lawful { IfOk result (RanLawfully image layout.now script.now failure.stops failure.keep) }
     ensures cause { IfErr result (IsOpenCause image layout.now script.now.lanes) }
 {
     let PowerFailure { stops, keep } = failure;
@@ -154,6 +157,7 @@ pub fn exec<'a, R: Threads + Wait + Sync, G: Gate + Sync>(
     numbers_are_shown();
     busy_calls_have_causes();
     missed_calls_have_causes();
+    calls_are_listed();
     match run_works(rt, alloc, beginning, works, keep) {
         Ok(outcome) => Ok(outcome),
         Err(_) => Err(OpenFault::Memory),

@@ -3,7 +3,7 @@ use Rattle.pm_calls.specs.LaneRooms.{lines_to_run}
 use Rattle.pm_exec.specs.Running.{CallCame}
 use Rattle.pm_exec.specs.declared.call_end.CallEnd.TheVariants as call_ends
 use Rattle.pm_exec.specs.declared.line_end.LineEnd.TheVariants as ends
-use Rattle.pm_exec.proofs.CallLines.{rests_plain}
+use Rattle.pm_exec.proofs.CallLines.{nothing_open, rests_plain}
 use Rattle.pm_exec.proofs.RanCalls.{awaits_ends, given_up_came, line_at, over_came, ran_so}
 use Rattle.pm_exec.proofs.RanCalls.{root_spent, root_stopped, spent_came, stopped_came}
 use Rattle.pm_exec.proofs.running.run_call.Goals.{in-Spent, in_default-why}
@@ -23,7 +23,7 @@ returns-in-Err g c h rests =
       | in-Spent w ↦ subst (CallCame at lane c.args.names h lines) (sym w.result-is)
           (root_spent at h lane why came w.in-Spent.is)
       | in_default-why w ↦ subst (CallCame at lane c.args.names h lines) (sym w.result-is)
-          (root_stopped at h lane c.args.names lines why (rests_plain at _ h rests) came w.in_default-why.not-Spent)
+          (root_stopped at h lane c.args.names lines why (rests_plain at _ h rests) (nothing_open at _ h rests) came w.in_default-why.not-Spent)
     ]
 
 pub run_lines-line-requires-clause-rests : goal.run_lines-line-requires-clause-rests
