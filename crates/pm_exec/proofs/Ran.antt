@@ -3,6 +3,7 @@
 -- survive, with the fates that it gives to the calls that were not answered.
 use Rattle.std.proofs.Common.{◌≡◌, ⊎_elim, ℕ, ◌+◌, ◌<◌, ◌≤◌, ◌==◌, if◌then◌else◌, Bool, true, false, All, Contains, List, [], ◌∷◌, ◌++◌, length, map, get_or, reverse, take, option_to_list, Option, Some, None, refl, sym, ap, ◌∙◌, subst, arith}
 use Rattle.std.specs.List.{AllZip}
+use Rattle.std.specs.Option.{ForSome}
 use Rattle.std.specs.Prelude.{slice_index_or}
 use Rattle.std.proofs.lemmas.List.{append-nil, get_or-map, get_or_default, length-map}
 use Rattle.std.proofs.lemmas.List.Elements.{All-cons, All-nil, All-tail}
@@ -22,7 +23,7 @@ use Rattle.pm_script.specs.declared.script.ScriptLine.{ScriptLine}
 use Rattle.pm_shared.specs.declared.rule.Beginning.{Beginning}
 use Rattle.pm_text.specs.declared.report.LaneEnd.{LaneEnd}
 use Rattle.pm_text.specs.declared.report.LaneEnd.TheVariants as end
-use Rattle.pm_view.specs.View.{Numbered, View}
+use Rattle.pm_view.specs.View.{Constants, Numbered, View}
 use Rattle.pm_world.specs.World.{Past}
 use Rattle.pm_call.specs.Histories.{Ended, calls_ended, ended_of}
 use Rattle.pm_crash.specs.Fates.{is_judged_kept}
@@ -46,7 +47,7 @@ use Rattle.pm_exec.proofs.Reports.{LaneLeft, all_answered, as_many, entries_with
 use Rattle.pm_exec.proofs.Entries.{all_in, in_all}
 use Rattle.pm_exec.proofs.Stopped.{LaneLaws, has_stopped, none_left}
 use Rattle.pm_exec.proofs.Rising.{Has, all_has, has_all, has_at, place_of}
-use Rattle.pm_exec.proofs.Turns.{took_turns}
+use Rattle.pm_exec.proofs.Turns.{closed_fixed, took_turns}
 use Rattle.pm_exec.proofs.Missed.{Shown, entry_plain, has_missed}
 
 abbrev IsSomeLine : List ScriptLine → Type 0
@@ -322,7 +323,7 @@ module _ {G : Type 0} {names : Names} (laws : PoolLaws) (b : Beginning) (keep_nu
 
       -- its memory calls are the plans of its lines
       pub lane_planned : CallsAreListed → (k : ℕ) (low : k < b.lanes)
-          → CallsArePlanned names script entries ran.closed.run.turns k (ran.each k w low).view
+          → CallsArePlanned names script entries (slice_index_or b.stops k None) ran.closed.run.turns k (ran.each k w low).view
       lane_planned listed k low =
           let lane = ran.each k w low in
           let did : DidCalls (get_or before k w) (work_of k) lane.view = dids k low in
@@ -333,6 +334,11 @@ module _ {G : Type 0} {names : Names} (laws : PoolLaws) (b : Beginning) (keep_nu
           record {
             calls = subst (λ n. calls_in_run n ran.closed.run.turns ≡ reverse lane.view.calls) lane.lane_is
                 (listed b ran.back ran.words k lane.view ran.closed lane.there);
+            within = subst (λ (v : View). ForSome (slice_index_or b.stops k None) (λ most. length v.calls ≤ most))
+                (ap ran.closed.last.views (sym lane.lane_is) ∙ (ran.closed.lanes k lane.view lane.there).1)
+                (subst (λ (stop : Option ℕ). ForSome stop (λ most. length (ran.closed.last.views k).calls ≤ most))
+                (ap (λ (c : Constants). c.stop) (closed_fixed b ran.back ran.words ran.closed k))
+                (ran.closed.world.each_lane k low).within);
             history = record {
               lane = lane.view.fixed.lane;
               done = calls_ended lane.view;
@@ -478,7 +484,8 @@ ran_on_lanes {G} laws more origin layout script stops keep out b before after fl
             let high : k < b.lanes = subst (λ n. k < n) (sym lanes) low in
             let lane = ran.each k w high in (
               record { place = k; view = lane.view; there = lane.there; lane_is = lane.lane_is },
-              lane_planned laws b keep script.lines before after out.image.items flags ran works w did out.image.items flags ran.survives ran.judged entries order more.listed k high,
+              subst (λ (s : List (Option ℕ)). CallsArePlanned (names_of opened.pool) script.lines entries (slice_index_or s k None) ran.closed.run.turns k lane.view) stops_are
+                  (lane_planned laws b keep script.lines before after out.image.items flags ran works w did out.image.items flags ran.survives ran.judged entries order more.listed k high),
             );
         busy = λ call d low is.
             let ended = ends_refused laws b keep script.lines before after out.image.items flags ran works w did out.image.items flags ran.survives ran.judged entries order call d Busy low (ap refused_as is) in

@@ -2,7 +2,7 @@
 -- fails at the end: docs/MODEL.md, "Crash".
 use Rattle.std.specs.Prelude.{◌≡◌, ◌≢◌, ◌⊎◌, ℕ, ◌%◌, ◌^◌, ◌<◌, ◌≤◌, true, false, Contains, List, [], length, map, reverse, slice_index, slice_index_or, None, Option}
 use Rattle.std.specs.List.{AllZip}
-use Rattle.std.specs.Option.{option_map_or}
+use Rattle.std.specs.Option.{ForSome, option_map_or}
 use Rattle.pm_calls.specs.Calls.{calls_of_lane, null_id}
 use Rattle.pm_calls.specs.declared.names.Names.{Names}
 use Rattle.pm_crash.specs.Images.{block_for}
@@ -130,11 +130,12 @@ pub record ShowsCall (lane : ℕ) (e : Entry) (d : Ended) : Type 0 where
   pub shown : IsShown e.call e.reply (run_of lane d.call)
 
 -- A LANE'S MEMORY CALLS ARE THE PLANS OF ITS LINES, up to its stop: its counted calls in the run are
--- those that its view lists; and the view came by the plans of the operations of its entries, one
--- call after another, and of the first lines of its next call
+-- those that its view lists, no more than its stop number says; and the view came by the plans of the
+-- operations of its entries, one call after another, and of the first lines of its next call
 pub record CallsArePlanned (names : Names) (script : List ScriptLine) (entries : List Entry)
-    (turns : List LaneStep) (lane : ℕ) (v : View) : Type 0 where
+    (stop : Option ℕ) (turns : List LaneStep) (lane : ℕ) (v : View) : Type 0 where
   pub calls : calls_in_run lane turns ≡ reverse v.calls
+  pub within : ForSome stop (λ most. length v.calls ≤ most)
   pub history : LaneHistory
   pub shown : AllZip (ShowsCall lane) (entries_of_lane lane entries) (reverse history.done)
   pub first : AreFirst names
@@ -177,8 +178,8 @@ pub record RanOnLanes (image layout : List ℕ) (script : Script) (stops : List 
   -- the memory calls of each lane are the plans of its lines, up to its stop
   pub planned : (lane : ℕ) → lane < script.lanes
       → (last : IsBack back lane)
-      × CallsArePlanned (names_of opened.pool) script.lines out.entries.items took.turns lane
-      last.view
+      × CallsArePlanned (names_of opened.pool) script.lines out.entries.items
+      (slice_index_or stops lane None) took.turns lane last.view
   -- each call that was aborted as Busy has its cause
   pub busy : (call : ℕ) (d : Entry) → call < length out.entries.items
       → (slice_index_or out.entries.items call d).fate ≡ fate.Aborted (error.Refused Busy)
