@@ -14,6 +14,6 @@ returns-then-idle g c number stands =
         facts = may_open_facts here.0.standing here.0.between;
         due = λ e. absurd (both_ways c.args.lane.now.stopped idle.unstopped e);
       },
-      ap (λ (h : LaneHistory). h.lane) here.1,
-      ap (λ (h : LaneHistory). h.done) here.1,
+      ap (λ (h : LaneHistory). h.lane) here.1.is,
+      ap (λ (h : LaneHistory). h.done) here.1.is,
     )
