@@ -19,8 +19,8 @@ use Rattle.pm_call.specs.GivenUp.{with_locks}
 use Rattle.pm_call.specs.Histories.{LaneHistory, calls_ended, no_value, told_by, told_last, told_more, turned, turned_alone, turned_last, unless}
 use Rattle.pm_call.specs.Locking.{IsOpened, locks_with}
 use Rattle.pm_call.specs.Opening.{WaitWasStopped}
-use Rattle.pm_call.specs.Planned.{is_call_alone, is_told_alone}
-use Rattle.pm_call.specs.Planned.Planned.{Cancels, Lone, Publishes, Tells}
+use Rattle.pm_call.specs.Planned.{is_call_alone, is_recorded_alone}
+use Rattle.pm_call.specs.Planned.Planned.{Cancels, Lone, Publishes, Records}
 use Rattle.pm_call.specs.Plans.{cancels, ends_call, tells}
 use Rattle.pm_plan.specs.Plans.{one}
 use Rattle.pm_call.specs.PublicationParts.{PublishWasCut, PublishWasRefused, WasPublishedOutside, WordsSetAs}
@@ -52,14 +52,14 @@ IsCallAlone op = (reply : Option Value) → is_call_alone op reply ≡ true
 module _ {M : Type 0} (at : M → View → Type 0) (old new : Lane M) (h : LaneHistory) where
   -- ---- inside a transaction
 
-  tells_so : (op : Operation) → is_told_alone op ≡ true → (reply : Option Value) (s : Standing)
+  tells_so : (op : Operation) → is_recorded_alone op ≡ true → (reply : Option Value) (s : Standing)
       → s.view.number ≡ None
       → HasHistory s.view h → HasHistory (next s (tells op reply)).view (told_more op reply h)
   unfolding one after_all
-  tells_so op alone reply s none same = plan_tells (Tells op reply alone) op reply s.view
+  tells_so op alone reply s none same = plan_tells (Records op reply alone) op reply s.view
       (next s (tells op reply)).view h refl refl same (tells_history op reply s.view none)
 
-  told_turns : (op : Operation) → is_told_alone op ≡ true → (s : Standing) (result : Result (Unit {0}) Refusal)
+  told_turns : (op : Operation) → is_recorded_alone op ≡ true → (s : Standing) (result : Result (Unit {0}) Refusal)
       → s.view.number ≡ None → HasHistory s.view h → AskedAs at new op result s
       → StandsWith at new (turned_action op result h)
   told_turns op alone s (Ok done) none same a =
@@ -70,7 +70,7 @@ module _ {M : Type 0} (at : M → View → Type 0) (old new : Lane M) (h : LaneH
       (next s (tells op (Some (Refused r)))) a.1.works a.1.stands
       (tells_so op alone (Some (Refused r)) s none same)
 
-  pub asked_turns : (op : Operation) → is_told_alone op ≡ true
+  pub asked_turns : (op : Operation) → is_recorded_alone op ≡ true
       → (result : Result (Unit {0}) Refusal) → StandsWith at old h
       → Asked at old new op result
       → StandsWith at new (unless (work_refusal old) (turned_action op result h) h)
@@ -169,7 +169,7 @@ module _ {M : Type 0} (at : M → View → Type 0) (old new : Lane M) (h : LaneH
     by true level going some d = in_ d
     by false (suc n) going some d = in_ d
 
-  pub asked_by_level_turns : (op : Operation) → IsCallAlone op → is_told_alone op ≡ true
+  pub asked_by_level_turns : (op : Operation) → IsCallAlone op → is_recorded_alone op ≡ true
       → (result : Result (Unit {0}) Refusal)
       → StandsWith at old h
       → ByLevel old (AskedOutside at old new op result) (Asked at old new op result)
@@ -355,7 +355,7 @@ module _ {M : Type 0} (at : M → View → Type 0) (old new : Lane M) (h : LaneH
 -- ---- SO IT STANDS, with whatever history
 
 module _ {M : Type 0} (at : M → View → Type 0) (old new : Lane M) where
-  pub asked_by_level_stands : (op : Operation) → IsCallAlone op → is_told_alone op ≡ true
+  pub asked_by_level_stands : (op : Operation) → IsCallAlone op → is_recorded_alone op ≡ true
       → (result : Result (Unit {0}) Refusal)
       → Stands at old
       → ByLevel old (AskedOutside at old new op result) (Asked at old new op result)

@@ -43,7 +43,7 @@ use Rattle.pm_call.specs.Publications.{publishes}
 use Rattle.pm_call.specs.Stores.{EntriesAreStored, HasNoEntry, IsRun, OverHasNoEntry, RecordsAreFew, RunsMakeFewStores, TableOfStores, WorkHasNoEntry, commit_stores, log_stores, most_in_run, most_stores, publish_stores, runs, stores_in}
 use Rattle.pm_call.specs.Planned.{Planned, entries_to_log, steps_of, words_to_set}
 use Rattle.pm_call.specs.Quiet.{AreQuiet, is_quiet}
-use Rattle.pm_call.specs.Planned.Planned.{Quiet, Tells, Adds, Writes, Reads, Increments, Cancels, Commits, RollsBack, Lone, Publishes}
+use Rattle.pm_call.specs.Planned.Planned.{Quiet, Records, Adds, Writes, Reads, Increments, Cancels, Commits, RollsBack, Lone, Publishes}
 
 -- from each view the plan makes at most so many
 abbrev Few : ℕ → Plan → Type 0
@@ -520,7 +520,7 @@ few_quiet (s ∷ steps) quiet =
 
 few_steps : (p : Planned) (v : View) → HasNoEntry v → stores_in (steps_of p v) ≤ most_stores p v
 few_steps (Quiet steps quiet) v h = few_quiet steps quiet
-few_steps (Tells op reply alone) v h = few_one (Tell op reply) refl v
+few_steps (Records op reply alone) v h = few_one (Tell op reply) refl v
 few_steps (Adds id off len) v h = let place : ℕ = id.off + off in
     few_told (snapshots place len) (AddRange id off len) None _ v (few_snapshots place len v)
 few_steps (Writes id off bytes) v h = let place : ℕ = id.off + off in

@@ -54,7 +54,7 @@ by_operations (Some n) op reply h none = last_operations n op reply h none
 pub goes_on : (v : View) (h : LaneHistory) → HasHistory v h → h.within ≡ None
 goes_on v h has = sym (ap (λ (x : LaneHistory). x.within) has.is)
 
--- one of which nothing was asked
+-- of a lane that made no call
 pub idle_history : (fixed : Constants) (generation : ℕ)
     → HasHistory (idle fixed generation) (nothing_told fixed.lane)
 unfolding CameBy

@@ -1,4 +1,4 @@
--- WHAT LOOKS AND LOCKS LEAVE of what a lane told: all of it.
+-- WHAT LOOKS AND LOCKS LEAVE of what a lane recorded: all of it.
 use Rattle.std.proofs.Common.{◌≡◌, ℕ, zero, suc, Bool, true, false, List, [], ◌∷◌, ◌++◌, map, take, refl, sym, ap, ◌∙◌, subst, None}
 use Rattle.pm_objects.specs.declared.calls.Want.{Want}
 use Rattle.pm_view.specs.Log.{Phase, Idle, Open, Drawn, Sealing, Applying, Clearing, Retiring, Voiding}
@@ -26,7 +26,7 @@ use Rattle.pm_call.proofs.SilentPlans.{AreSilent, IsAsTold, is_silent, silent_bo
 use Rattle.pm_call.proofs.ToldPlans.{silent_history}
 use Rattle.pm_call.proofs.TriedLocks.{view_on}
 
--- what a lane told stays as it is, over steps of no plan
+-- what a lane recorded stays as it is, over steps of no plan
 pub record SaidNothing (v w : View) : Type 0 where
   pub told : IsAsTold v w
   pub went : WentQuietly v w

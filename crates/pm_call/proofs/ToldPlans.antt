@@ -18,7 +18,7 @@ use Rattle.pm_undo.specs.Plans.{snapshots}
 use Rattle.pm_redo.specs.Plans.{performs, writes_log}
 use Rattle.pm_call.specs.At.{set_entry}
 use Rattle.pm_call.specs.Histories.{AddsTell, CancelsTell, CommitsTell, IncrementsTell, InnerCommitsTell, IsPlanOf, LaneHistory, LogsTell, LoneCallsTell, PlanTellsLast, PlanTellsMore, PublishesTell, ReadsTell, RollbacksTell, WritesTell, calls_ended, ended_of, history_of, open_call, told, told_by, told_last, told_more}
-use Rattle.pm_call.specs.Planned.Planned.{Adds, Cancels, Increments, Reads, Tells, Writes}
+use Rattle.pm_call.specs.Planned.Planned.{Adds, Cancels, Increments, Reads, Records, Writes}
 use Rattle.pm_call.specs.Plans.{commits, ends_call, ends_records, finishes, gives_up, known_sum, logs_entries, performs_call, puts_sum, takes_back, tells, writes_words}
 use Rattle.pm_call.proofs.SilentPlans.{AreSilent, IsAsTold, IsSilentPlan, silent_back, silent_both, silent_ends_records, silent_log, silent_performs, silent_persists, silent_snapshots, silent_step, silent_steps, silent_writes}
 
@@ -311,7 +311,7 @@ cancels_tell = plan_more Cancel None persists_all silent_persists
 pub inner_commits_tell : InnerCommitsTell
 unfolding one after_all
 inner_commits_tell = record {
-  planned = λ v. record { by = Tells Commit None refl; operation = refl; same = refl };
+  planned = λ v. record { by = Records Commit None refl; operation = refl; same = refl };
   whole = λ v none. tells_history Commit None v none;
   on_the_way = λ v k none. more_way Commit None v [] k tt;
   unnumbered = λ v k none. number_way Commit None v [] k tt ∙ none;

@@ -77,18 +77,18 @@ last_ended (e ∷ done) = e.number
 abbrev pub told : Operation → Option Value → Told
 told op reply = record { operation = op; reply = reply }
 
--- the open call told one more operation
+-- the open call recorded one more operation
 abbrev pub told_more : Operation → Option Value → LaneHistory → LaneHistory
 told_more op reply h = record h { call = h.call ++ told op reply ∷ [] }
 
--- it told its last operation, and has this number
+-- it recorded its last operation, and has this number
 abbrev pub told_last : ℕ → Operation → Option Value → LaneHistory → LaneHistory
 told_last n op reply h = record h {
   done = record { number = n; call = h.call ++ told op reply ∷ [] } ∷ h.done;
   call = [];
 }
 
--- on the way of its last operation: it told that once it has a number
+-- on the way of its last operation: it records that once it has a number
 abbrev pub told_by : Option ℕ → Operation → Option Value → LaneHistory → LaneHistory
 told_by None op reply h = record h { within = Some op }
 told_by (Some n) op reply h = told_last n op reply h
@@ -132,7 +132,7 @@ abbrev pub turned_commit : {M : Type 0} → ℕ → Lane M → Result (Unit {0})
 turned_commit (suc zero) lane result h = turned_last lane Commit result h
 turned_commit level lane result h = turned lane Commit no_value result h
 
--- where the stage refuses it nothing is told
+-- where the stage refuses it nothing is recorded
 abbrev pub unless : Option Refusal → LaneHistory → LaneHistory → LaneHistory
 unless (Some r) next h = h
 unless None next h = next

@@ -21,15 +21,15 @@ use Rattle.pm_call.specs.Waiting.{pending_now}
 
 -- ---- WHICH OPERATIONS have no memory call of their own
 
--- those that are told alone inside of a transaction: an inner level is committed so, and words that
+-- those that are only recorded inside of a transaction: an inner level is committed so, and words that
 -- are published are set by the commit of the outermost
-abbrev pub is_told_alone : Operation → Bool
-is_told_alone (Begin wants) = true
-is_told_alone (Lock want) = true
-is_told_alone (SetValue id off value) = true
-is_told_alone Publish = true
-is_told_alone Commit = true
-is_told_alone op = false
+abbrev pub is_recorded_alone : Operation → Bool
+is_recorded_alone (Begin wants) = true
+is_recorded_alone (Lock want) = true
+is_recorded_alone (SetValue id off value) = true
+is_recorded_alone Publish = true
+is_recorded_alone Commit = true
+is_recorded_alone op = false
 
 -- those that are a call by themselves; of the publishes the refused ones
 abbrev pub is_call_alone : Operation → Option Value → Bool
@@ -54,8 +54,8 @@ is_given_up op reply = is_refusal reply || is_abort op
 pub data Planned : Type 0 where
   -- looks, locks and what else is of no plan
   Quiet : (steps : List Step) → AreQuiet steps → Planned
-  -- told alone
-  Tells : (op : Operation) → Option Value → is_told_alone op ≡ true → Planned
+  -- an operation that is only recorded
+  Records : (op : Operation) → Option Value → is_recorded_alone op ≡ true → Planned
   -- a range is recorded, written, read; a number is incremented; what is pending is cancelled
   Adds : Oid → ℕ → ℕ → Planned
   Writes : Oid → ℕ → List ℕ → Planned
@@ -66,7 +66,7 @@ pub data Planned : Type 0 where
   -- ORs and ANDs find, and the number that the call takes, less one
   Commits : (ℕ → ℕ) → ℕ → Planned
   RollsBack : (op : Operation) → (reply : Option Value) → ℕ → is_given_up op reply ≡ true → Planned
-  -- outside a transaction: a call that is told alone; a publish of the words that are pending
+  -- outside a transaction: a call by itself; a publish of the words that are pending
   Lone : (op : Operation) → (reply : Option Value) → ℕ → is_call_alone op reply ≡ true → Planned
   Publishes : (ℕ → ℕ) → ℕ → Planned
 
@@ -79,7 +79,7 @@ words_to_set v = (pending_now v).sets
 
 abbrev pub steps_of : Planned → Plan
 steps_of (Quiet steps quiet) v = steps
-steps_of (Tells op reply alone) v = tells op reply v
+steps_of (Records op reply alone) v = tells op reply v
 steps_of (Adds id off len) v = adds id off len v
 steps_of (Writes id off bytes) v = puts id off bytes v
 steps_of (Reads id off len) v = gets id off len v
@@ -93,7 +93,7 @@ steps_of (Publishes found n) v = publishes (words_to_set v) found n v
 -- its operation
 abbrev pub operation_of : Planned → Option Operation
 operation_of (Quiet steps quiet) = None
-operation_of (Tells op reply alone) = Some op
+operation_of (Records op reply alone) = Some op
 operation_of (Adds id off len) = Some (AddRange id off len)
 operation_of (Writes id off bytes) = Some (Write id off bytes)
 operation_of (Reads id off len) = Some (Read id off len)

@@ -32,7 +32,7 @@ pub record IsLaneStopped {M : Type 0} (at : M → View → Type 0) (lane : Lane 
   pub facts : HaveFacts view
   pub due : lane.stopped ≡ true → IsStopDue view
 
--- THE VIEW HAS THIS HISTORY: by what it told, and by the plans of its operations, by which it came
+-- THE VIEW HAS THIS HISTORY: by what it recorded, and by the plans of its operations, by which it came
 pub record HasHistory (v : View) (h : LaneHistory) : Type 0 where
   pub is : history_of v ≡ h
   pub plans : List Planned
@@ -51,7 +51,7 @@ IsOverFor (suc (suc n)) error.None h = Unit {0}
 IsOverFor level e h = h.call ≡ []
 
 -- A LANE STANDS WITH THIS HISTORY: it stopped, or it is between two calls, at work, or past the work
--- of a level, as its fields say; and this is what it told
+-- of a level, as its fields say; and this is what it recorded
 pub record StandsWith {M : Type 0} (at : M → View → Type 0) (lane : Lane M) (h : LaneHistory)
     : Type 0 where
   pub work : work_refusal lane ≡ None → (w : IsAt at lane) × HasHistory w.standing.view h

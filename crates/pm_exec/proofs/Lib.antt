@@ -1,6 +1,7 @@
 pub mod CallLines
 pub mod Choices
 pub mod Entries
+mod Fixed
 pub mod LaneCalls
 pub mod LaneRuns
 pub mod LaneWorks
@@ -20,4 +21,3 @@ pub mod Shown
 pub mod Spent
 pub mod Stopped
 pub mod Stopping
-mod Turns

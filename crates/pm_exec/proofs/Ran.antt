@@ -34,7 +34,7 @@ use Rattle.pm_exec.specs.Entries.{HasNumber, HaveAllNumbers}
 use Rattle.pm_script.specs.Scripts.{of_lane}
 use Rattle.pm_exec.specs.Reports.{AreInOrder, AreWorksFor, HaveLines, IsLaneHistory, IsLined, IsWorkFor, all_entries, ends_of, entries_of, entries_of_lane}
 use Rattle.pm_world.specs.Crash.{IsBeingWritten}
-use Rattle.pm_exec.specs.Runs.{AddedTearNone, AddsNext, CallsArePlanned, RanLawfully, Replayed, ShowsCall, StandsFor, SurvivesAs, names_of}
+use Rattle.pm_exec.specs.Runs.{AddedTearNone, AddsNext, CallsArePlanned, RanOnLanes, Replayed, ShowsCall, StandsFor, SurvivesAs, names_of}
 use Rattle.pm_exec.specs.declared.outcome.Outcome.{Outcome}
 use Rattle.pm_script.specs.declared.script.Script.{Script}
 use Rattle.pm_call.specs.Unwritten.{WritesNoRecord}
@@ -47,7 +47,8 @@ use Rattle.pm_exec.proofs.Reports.{LaneLeft, all_answered, as_many, entries_with
 use Rattle.pm_exec.proofs.Entries.{all_in, in_all}
 use Rattle.pm_exec.proofs.Stopped.{LaneLaws, has_stopped, none_left}
 use Rattle.pm_exec.proofs.Rising.{Has, all_has, has_all, has_at, place_of}
-use Rattle.pm_exec.proofs.Turns.{closed_fixed, took_turns}
+use Rattle.pm_exec.proofs.Fixed.{closed_fixed}
+use Rattle.pm_lanes.proofs.Turns.{took_turns}
 use Rattle.pm_exec.proofs.Missed.{Shown, entry_plain, has_missed}
 
 abbrev IsSomeLine : List ScriptLine → Type 0
@@ -449,79 +450,75 @@ pub ran_on_lanes : {G : Type 0} → PoolLaws → LaneLaws → (origin layout : L
     → ((k : ℕ) (w : LaneWork G) (low : k < b.lanes) → DidCalls (get_or before k w) (get_or after k w) (ran.each k w low).view)
     → AreInOrder after flags out.entries.items → out.lanes.items ≡ ends_of after
     → ((k : ℕ) → All (All RunsOnLanes) (calls_of_lane k script.lines))
-    → RanLawfully origin layout script stops keep out
+    → RanOnLanes origin layout script stops keep out
 ran_on_lanes {G} laws more origin layout script stops keep out b before after flags left opened lanes stops_are ran works dids order ends words =
     let enough : 1 ≤ length after = let s = ran.closed.world.some_lanes in let n = ran.works in omega (arith, s, n) in
     let w = first_item after enough in
     let did = λ (k : ℕ) (low : k < b.lanes). dids k w low in
     let entries = out.entries.items in
     record {
-      ran = record {
-        begin_ = b;
-        opened = opened;
-        lanes_are = lanes;
-        stops_are = stops_are;
-        back = ran.back;
-        words = ran.words;
-        took = took_turns b ran.back ran.words ran.closed;
-        all = subst (λ n. AllAreBack n ran.back) lanes ran.all;
-        undrained = ran.undrained;
-        back_with = ran.back_with;
-        kept = ran.kept;
-        size = ran.size ∙ sym ran.closed.world.size ∙ opened.recovered.as_long;
-        is_history = is_history laws b keep script.lines before after out.image.items flags ran works w did out.image.items flags ran.survives ran.judged entries order;
-        ends = ap (λ (l : List LaneEnd). length l) ends ∙ length-map after (λ (x : LaneWork G). x.end) ∙ ran.works ∙ lanes;
-        each = λ k low. subst (λ (l : List LaneEnd). IsLaneHistory (names_of opened.pool) script.lines entries k (get_or l k end.Ended)) (sym ends)
-            (lane_history laws b keep script.lines before after out.image.items flags ran works w did out.image.items flags ran.survives ran.judged entries order k (subst (λ n. k < n) (sym lanes) low));
-        stopped = λ k calls low is.
-            let high : k < b.lanes = subst (λ n. k < n) (sym lanes) low in
-            let lane = ran.each k w high in
-            let ended : (get_or after k w).end ≡ end.Stopped calls = sym (get_or-map (λ (x : LaneWork G). x.end) after k w end.Ended (let count = ran.works in omega (arith, high, count))) ∙ ap (λ (l : List LaneEnd). get_or l k end.Ended) (sym ends) ∙ is in
-            has_stopped more b ran.back ran.words ran.closed ran.all k high
-            (record { place = k; view = lane.view; there = lane.there; lane_is = lane.lane_is }) calls
-            ((did k high).counted calls ended) ((did k high).due calls ended);
-        planned = λ k low.
-            let high : k < b.lanes = subst (λ n. k < n) (sym lanes) low in
-            let lane = ran.each k w high in (
-              record { place = k; view = lane.view; there = lane.there; lane_is = lane.lane_is },
-              subst (λ (s : List (Option ℕ)). CallsArePlanned (names_of opened.pool) script.lines entries (slice_index_or s k None) ran.closed.run.turns k lane.view) stops_are
-                  (lane_planned laws b keep script.lines before after out.image.items flags ran works w did out.image.items flags ran.survives ran.judged entries order more.listed k high),
-            );
-        busy = λ call d low is.
-            let ended = ends_refused laws b keep script.lines before after out.image.items flags ran works w did out.image.items flags ran.survives ran.judged entries order call d Busy low (ap refused_as is) in
-            record {
-              of_lane = ended.of_lane;
-              operation = ended.ended.operation;
-              among = ended.among;
-              cause = more.busy b ran.back ran.words call ended.ended.operation ran.closed ran.all ran.facts
-                  (subst (λ n. call < n) (all_are_there laws b keep script.lines before after out.image.items flags ran works w did out.image.items flags ran.survives ran.judged entries order) low) ended.ended.last;
-            };
-        missing = λ call d low is.
-            let ended = ends_refused laws b keep script.lines before after out.image.items flags ran works w did out.image.items flags ran.survives ran.judged entries order call d NoObject low is in
-            has_missed b ran.closed.last opened.pool out.image.items opened.of_id entries
-            (shown laws b keep script.lines before after out.image.items flags ran works w did out.image.items flags ran.survives ran.judged entries order more.before words) call d low
-            ended.ended.operation ended.ended.last
-            (more.missed origin layout ran.words out.image.items b ran.back call ended.ended.operation opened ran.closed ran.all ran.facts
-            (subst (λ n. call < n) (all_are_there laws b keep script.lines before after out.image.items flags ran works w did out.image.items flags ran.survives ran.judged entries order) low) ended.ended.last);
-        spent = λ k line low is.
-            let high : k < b.lanes = subst (λ n. k < n) (sym lanes) low in
-            let lane = ran.each k w high in
-            let ended : (get_or after k w).end ≡ end.Spent line = sym (get_or-map (λ (x : LaneWork G). x.end) after k w end.Ended (let count = ran.works in omega (arith, high, count))) ∙ ap (λ (l : List LaneEnd). get_or l k end.Ended) (sym ends) ∙ is in
-            none_left more b ran.back ran.words ran.closed ran.all k high
-            (record { place = k; view = lane.view; there = lane.there; lane_is = lane.lane_is })
-            out.image.items ran.survives ((did k high).spent line ended) entries
-            (all_are_there laws b keep script.lines before after out.image.items flags ran works w did out.image.items flags ran.survives ran.judged entries order);
-        replayed = replayed laws b keep script.lines before after out.image.items flags ran works w did out.image.items flags ran.survives ran.judged entries order origin layout opened;
-        stands = λ none. stands laws b keep script.lines before after out.image.items flags ran works w did out.image.items flags ran.survives ran.judged entries order origin layout opened
-            (none_torn laws b keep script.lines before after out.image.items flags ran works w did out.image.items entries
-            (as_answered laws b keep script.lines before after out.image.items flags ran works w did out.image.items flags ran.survives ran.judged entries order)
-            (subst (λ (l : List LaneEnd). AddedTearNone ran.closed.last (names_of opened.pool) script.lines entries l out.image.items) ends none));
-        header = λ w is. more.headers origin layout ran.words out.image.items b ran.back opened ran.closed ran.survives w is;
-        survives = ran.survives;
-        each_choice = subst (λ (l : List LaneEnd). (other : List ℕ) → MaySurvive b ran.closed.last other
-            → SurvivesAs ran.closed.last script.lines l opened.pool entries other) (sym ends)
-            (λ other survives. survives_as laws b keep script.lines before after out.image.items flags ran works w did entries order origin layout opened other survives refl);
-      };
-      closed = ran.closed;
-      same = (refl, refl);
+      begin_ = b;
+      opened = opened;
+      lanes_are = lanes;
+      stops_are = stops_are;
+      back = ran.back;
+      words = ran.words;
+      took = took_turns b ran.back ran.words ran.closed;
+      all = subst (λ n. AllAreBack n ran.back) lanes ran.all;
+      undrained = ran.undrained;
+      back_with = ran.back_with;
+      kept = ran.kept;
+      size = ran.size ∙ sym ran.closed.world.size ∙ opened.recovered.as_long;
+      is_history = is_history laws b keep script.lines before after out.image.items flags ran works w did out.image.items flags ran.survives ran.judged entries order;
+      ends = ap (λ (l : List LaneEnd). length l) ends ∙ length-map after (λ (x : LaneWork G). x.end) ∙ ran.works ∙ lanes;
+      each = λ k low. subst (λ (l : List LaneEnd). IsLaneHistory (names_of opened.pool) script.lines entries k (get_or l k end.Ended)) (sym ends)
+          (lane_history laws b keep script.lines before after out.image.items flags ran works w did out.image.items flags ran.survives ran.judged entries order k (subst (λ n. k < n) (sym lanes) low));
+      stopped = λ k calls low is.
+          let high : k < b.lanes = subst (λ n. k < n) (sym lanes) low in
+          let lane = ran.each k w high in
+          let ended : (get_or after k w).end ≡ end.Stopped calls = sym (get_or-map (λ (x : LaneWork G). x.end) after k w end.Ended (let count = ran.works in omega (arith, high, count))) ∙ ap (λ (l : List LaneEnd). get_or l k end.Ended) (sym ends) ∙ is in
+          has_stopped more b ran.back ran.words ran.closed ran.all k high
+          (record { place = k; view = lane.view; there = lane.there; lane_is = lane.lane_is }) calls
+          ((did k high).counted calls ended) ((did k high).due calls ended);
+      planned = λ k low.
+          let high : k < b.lanes = subst (λ n. k < n) (sym lanes) low in
+          let lane = ran.each k w high in (
+            record { place = k; view = lane.view; there = lane.there; lane_is = lane.lane_is },
+            subst (λ (s : List (Option ℕ)). CallsArePlanned (names_of opened.pool) script.lines entries (slice_index_or s k None) ran.closed.run.turns k lane.view) stops_are
+                (lane_planned laws b keep script.lines before after out.image.items flags ran works w did out.image.items flags ran.survives ran.judged entries order more.listed k high),
+          );
+      busy = λ call d low is.
+          let ended = ends_refused laws b keep script.lines before after out.image.items flags ran works w did out.image.items flags ran.survives ran.judged entries order call d Busy low (ap refused_as is) in
+          record {
+            of_lane = ended.of_lane;
+            operation = ended.ended.operation;
+            among = ended.among;
+            cause = more.busy b ran.back ran.words call ended.ended.operation ran.closed ran.all ran.facts
+                (subst (λ n. call < n) (all_are_there laws b keep script.lines before after out.image.items flags ran works w did out.image.items flags ran.survives ran.judged entries order) low) ended.ended.last;
+          };
+      missing = λ call d low is.
+          let ended = ends_refused laws b keep script.lines before after out.image.items flags ran works w did out.image.items flags ran.survives ran.judged entries order call d NoObject low is in
+          has_missed b ran.closed.last opened.pool out.image.items opened.of_id entries
+          (shown laws b keep script.lines before after out.image.items flags ran works w did out.image.items flags ran.survives ran.judged entries order more.before words) call d low
+          ended.ended.operation ended.ended.last
+          (more.missed origin layout ran.words out.image.items b ran.back call ended.ended.operation opened ran.closed ran.all ran.facts
+          (subst (λ n. call < n) (all_are_there laws b keep script.lines before after out.image.items flags ran works w did out.image.items flags ran.survives ran.judged entries order) low) ended.ended.last);
+      spent = λ k line low is.
+          let high : k < b.lanes = subst (λ n. k < n) (sym lanes) low in
+          let lane = ran.each k w high in
+          let ended : (get_or after k w).end ≡ end.Spent line = sym (get_or-map (λ (x : LaneWork G). x.end) after k w end.Ended (let count = ran.works in omega (arith, high, count))) ∙ ap (λ (l : List LaneEnd). get_or l k end.Ended) (sym ends) ∙ is in
+          none_left more b ran.back ran.words ran.closed ran.all k high
+          (record { place = k; view = lane.view; there = lane.there; lane_is = lane.lane_is })
+          out.image.items ran.survives ((did k high).spent line ended) entries
+          (all_are_there laws b keep script.lines before after out.image.items flags ran works w did out.image.items flags ran.survives ran.judged entries order);
+      replayed = replayed laws b keep script.lines before after out.image.items flags ran works w did out.image.items flags ran.survives ran.judged entries order origin layout opened;
+      stands = λ none. stands laws b keep script.lines before after out.image.items flags ran works w did out.image.items flags ran.survives ran.judged entries order origin layout opened
+          (none_torn laws b keep script.lines before after out.image.items flags ran works w did out.image.items entries
+          (as_answered laws b keep script.lines before after out.image.items flags ran works w did out.image.items flags ran.survives ran.judged entries order)
+          (subst (λ (l : List LaneEnd). AddedTearNone ran.closed.last (names_of opened.pool) script.lines entries l out.image.items) ends none));
+      header = λ w is. more.headers origin layout ran.words out.image.items b ran.back opened ran.closed ran.survives w is;
+      survives = ran.survives;
+      each_choice = subst (λ (l : List LaneEnd). (other : List ℕ) → MaySurvive b ran.closed.last other
+          → SurvivesAs ran.closed.last script.lines l opened.pool entries other) (sym ends)
+          (λ other survives. survives_as laws b keep script.lines before after out.image.items flags ran works w did entries order origin layout opened other survives refl);
     }

@@ -9,5 +9,4 @@ pub mod Reports
 pub mod Running
 pub mod Runs
 pub mod Shown
-pub mod Turns
 pub mod Works

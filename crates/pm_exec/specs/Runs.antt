@@ -14,6 +14,7 @@ use Rattle.pm_call.specs.Histories.{Ended, LaneHistory}
 use Rattle.pm_call.specs.Standing.{StoppedWith}
 use Rattle.pm_lanes.specs.Closed.{AllAreBack, BackWith, CameToStop, HasBusyCause, IsBack, MaySurvive, calls_in_run}
 use Rattle.pm_lanes.specs.Opens.{IsOpened}
+use Rattle.pm_lanes.specs.Turns.{TookTurns}
 use Rattle.pm_memory.specs.Keep.{IsKeptImage}
 use Rattle.pm_model.specs.History.{IsHistory, ReplaysEntries, is_answered, without_lost}
 use Rattle.pm_model.specs.Shown.{IsShown}
@@ -25,7 +26,6 @@ use Rattle.pm_objects.specs.declared.history.TxErr.TheVariants as error
 use Rattle.pm_objects.specs.declared.pool.PoolView.{PoolView}
 use Rattle.pm_objects.specs.declared.refusal.Refusal.TheVariants.{Busy}
 use Rattle.pm_script.specs.declared.script.Script.{Script}
-use Rattle.pm_shared.specs.Closings.{Closes}
 use Rattle.pm_shared.specs.declared.rule.Beginning.{Beginning}
 use Rattle.pm_text.specs.declared.report.LaneEnd.{LaneEnd}
 use Rattle.pm_text.specs.declared.report.LaneEnd.TheVariants as end
@@ -39,7 +39,6 @@ use Rattle.pm_world.specs.World.{is_header}
 use Rattle.pm_exec.specs.Answers.{AddsRange, AreFirst, run_of}
 use Rattle.pm_exec.specs.Missing.{MissesHaveCauses}
 use Rattle.pm_exec.specs.Reports.{IsLaneHistory, entries_of_lane}
-use Rattle.pm_exec.specs.Turns.{TookTurns}
 use Rattle.pm_script.specs.declared.script.ScriptLine.{ScriptLine}
 use Rattle.pm_exec.specs.declared.outcome.Outcome.{Outcome}
 
@@ -159,7 +158,7 @@ pub record RanOnLanes (image layout : List ℕ) (script : Script) (stops : List 
   pub stops_are : begin_.stops ≡ stops
   pub back : List View
   pub words : List ℕ
-  -- in steps of the lanes, in whatever order they interleaved, from the words that were opened
+  -- in lawful steps of the lanes, in whatever order they interleaved, from the words that were opened
   pub took : TookTurns begin_ back words
   pub all : AllAreBack script.lanes back
   pub undrained : List (List Change)
@@ -202,10 +201,3 @@ pub record RanOnLanes (image layout : List ℕ) (script : Script) (stops : List 
   pub survives : MaySurvive begin_ took.last out.image.items
   pub each_choice : (other : List ℕ) → MaySurvive begin_ took.last other
       → SurvivesAs took.last script.lines out.lanes.items opened.pool out.entries.items other
-
--- AND EACH STEP WAS LAWFUL, so that each moment of the run was one of a world
-pub record RanLawfully (image layout : List ℕ) (script : Script) (stops : List (Option ℕ)) (keep : ℕ)
-    (out : Outcome) : Type 0 where
-  pub ran : RanOnLanes image layout script stops keep out
-  pub closed : Closes ran.begin_ ran.back ran.words
-  pub same : (closed.last ≡ ran.took.last) × (closed.run.turns ≡ ran.took.turns)

@@ -13,7 +13,7 @@ ghost use Rattle.pm_calls.specs.declared.names.Names.{Names};
 ghost use Rattle.pm_root.specs.Root.{id_of};
 ghost use Rattle.pm_exec.specs.Reported.{HaveReported};
 ghost use Rattle.pm_exec.specs.Reports.{AreWorksFor, AreWorksOf, HasCalls};
-ghost use Rattle.pm_exec.specs.Runs.{RanLawfully, RanOnLanes};
+ghost use Rattle.pm_exec.specs.Runs.{RanOnLanes};
 ghost use Rattle.pm_exec.specs.Works.{CanRunWork};
 
 use crate::failure::PowerFailure;
@@ -110,7 +110,6 @@ fn run_works<'s, R: Threads + Wait + Sync, G: Gate + Sync>(
 /// own. The image is recovered first; each lane makes counted calls up to its stop number, if it
 /// has one; and of what is then undrained so much survives as the keep number says. The same holds of
 /// every other choice of what survives, with the fates that it gives to the calls that were not answered.
-/// Each step of a lane was lawful.
 /// The room for all replies is taken before any lane runs.
 ///
 /// # Errors
@@ -135,7 +134,6 @@ pub fn exec<'a, R: Threads + Wait + Sync, G: Gate + Sync>(
     requires words { All RunsOnLanes script.now.lines }
     requires lanes { (1 ≤ script.now.lanes) × (script.now.lanes ≤ 32) }
     ensures ran { IfOk result (RanOnLanes image layout.now script.now failure.stops failure.keep) }
-    ensures lawful { IfOk result (RanLawfully image layout.now script.now failure.stops failure.keep) }
     ensures cause { IfErr result (IsOpenCause image layout.now script.now.lanes) }
 {
     let PowerFailure { stops, keep } = failure;

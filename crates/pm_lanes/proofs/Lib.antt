@@ -6,6 +6,7 @@ mod Recovered
 mod Causes
 mod Stops
 mod CountedCalls
+pub mod Turns
 mod Numbers
 mod Headers
 mod SoloOpened

@@ -6,6 +6,7 @@ ghost use Rattle.pm_lanes.specs.Closed.{EntriesAreBefore, EntriesAreCalls};
 ghost use Rattle.pm_lanes.specs.Closed.{OpenCallsAreJudged, OtherCallsAreKept};
 ghost use Rattle.pm_lanes.specs.Closed.{GenerationsAreKept, SeenNumbersAreDrawn};
 ghost use Rattle.pm_lanes.specs.Closed.{SeenStopsAreReached, StopsAreReached};
+ghost use Rattle.pm_lanes.specs.Turns.{TurnsAreOfWorlds};
 
 /// A law: of a pool that was opened, whose lanes all came back, each with facts for its calls, and
 /// whose table closed, every image that a power failure may leave means its history: the pool to
@@ -59,6 +60,13 @@ pub fn numbers_are_shown()
 /// the table closed are those that its view lists, the latest first. No code runs.
 pub fn calls_are_listed()
     ensures { CallsAreListed }
+{}
+
+/// A law: where lanes took turns from words that were opened, each moment is one of a world, since a
+/// lawful step leads from a world to a world; and the laws of tables that closed speak of what they
+/// left. No code runs.
+pub fn turns_are_of_worlds()
+    ensures { TurnsAreOfWorlds }
 {}
 
 /// A law: of a table that closed, whose lanes all came back, each with facts for its calls, a call

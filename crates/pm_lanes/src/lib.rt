@@ -25,6 +25,7 @@ pub use fault::OpenFault;
 pub use laws::{
     busy_calls_have_causes, calls_are_listed, closed_pools_mean_their_histories, headers_are_kept,
     missed_calls_have_causes, numbers_are_shown, open_calls_are_judged, stops_are_reached,
+    turns_are_of_worlds,
 };
 pub use opening::open;
 pub use solo::open_solo;

@@ -171,7 +171,9 @@ module _ (b : Beginning) (can : CanBegin b) where
       (moment (memory_of b.shape (table_words b)) (idle_view b) world.0)
   first_moment = record {
     world = world.1;
+    start = begins.start;
     views_are = refl;
+    past_is = world.4;
     no_call = world.2;
     words_are = pool_word;
     taken = taken;

@@ -3,7 +3,7 @@ ghost use Rattle.std.specs.Prelude.{◌≡◌, ◌+◌, ◌≤◌, [], None, OnO
 ghost use Rattle.pm_shelf.specs.Plan.{one_more};
 
 use crate::{Shelf, ShelfFault};
-use std::fs::File;
+use std::fs::{File, OpenFile};
 use std::io::{ErrorKind, Read, Write};
 use std::rt::Files;
 use std::{fs, io};
@@ -49,13 +49,20 @@ impl<R> FileShelf<R> {
     }
 }
 
-/// Reads the bytes of a file, or its first, one more than the limit.
+/// Bytes of room beyond a file's length, so that the read that finds its end needs no more.
+const ROOM_FOR_END: u64 = 512;
+
+/// Reads the bytes of a file, or its first, one more than the limit. It makes room for all of them
+/// first, by the length that the file system gives, and more where the file turns out longer.
 fn read_front<R: Files>(rt: &R, path: &str, limit: u64, into: &mut Vec<u8>) -> io::Result<()>
     requires { into.old.items ≡ [] }
     ensures { OnOk result (vec_len into.new ≤ limit + 1) }
 {
     let most = limit.saturating_add(1);
-    File::open(rt, path)?.take(most).read_to_end(into)?;
+    let file = File::open(rt, path)?;
+    let known = file.metadata().map_or(0, |it| it.len()).min(most);
+    into.reserve_exact(known.saturating_add(ROOM_FOR_END) as usize)?;
+    file.take(most).read_to_end(into)?;
     // `take` lets no more through already, which its contract doesn't say.
     into.truncate(most as usize);
     Ok(())

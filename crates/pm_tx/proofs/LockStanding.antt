@@ -22,8 +22,8 @@ use Rattle.pm_call.specs.Histories.{LaneHistory, no_value, told_by, told_last, t
 use Rattle.pm_call.specs.LockOps.{BeganInner, DeepAs, LockedAs}
 use Rattle.pm_call.specs.Locking.{IsLocking, IsOpened, locked_with}
 use Rattle.pm_call.specs.Opening.{BegunAs, OutermostBegun, OutermostBegunAs}
-use Rattle.pm_call.specs.Planned.{is_told_alone}
-use Rattle.pm_call.specs.Planned.Planned.{Tells}
+use Rattle.pm_call.specs.Planned.{is_recorded_alone}
+use Rattle.pm_call.specs.Planned.Planned.{Records}
 use Rattle.pm_call.specs.Stages.{at_level}
 use Rattle.pm_call.specs.Standing.{HasHistory, Stands, StandsWith}
 use Rattle.pm_call.proofs.HasHistories.{by_operations, goes_on, plan_tells, stopped_before}
@@ -41,17 +41,17 @@ use Rattle.pm_tx.proofs.LevelBegins.{outside}
 module _ {M : Type 0} (at : M → View → Type 0) (old new : Lane M) (h : LaneHistory) where
   -- ---- a lock
 
-  -- an operation that locks objects is told alone, as what it locked is held
+  -- an operation that locks objects is only recorded, as what it locked is held
   locking_alone : (op : Operation) (wants : List Want) (level behind : ℕ)
-      → IsLocking op wants level behind → is_told_alone op ≡ true
+      → IsLocking op wants level behind → is_recorded_alone op ≡ true
   locking_alone (Lock want) wants level behind is = refl
   locking_alone (Begin these) wants level behind is = refl
   locking_alone op wants level behind is = absurd is
 
-  locked_history : (op : Operation) → is_told_alone op ≡ true → (v : View) (h : LaneHistory)
+  locked_history : (op : Operation) → is_recorded_alone op ≡ true → (v : View) (h : LaneHistory)
       → v.number ≡ None → HasHistory v h → HasHistory (after v (Tell op None)) (told_more op None h)
   unfolding one after_all
-  locked_history op alone v h none same = plan_tells (Tells op None alone) op None v
+  locked_history op alone v h none same = plan_tells (Records op None alone) op None v
       (after v (Tell op None)) h refl refl same (tells_history op None v none)
 
   locked_turns : (s : Standing) (op : Operation) (wants : List Want) (level : ℕ) → 1 ≤ s.level
@@ -139,7 +139,7 @@ module _ {M : Type 0} (at : M → View → Type 0) (old new : Lane M) (h : LaneH
         ∙ sym (ap (λ d. (told_by d (Begin wants) None h).done) drawn))
         (ends_untold new.drawn _ drawn (told_open s.view _ told.told opened.number.none))
         (λ n e. refl) (λ _. wait_unwritten at new s wants opened.working b)
-        (stopped_before (Begin wants) (Tells (Begin wants) None refl) _ h
+        (stopped_before (Begin wants) (Records (Begin wants) None refl) _ h
         (told_by new.drawn (Begin wants) None h) refl
         (by_operations new.drawn (Begin wants) None h (goes_on s.view h same))
         (nothing_history s.view _ h told same))

@@ -24,7 +24,7 @@ use Rattle.pm_call.specs.Did.{Did, next, work_refusal}
 use Rattle.pm_call.specs.Histories.{LaneHistory, no_value, told_more, turned, turned_commit, turned_last, unless}
 use Rattle.pm_call.specs.Incrementing.{HasSum}
 use Rattle.pm_call.specs.Planned.{entries_to_log}
-use Rattle.pm_call.specs.Planned.Planned.{Tells}
+use Rattle.pm_call.specs.Planned.Planned.{Records}
 use Rattle.pm_call.specs.Plans.{adds, commits_inner, gets, increments, known_sum, puts, tells}
 use Rattle.pm_call.specs.Publishing.{words_entered}
 use Rattle.pm_call.specs.Reading.{HasRead}
@@ -85,7 +85,7 @@ module _ {M : Type 0} (at : M → View → Type 0) (old new : Lane M) (h : LaneH
       → StandsWith at new (turned new Commit no_value result h)
   inner_turns s (Ok done) is inner same ends =
       past_stands at new (told_more Commit None h) (next s commits_inner) stage.OnCommit error.None
-      ends.1 (plan_tells (Tells Commit None refl) Commit None s.view (next s commits_inner).view h
+      ends.1 (plan_tells (Records Commit None refl) Commit None s.view (next s commits_inner).view h
       refl refl same (inner_commits_tell.whole s.view is.number.none))
       (over_inner s.level (told_more Commit None h) inner)
   inner_turns s (Err r) is inner same ends = absurd ends
@@ -200,7 +200,7 @@ module _ {M : Type 0} (at : M → View → Type 0) (old new : Lane M) (h : LaneH
       → StandsWith at new (turned new Publish no_value result h)
   publish_turns s some most none same (Ok done) p =
       working_stands at new (told_more Publish None h) (words_entered s) p.works p.stands
-      (plan_tells (Tells Publish None refl) Publish None s.view (words_entered s).view h refl
+      (plan_tells (Records Publish None refl) Publish None s.view (words_entered s).view h refl
       (told_once s.view Publish) same (tells_history Publish None s.view none))
   publish_turns s some most none same (Err refusal.Stopped) p =
       cut_rollback_stands at new h s Publish (Some (Refused p.refusal)) p.number refl none same p.cut

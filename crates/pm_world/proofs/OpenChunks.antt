@@ -5,21 +5,9 @@ use Rattle.std.specs.Prelude.{slice_index}
 use Rattle.pm_layout.specs.Chunks.{chunks_of}
 use Rattle.pm_view.specs.Claims.{is_huge}
 use Rattle.pm_view.specs.Places.{Descr, is_place, in_span}
-use Rattle.pm_world.specs.Opens.{descriptor}
+use Rattle.pm_world.specs.Opens.{descriptor, first_of, is_head, nearest}
 use Rattle.pm_world.specs.World.{Opening}
 use Rattle.pm_world.proofs.OpenWords.{IsRunIn, IsHugeIn, InTable}
-
--- chunk f is the first of a huge block that has chunk c
-abbrev pub is_head : Opening → ℕ → ℕ → Bool
-is_head o f c = is_place o.shape (Descr f) && (is_huge (descriptor o f) && in_span f (descriptor o f / 256) c)
-
--- the first such chunk from f down, among so many; else the chunk itself
-abbrev pub nearest : Opening → ℕ → ℕ → ℕ → ℕ
-nearest o c zero f = c
-nearest o c (suc n) f = cond (is_head o f c) f (nearest o c n (f - 1))
-
-abbrev pub first_of : Opening → ℕ → ℕ
-first_of o c = nearest o c (suc (c % 64)) c
 
 module _ (o : Opening) (small : (w : ℕ) → slice_index o.words w < 2 ^ 64) (table : (c : ℕ) → c < chunks_of o.shape → InTable o c) where
   head_huge : (f c : ℕ) → is_head o f c ≡ true → IsHugeIn o f × (f ≤ c) × (c < f + descriptor o f / 256)

@@ -10,11 +10,11 @@ use Rattle.pm_view.specs.View.{Constants}
 use Rattle.pm_world.specs.States.{there, val}
 use Rattle.pm_world.specs.Lanes.{GeoFits, is_occupancy, is_taken}
 use Rattle.pm_world.specs.Memory.{Memory, bit, huge_told, cells_of}
-use Rattle.pm_world.specs.Opens.{descriptor, IsOpening, idle_views}
+use Rattle.pm_world.specs.Opens.{first_of, is_head, descriptor, IsOpening, idle_views}
 use Rattle.pm_world.specs.World.{Opening, Views, origin, ghost_of, World}
 use Rattle.pm_world.proofs.Opened.{opened, opens}
 use Rattle.pm_world.proofs.OpenWords.{IsRunIn, IsHugeIn, InTable, classes, within, zeros}
-use Rattle.pm_world.proofs.OpenChunks.{is_head, first_of, first_is, first_cases, twice}
+use Rattle.pm_world.proofs.OpenChunks.{first_is, first_cases, twice}
 use Rattle.pm_world.proofs.Values.{val_from}
 
 module _ (o : Opening) (views : Views) (small : (w : ℕ) → slice_index o.words w < 2 ^ 64) (table : (c : ℕ) → c < chunks_of o.shape → InTable o c) where

@@ -17,12 +17,11 @@ use Rattle.pm_image.proofs.Rooms.{lines_needed}
 use Rattle.pm_view.specs.Claims.{is_run}
 use Rattle.pm_view.specs.Places.{InRun, InHuge, Descr, Block, Small, Big, Root, is_place, word_of}
 use Rattle.pm_world.specs.Memory.{bit}
-use Rattle.pm_world.specs.Opens.{descriptor}
+use Rattle.pm_world.specs.Opens.{first_of, descriptor}
 use Rattle.pm_world.specs.Sizes.{HasRoomFor, ObjectsFit, stored_size}
 use Rattle.pm_world.specs.States.{there, val}
 use Rattle.pm_world.specs.World.{Opening, Views, origin, was_run}
 use Rattle.pm_world.proofs.BlockLines.{run_fits}
-use Rattle.pm_world.proofs.OpenChunks.{first_of}
 use Rattle.pm_world.proofs.OpenGeometry.{has_chunk, huge_there}
 use Rattle.pm_world.proofs.OpenWords.{InTable, classes, within}
 use Rattle.pm_world.proofs.Opened.{opened}

@@ -14,12 +14,12 @@ use Rattle.pm_view.specs.View.{Constants}
 use Rattle.pm_world.specs.States.{there}
 use Rattle.pm_world.specs.Lanes.{is_occupancy, is_taken}
 use Rattle.pm_world.specs.Memory.{Memory, bit, huge_told, cells_of}
-use Rattle.pm_world.specs.Opens.{descriptor, is_in_huge, takes, IsOpening, OpensIdle, idle_views}
+use Rattle.pm_world.specs.Opens.{first_of, descriptor, is_in_huge, takes, IsOpening, OpensIdle, idle_views}
 use Rattle.pm_world.specs.Sizes.{ObjectsFit}
 use Rattle.pm_world.specs.World.{Opening, Views, origin, ghost_of}
 use Rattle.pm_world.proofs.Opened.{opened}
 use Rattle.pm_world.proofs.OpenWords.{InTable}
-use Rattle.pm_world.proofs.OpenChunks.{first_of, first_is}
+use Rattle.pm_world.proofs.OpenChunks.{first_is}
 use Rattle.pm_world.proofs.OpenGeometry.{huge_there, has_chunk, opens_in_table}
 
 module _ (o : Opening) (views : Views) (small : (w : ℕ) → slice_index o.words w < 2 ^ 64) (table : (c : ℕ) → c < chunks_of o.shape → InTable o c) where
@@ -61,4 +61,4 @@ module _ (o : Opening) (views : Views) (small : (w : ℕ) → slice_index o.word
 -- A WORLD OPENS where each descriptor is one of the table, and each object fits its block
 pub opens_taken : (o : Opening) (mem : Memory) (fixed : ℕ → Constants) (generation : ℕ → ℕ) → IsOpening o mem fixed generation → ((c : ℕ) → c < chunks_of o.shape → InTable o c)
     → ((a : Block) → is_occupancy o.shape a ≡ true → (cells_of o.shape mem).occ a ≡ takes o a) → ObjectsFit o (opened o (idle_views fixed generation) (first_of o)) → OpensIdle o mem fixed generation
-opens_taken o mem fixed generation x table occ fits = (opened o (idle_views fixed generation) (first_of o), opens_in_table o mem fixed generation x table (λ a e. occ a e ∙ taken_is o (idle_views fixed generation) x.small table a e), refl, fits)
+opens_taken o mem fixed generation x table occ fits = (opened o (idle_views fixed generation) (first_of o), opens_in_table o mem fixed generation x table (λ a e. occ a e ∙ taken_is o (idle_views fixed generation) x.small table a e), refl, fits, refl)

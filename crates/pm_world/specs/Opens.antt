@@ -2,8 +2,8 @@
 -- lane made a step. The pool's words are recovered ones, and nothing of the heap is wrong; each
 -- lane's log is retired; no lock is held, and no number drawn; the occupancy words are what the
 -- pool's words take.
-use Rattle.std.specs.Prelude.{◌≡◌, ℕ, ◌+◌, ◌*◌, ◌/◌, ◌^◌, ◌<◌, ◌≤◌, nat_lt, length, slice_index}
-use Rattle.std.specs.Prelude.{Bool, true, not, ◌&&◌, ◌||◌, List, None, Some}
+use Rattle.std.specs.Prelude.{◌≡◌, ℕ, zero, suc, ◌+◌, ◌-◌, ◌*◌, ◌/◌, ◌%◌, ◌^◌, ◌<◌, ◌≤◌, nat_lt, length}
+use Rattle.std.specs.Prelude.{slice_index, Bool, true, false, cond, not, ◌&&◌, ◌||◌, List, None, Some}
 use Rattle.std.specs.List.{list_any, range_with_len}
 use Rattle.pm_layout.specs.Areas.{greatest_generation, undo_slots, word_of_generation, word_of_seal, line_of_slot}
 use Rattle.pm_layout.specs.Chunks.{words_of, chunks_of, word_of_chunk, word_of_descriptor}
@@ -16,7 +16,7 @@ use Rattle.pm_recover.specs.Recovery.{IsRecovered}
 use Rattle.pm_record.specs.Undo.{undo_of}
 use Rattle.pm_record.specs.declared.undo.Undo.{Undo}
 use Rattle.pm_view.specs.Claims.{is_run, is_huge}
-use Rattle.pm_view.specs.Places.{Block, Small, Big, Root, in_span}
+use Rattle.pm_view.specs.Places.{Block, Descr, Small, Big, Root, in_span, is_place}
 use Rattle.pm_view.specs.View.{Constants, idle}
 use Rattle.pm_world.specs.Lanes.{is_occupancy}
 use Rattle.pm_world.specs.Logs.{slot_list}
@@ -80,16 +80,41 @@ takes o (Small c i) =
 takes o (Big c) = is_run (descriptor o c) || is_in_huge o c
 takes o Root = true
 
+-- chunk f is the first of a huge block that has chunk c
+abbrev pub is_head : Opening → ℕ → ℕ → Bool
+is_head o f c =
+    is_place o.shape (Descr f) && (is_huge (descriptor o f) && in_span f (descriptor o f / 256) c)
+
+-- the first such chunk from f down, among so many; else the chunk itself
+abbrev pub nearest : Opening → ℕ → ℕ → ℕ → ℕ
+nearest o c zero f = c
+nearest o c (suc n) f = cond (is_head o f c) f (nearest o c n (f - 1))
+
+abbrev pub first_of : Opening → ℕ → ℕ
+first_of o c = nearest o c (suc (c % 64)) c
+
 -- the occupancy words are what the pool's words take
 abbrev pub IsTaken : Opening → Memory → Type 0
 IsTaken o mem =
     (a : Block) → is_occupancy o.shape a ≡ true → (cells_of o.shape mem).occ a ≡ takes o a
 
--- a world of lanes that were asked nothing, for some ghosts; its history is empty, and each object
--- fits its block
+-- THE HISTORY BEFORE ANY STEP: no call; runs and huge blocks are those of the descriptors; and no
+-- block is held
+abbrev pub past_before : Opening → Views → Past
+past_before o views = record {
+  drew = views;
+  length = 0;
+  decided = λ n. false;
+  runs = λ c. is_place o.shape (Descr c) && is_run (descriptor o c);
+  geo = record { first = first_of o; class = λ c. descriptor o c / 256 };
+  holder = λ a. 0;
+}
+
+-- a world of idle lanes; its history is empty, and each object fits its block
 abbrev pub OpensIdle : Opening → Memory → (ℕ → Constants) → (ℕ → ℕ) → Type 0
 OpensIdle o mem fixed generation =
     (g : Past) × World o mem (idle_views fixed generation) g × (g.length ≡ 0) × ObjectsFit o g
+    × (g ≡ past_before o (idle_views fixed generation))
 
 -- THE OPENING LAW: a world opens
 abbrev pub Opens : Type 0

@@ -41,8 +41,8 @@ run_works-requires-clause-can g c κs within =
     can_run c.names_on.result rooms c.in-Ok-works_of.works.items c.in-Ok-works_of.ensures
     (rooms_made laws script.lines c.requires.rising c.requires.words c.requires.calls script.lanes rooms are)
 
-pub returns-in-Ok-run_works-clause-lawful : goal.returns-in-Ok-run_works-clause-lawful
-returns-in-Ok-run_works-clause-lawful g c =
+pub returns-in-Ok-run_works-clause-ran : goal.returns-in-Ok-run_works-clause-ran
+returns-in-Ok-run_works-clause-ran g c =
     let script = c.args.script.now in
     let b = c.in-Ok-open.beginning in
     let rooms = c.in-Ok.rooms.items in
@@ -80,6 +80,3 @@ returns-in-Ok-run_works-clause-lawful g c =
     (λ k w low. did_calls b c.args.failure.keep works r.after c.in-Ok-run_works.outcome.image.items r.flags r.ran count calls k w low)
     r.order r.ends
     (lines_run c.a_lanes_calls_are_whole.ensures.among script.lines c.requires.words)
-
-pub returns-in-Ok-run_works-clause-ran : goal.returns-in-Ok-run_works-clause-ran
-returns-in-Ok-run_works-clause-ran g c = (returns-in-Ok-run_works-clause-lawful g c).ran
