@@ -23,8 +23,8 @@ use crate::work::LaneWork;
 use pm_calls::{LaneRoom, Names, a_lanes_calls_are_whole, lane_rooms};
 use pm_lanes::{
     OpenFault, busy_calls_have_causes, calls_are_listed, closed_pools_mean_their_histories,
-    headers_are_kept, missed_calls_have_causes, numbers_are_shown, open, open_calls_are_judged,
-    stops_are_reached,
+    headers_are_kept, missed_calls_have_causes, numbers_are_shown, open_calls_are_judged,
+    open_in_place, stops_are_reached,
 };
 use pm_layout::ROOT_WORD;
 use pm_objects::Oid;
@@ -140,9 +140,9 @@ pub fn exec<'a, R: Threads + Wait + Sync, G: Gate + Sync>(
     let Ok(rooms) = lane_rooms(alloc, script.lines.as_slice(), script.lanes) else {
         return Err(OpenFault::Memory);
     };
-    let beginning = match open(alloc, image, layout, script.lanes, stops) {
+    let beginning = match open_in_place(alloc, image, layout, script.lanes, stops) {
         Ok(beginning) => beginning,
-        Err((_, fault)) => return Err(fault),
+        Err(fault) => return Err(fault),
     };
     a_lanes_calls_are_whole();
     let Ok(works) = works_of(alloc, rooms, names_on(&beginning), gate) else {

@@ -28,7 +28,7 @@ module _ (image layout : List ℕ) (b : Beginning)
   of_zones : is.pool.zones ≡ is.means.zones
   of_zones = ap (λ (p : PoolView). p.zones) is.means.is_pool
 
-  size : length b.words.items ≡ words_of b.shape
+  pub size : length b.words.items ≡ words_of b.shape
   size = let long = is.recovered.as_long in let whole = is.means.has_header.has_shape.size in
       let l = is.of_lanes ∙ of_lanes in let z = is.of_zones ∙ of_zones in
       omega (arith, long, whole, l, z)
@@ -42,7 +42,7 @@ module _ (image layout : List ℕ) (b : Beginning)
       (λ (e : i ≡ 64). inl (omega (arith, e)))
       (λ q. let low = q.0 in let l = of_lanes in inr (omega (arith, low, l))) h)))
 
-  whole : heap_fault (slice_index b.words.items) b.shape.lanes b.shape.zones ≡ None
+  pub whole : heap_fault (slice_index b.words.items) b.shape.lanes b.shape.zones ≡ None
   whole =
       let none = (neither (log_fault image is.means.lanes is.means.zones)
       (heap_fault (recovered_at image is.means.lanes) is.means.lanes is.means.zones)
@@ -58,7 +58,7 @@ module _ (image layout : List ℕ) (b : Beginning)
       ∙ ap (heap_fault (slice_index b.words.items) is.means.lanes) (is.of_zones ∙ of_zones)
       ∙ here.same_fault ∙ none
 
-  log : (lane : ℕ) → lane < b.shape.lanes → IsRetired (opening_of b) lane (generation_of b lane)
+  pub log : (lane : ℕ) → lane < b.shape.lanes → IsRetired (opening_of b) lane (generation_of b lane)
   log lane inside =
       let l = clean image b.words.items is.pool.lanes lane
       (sound_if_meaning image is.pool is.means) is.recovered

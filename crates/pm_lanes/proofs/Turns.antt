@@ -79,5 +79,6 @@ module _ (image layout words : List ℕ) (b : Beginning) (back : List View)
   }
 
 pub of_worlds : TurnsAreOfWorlds
+unfolding closes
 of_worlds image layout words b back is took =
     (closes image layout words b back is took, refl, refl)

@@ -4,7 +4,8 @@
 //! Promises whoever runs lanes that `open` gives the recovered words of the image, the occupancy
 //! words that they take, and the shape and id of the header, where the image means a pool of the
 //! layout name that has as many lanes as are asked for; else it tells the first of these that is
-//! not so, and gives the image back as it was. `open_solo` does the same for lane 0 with no other
+//! not so, and gives the image back as it was; `open_in_place` needs no second room for the words,
+//! and gives nothing back. `open_solo` does the same for lane 0 with no other
 //! lane beside it, over a memory of its own, on which engines are tested. `crash` gives the image
 //! that a power failure leaves once all lanes came back, and `closed_pools_mean_their_histories`
 //! says what it means: the calls that it does not lose, one whole call after another, from the
@@ -27,7 +28,7 @@ pub use laws::{
     missed_calls_have_causes, numbers_are_shown, open_calls_are_judged, stops_are_reached,
     turns_are_of_worlds,
 };
-pub use opening::open;
+pub use opening::{open, open_in_place};
 pub use solo::open_solo;
 
 #[cfg(test)]

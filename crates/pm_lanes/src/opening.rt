@@ -25,10 +25,10 @@ use std::alloc::{AllocError, Global};
 ///
 /// The first of these, with the image as it was.
 ///
+/// - `Memory`: there is no memory for the words; also where the opening needs more as it goes on.
 /// - `Image`: the image has this fault (docs/FORMAT.md, "Faults").
 /// - `Layout`: the pool has another layout name.
 /// - `Lanes`: `lanes` is 0, or more than the pool has.
-/// - `Memory`: there is no memory for the words.
 pub fn open<'a>(
     alloc: Global,
     image: RawImage,
@@ -45,28 +45,41 @@ pub fn open<'a>(
     ensures refused { (fault : OpenFault) → IsOpenCause image layout.now lanes fault
         → IsRefusedFor fault result }
 {
-    match begin(alloc, &image, layout, lanes, stops) {
+    let Ok(copy) = image.copy(alloc) else {
+        return Err((image, OpenFault::Memory));
+    };
+    match open_in_place(alloc, copy, layout, lanes, stops) {
         Ok(beginning) => Ok(beginning),
         Err(fault) => Err((image, fault)),
     }
 }
 
-/// What so many lanes begin on in the pool of this image.
-pub(crate) fn begin<'a>(
+/// Opens a pool for lanes as `open` does, in the memory that the image has: it is recovered there,
+/// and no other room is taken for its words. The image is gone, whatever the answer.
+///
+/// # Errors
+///
+/// The first of these; nothing is left of the image.
+///
+/// - `Image`: the image has this fault (docs/FORMAT.md, "Faults").
+/// - `Layout`: the pool has another layout name.
+/// - `Lanes`: `lanes` is 0, or more than the pool has.
+/// - `Memory`: there is no memory for what is read of it.
+pub fn open_in_place<'a>(
     alloc: Global,
-    image: &RawImage,
+    image: RawImage,
     layout: &'a str,
     lanes: u64,
     stops: Stops,
 ) -> Result<Beginning, OpenFault<'a>>
     ensures begins { IfOk result CanBegin }
     ensures opened { IfOk result
-        (λ b. IsOpened image.now layout.now b.words.items b.shape b.pool) }
+        (λ b. IsOpened image layout.now b.words.items b.shape b.pool) }
     ensures lanes { IfOk result (λ b. b.lanes ≡ lanes) }
     ensures stops { IfOk result (λ b. b.stops ≡ stops) }
-    ensures cause { IfErr result (IsOpenCause image.now layout.now lanes) }
+    ensures cause { IfErr result (IsOpenCause image layout.now lanes) }
 {
-    let pool = meaning(alloc, image)?;
+    let pool = meaning(alloc, &image)?;
     let named = of_layout(pool, layout)?;
     check_lanes(&named, lanes)?;
     let words = recovered(alloc, image)?;
@@ -153,16 +166,16 @@ fn shape_of(pool: &PoolView) -> Shape
     }
 }
 
-/// The words that recovery makes of an image that means a pool.
-fn recovered(alloc: Global, image: &RawImage) -> Result<Vec<u64>, AllocError>
-    requires { HasMeaning image.now }
-    ensures words { IfOk result (λ words. (pool : PoolView) → IsMeaning image.now pool
-        → IsRecovered image.now words.items pool.lanes) }
+/// The words that recovery makes of an image that means a pool, in the memory that it has.
+fn recovered(alloc: Global, image: RawImage) -> Result<Vec<u64>, AllocError>
+    requires { HasMeaning image }
+    ensures words { IfOk result (λ words. (pool : PoolView) → IsMeaning image pool
+        → IsRecovered image words.items pool.lanes) }
     ensures small { IfOk result (λ words. (w : ℕ) → slice_index words.items w < 2 ^ 64) }
 {
-    let mut copy = image.copy(alloc)?;
-    match recover(alloc, &mut copy) {
-        Ok(()) => Ok(words_of(copy)),
+    let mut image = image;
+    match recover(alloc, &mut image) {
+        Ok(()) => Ok(words_of(image)),
         Err(RecoverFault::Image(_)) => unreachable!(),
         Err(RecoverFault::Memory(error)) => Err(error),
     }

@@ -3,7 +3,7 @@ ghost use Rattle.pm_lanes.specs.declared.fault.OpenFault.{OpenFault};
 ghost use Rattle.pm_lanes.specs.Opens.{IsOpenCause, IsOpened, IsRefusedFor, StandsOpened};
 
 use crate::fault::OpenFault;
-use crate::opening::begin;
+use crate::opening::open_in_place;
 use pm_layout::{MAX_ZONES, Shape};
 use pm_memory::SoloMem;
 use pm_objects::Stops;
@@ -21,9 +21,9 @@ use std::alloc::{AllocError, Global};
 ///
 /// The first of these, with the image as it was.
 ///
+/// - `Memory`: there is no memory for the words; also where the opening needs more as it goes on.
 /// - `Image`: the image has this fault (docs/FORMAT.md, "Faults").
 /// - `Layout`: the pool has another layout name.
-/// - `Memory`: there is no memory for the words.
 pub fn open_solo<'a>(
     alloc: Global,
     image: RawImage,
@@ -37,7 +37,10 @@ pub fn open_solo<'a>(
     ensures refused { (fault : OpenFault) → IsOpenCause image layout.now 1 fault
         → IsRefusedFor fault result }
 {
-    match begin_solo(alloc, &image, layout, stop) {
+    let Ok(copy) = image.copy(alloc) else {
+        return Err((image, OpenFault::Memory));
+    };
+    match begin_solo(alloc, copy, layout, stop) {
         Ok(made) => Ok(made),
         Err(fault) => Err((image, fault)),
     }
@@ -46,16 +49,16 @@ pub fn open_solo<'a>(
 /// Lane 0 of the pool of this image, with the pool's shape and id.
 fn begin_solo<'a>(
     alloc: Global,
-    image: &RawImage,
+    image: RawImage,
     layout: &'a str,
     stop: Option<u64>,
 ) -> Result<(SoloLane, Shape, u64), OpenFault<'a>>
     ensures opened { IfOk result
-        (λ made. IsOpened image.now layout.now made.0.words made.1 made.2) }
+        (λ made. IsOpened image layout.now made.0.words made.1 made.2) }
     ensures stands { IfOk result (λ made. StandsOpened made.0 made.1 made.2 stop) }
-    ensures cause { IfErr result (IsOpenCause image.now layout.now 1) }
+    ensures cause { IfErr result (IsOpenCause image layout.now 1) }
 {
-    let beginning = begin(alloc, image, layout, 1, Stops::none())?;
+    let beginning = open_in_place(alloc, image, layout, 1, Stops::none())?;
     let Beginning {
         shape,
         pool,

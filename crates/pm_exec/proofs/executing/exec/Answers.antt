@@ -13,13 +13,13 @@ use Rattle.pm_exec.proofs.executing.exec.Goals as goal
 pub run_works-requires-clause-works : goal.run_works-requires-clause-works
 run_works-requires-clause-works g c κs within =
     let script = c.args.script.now in
-    let b = c.in-Ok-open.beginning in
+    let b = c.in-Ok-open_in_place.beginning in
     let rooms = c.in-Ok.rooms.items in
     let works = c.in-Ok-works_of.works.items in
     let are : AreRoomsFor script.lines script.lanes rooms = subst (λ (l : List ScriptLine). AreRoomsFor l script.lanes rooms) c.as_slice.ensures c.in-Ok.ensures in (
       c.names_on.result,
       script.lines,
-      subst (λ n. AreWorksFor c.names_on.result script.lines n works) (sym c.in-Ok-open.ensures.lanes)
+      subst (λ n. AreWorksFor c.names_on.result script.lines n works) (sym c.in-Ok-open_in_place.ensures.lanes)
           (works_for c.names_on.result script.lines script.lanes rooms works are c.in-Ok-works_of.ensures),
     )
 
@@ -44,7 +44,7 @@ run_works-requires-clause-can g c κs within =
 pub returns-in-Ok-run_works-clause-ran : goal.returns-in-Ok-run_works-clause-ran
 returns-in-Ok-run_works-clause-ran g c =
     let script = c.args.script.now in
-    let b = c.in-Ok-open.beginning in
+    let b = c.in-Ok-open_in_place.beginning in
     let rooms = c.in-Ok.rooms.items in
     let works = c.in-Ok-works_of.works.items in
     let r = c.in-Ok-run_works.ensures in
@@ -55,14 +55,14 @@ returns-in-Ok-run_works-clause-ran g c =
       judges = c.open_calls_are_judged.ensures.open_call;
     } in
     let are : AreRoomsFor script.lines script.lanes rooms = subst (λ (l : List ScriptLine). AreRoomsFor l script.lanes rooms) c.as_slice.ensures c.in-Ok.ensures in
-    let opened = c.in-Ok-open.ensures.opened in
+    let opened = c.in-Ok-open_in_place.ensures.opened in
     let names = c.names_on.result in
     let named = opened_names c.args.image c.args.layout.now b opened names c.names_on.ensures.pool c.names_on.ensures.root in
     let for_ : AreWorksFor (names_of opened.pool) script.lines b.lanes works =
-    subst (λ n. AreWorksFor (names_of opened.pool) script.lines n works) (sym c.in-Ok-open.ensures.lanes)
+    subst (λ n. AreWorksFor (names_of opened.pool) script.lines n works) (sym c.in-Ok-open_in_place.ensures.lanes)
     (subst (λ ns. AreWorksFor ns script.lines script.lanes works) named
     (works_for names script.lines script.lanes rooms works are c.in-Ok-works_of.ensures)) in
-    let count : length works ≡ b.lanes = c.in-Ok-works_of.ensures.count ∙ are.count ∙ sym c.in-Ok-open.ensures.lanes in
+    let count : length works ≡ b.lanes = c.in-Ok-works_of.ensures.count ∙ are.count ∙ sym c.in-Ok-open_in_place.ensures.lanes in
     let calls = have_calls names rooms works c.in-Ok-works_of.ensures in
     let more : LaneLaws = record {
       own = c.stops_are_reached.ensures.own;
@@ -76,7 +76,7 @@ returns-in-Ok-run_works-clause-ran g c =
       listed = c.calls_are_listed.ensures;
     } in
     ran_on_lanes laws more c.args.image c.args.layout.now script c.args.failure.stops c.args.failure.keep c.in-Ok-run_works.outcome b works r.after r.flags WorkLeft
-    opened c.in-Ok-open.ensures.lanes c.in-Ok-open.ensures.stops r.ran for_
+    opened c.in-Ok-open_in_place.ensures.lanes c.in-Ok-open_in_place.ensures.stops r.ran for_
     (λ k w low. did_calls b c.args.failure.keep works r.after c.in-Ok-run_works.outcome.image.items r.flags r.ran count calls k w low)
     r.order r.ends
     (lines_run c.a_lanes_calls_are_whole.ensures.among script.lines c.requires.words)

@@ -7,7 +7,7 @@ use Rattle.pm_shared.specs.Openings.{OccupancyFits, pool_opening}
 use Rattle.pm_lanes.specs.Opens.{IsOpened}
 use Rattle.pm_lanes.proofs.Names.{name_is_text}
 use Rattle.pm_lanes.proofs.Recovered.{can_begin}
-use Rattle.pm_lanes.proofs.opening.begin.Goals as goal
+use Rattle.pm_lanes.proofs.opening.open_in_place.Goals as goal
 
 pub returns-in_err-pool-clause-cause : goal.returns-in_err-pool-clause-cause
 returns-in_err-pool-clause-cause c =
@@ -15,17 +15,17 @@ returns-in_err-pool-clause-cause c =
     rw (p.1, p.2) (c.in_err-pool.ensures.cause c.args.layout.now c.args.lanes)
 
 pub of_layout-requires : goal.of_layout-requires
-of_layout-requires c = name_is_text c.args.image.now c.in_ok-pool.pool c.in_ok-pool.ensures.means
+of_layout-requires c = name_is_text c.args.image c.in_ok-pool.pool c.in_ok-pool.ensures.means
 
 pub returns-in_err-named-clause-cause : goal.returns-in_err-named-clause-cause
 returns-in_err-named-clause-cause c =
     let p = err_from_is_err_and c.from_residual-in_err-named.result c.from_residual-in_err-named.ensures.1 in
     rw (p.1, p.2)
-    (c.in_err-named.ensures.cause c.args.image.now c.args.lanes c.in_ok-pool.ensures.means)
+    (c.in_err-named.ensures.cause c.args.image c.args.lanes c.in_ok-pool.ensures.means)
 
 pub returns-clause-begins : goal.returns-clause-begins
 returns-clause-begins c =
-    let image : List ℕ = c.args.image.now in
+    let image : List ℕ = c.args.image in
     let words : List ℕ = c.in_ok-words.words.items in
     let shape : Shape = c.shape_of-shape.result in
     let pool : PoolView = c.in_ok-named.named in
