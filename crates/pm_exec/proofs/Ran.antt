@@ -451,6 +451,7 @@ pub ran_on_lanes : {G : Type 0} → PoolLaws → LaneLaws → (origin layout : L
     → AreInOrder after flags out.entries.items → out.lanes.items ≡ ends_of after
     → ((k : ℕ) → All (All RunsOnLanes) (calls_of_lane k script.lines))
     → RanOnLanes origin layout script stops keep out
+unfolding took_turns
 ran_on_lanes {G} laws more origin layout script stops keep out b before after flags left opened lanes stops_are ran works dids order ends words =
     let enough : 1 ≤ length after = let s = ran.closed.world.some_lanes in let n = ran.works in omega (arith, s, n) in
     let w = first_item after enough in

@@ -16,7 +16,7 @@ use Rattle.pm_world.proofs.OpenFaults.{opens}
 use Rattle.pm_world.proofs.RunsKept.{runs_keep}
 use Rattle.pm_lanes.proofs.Recovered.{log, size, whole}
 
-pub took_turns : (b : Beginning) (back : List View) (words : List ℕ) → Closes b back words
+unfoldable pub took_turns : (b : Beginning) (back : List View) (words : List ℕ) → Closes b back words
     → TookTurns b back words
 took_turns b back words closed = record {
   first = closed.run.begun;
