@@ -40,7 +40,7 @@ row() {
   milliseconds=$(awk "BEGIN { printf \"%.2f\", $3 / 1000 }")
   if [ -n "${4-}" ]; then times=$(awk "BEGIN { printf \"%.1f\", $3 / $4 }"); fi
   if [ -n "${5-}" ]; then limit=$(awk "BEGIN { printf \"%.2f\", $5 / 1000 }"); fi
-  echo "$head,$1,$2,$milliseconds,$times,$limit" >> "$folder/table"
+  echo "$head,$1,\"$2\",$milliseconds,$times,$limit" >> "$folder/table"
   printf '%-60s %10s ms %10s %s\n' "$2" "$milliseconds" "${times:+$times times $base}" "${limit:+at most $limit ms}"
   if [ -n "${5-}" ] && [ "$3" -gt "$5" ]; then echo "$2${1:+ of $1 bytes} is too slow"; passed=1; fi
 }
