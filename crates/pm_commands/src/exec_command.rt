@@ -27,9 +27,6 @@ use std::thread::Threads;
 /// Bytes of a script at most.
 const MAX_SCRIPT_BYTES: u64 = 1_048_576;
 
-/// Bytes in which each block fits that a run on the largest pool takes.
-const ROOM_TO_KEEP: u64 = MAX_POOL_BYTES + MAX_POOL_BYTES / 4;
-
 /// Runs the script on the pool, and puts the pool that is left on the shelf under its new name. The answer is the report.
 pub fn run_exec<'a, R: Threads + Wait + Sync, S: Shelf, G: Gate + Sync>(
     rt: &R,
@@ -67,11 +64,6 @@ fn run_files<'a, R: Threads + Wait + Sync, S: Shelf, G: Gate + Sync>(
     ensures cause { IfErr result (IsCauseBefore (exec_asked words.now) (S.content shelf.old) (S.faults shelf.old) (S.faults shelf.new)) }
     ensures faults { S.faults shelf.old ≤ S.faults shelf.new }
 {
-    {
-        // Given back at once. glibc's allocator then keeps the room of each copy of the pool that is
-        // freed for the next, in place of new pages for each (mallopt(3), M_MMAP_THRESHOLD).
-        let _room = Vec::<u8>::with_capacity(alloc, ROOM_TO_KEEP as usize);
-    }
     let source = read(alloc, words.pool, MAX_POOL_BYTES, shelf)?;
     let text = read(alloc, words.script, MAX_SCRIPT_BYTES, shelf)?;
     run_script(rt, alloc, words, source, &text, gate)

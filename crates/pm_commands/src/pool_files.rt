@@ -1,6 +1,6 @@
 //! Names of the shelf, read whole and written once, and the images that their bytes are.
 
-ghost use Rattle.std.specs.Prelude.{◌≡◌, ◌%◌, ◌^◌, ◌<◌, ◌≤◌, length, IfErr, IfOk, OnErr, OnOk};
+ghost use Rattle.std.specs.Prelude.{◌≡◌, ◌%◌, ◌^◌, ◌<◌, ◌≤◌, [], length, IfErr, IfOk, OnErr, OnOk};
 ghost use Rattle.pm_words.specs.Words.{words_of};
 ghost use Rattle.pm_image.specs.Steps.{IfImage};
 ghost use Rattle.pm_shelf.specs.Outside.{Adds, IsWhole, MayAddPart};
@@ -15,6 +15,24 @@ use pm_raw::RawImage;
 use pm_shelf::{Shelf, ShelfFault};
 use std::alloc::Global;
 
+/// Room for so many bytes and a quarter more, or none where there is not so much. The memory of a
+/// pool that lanes share is larger than its file, and fits where the file's bytes were.
+fn room_for(alloc: Global, limit: u64) -> Vec<u8>
+    requires { limit < 2 ^ 63 }
+    ensures { result.items ≡ [] }
+{
+    let most = (limit + limit / 4) as usize;
+    {
+        // Given back at once. glibc's allocator then keeps the room of each copy of a pool that is
+        // freed for the next, in place of new pages for each (mallopt(3), M_MMAP_THRESHOLD).
+        let _room = Vec::<u8>::with_capacity(alloc, most);
+    }
+    match Vec::with_capacity(alloc, most) {
+        Ok(room) => room,
+        Err(_) => Vec::new(alloc),
+    }
+}
+
 /// All bytes of a name, so many at most.
 pub fn read<'a, S: Shelf>(
     alloc: Global,
@@ -28,7 +46,7 @@ pub fn read<'a, S: Shelf>(
     ensures cause { IfErr result (IsReadCause name.now limit (S.content shelf.old) (S.faults shelf.old) (S.faults shelf.new)) }
     ensures faults { S.faults shelf.old ≤ S.faults shelf.new }
 {
-    let mut bytes = Vec::new(alloc);
+    let mut bytes = room_for(alloc, limit);
     match shelf.read(name, limit, &mut bytes) {
         Ok(()) => Ok(bytes),
         Err(ShelfFault::Memory) => Err(Failure::NoMemory),
